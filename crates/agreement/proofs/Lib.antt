@@ -1,0 +1,4 @@
+mod OneVote
+mod Outcome
+pub mod Invariant
+pub mod Histories

@@ -1,0 +1,1 @@
+// The promise of agreement, as theorems about the rules; no code.

@@ -1,0 +1,5 @@
+pub mod Rows
+pub mod Votes
+pub mod Undisturbed
+pub mod States
+mod Worked

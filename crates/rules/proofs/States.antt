@@ -1,0 +1,108 @@
+-- All that takes a state apart: who is what, rule 1, who votes, what each makes of the votes that it got. Assumes nothing.
+use mathlib.Core.Path.{_≡_, refl, sym, ap, _∙_}
+use mathlib.Core.Logic.{_⊎_, inl, inr}
+use mathlib.Core.Bool.{Bool, true, false, false≢true}
+use mathlib.Core.Option.{Option, none, some}
+use Prim.Native.Nat.{ℕ}
+use native.Mathlib.Omega.{arith}
+use Rattle.sets.specs.Sets.{has}
+use Rattle.state.specs.declared.Group.{Group}
+use Rattle.state.specs.declared.State.{State}
+use Rattle.state.specs.declared.State.the-variants.{Out, Joining, Member}
+use Rattle.state.specs.State.{groupOf, halted}
+use Rattle.rules.specs.declared.Vote.{Vote}
+use Rattle.rules.specs.declared.Faults.{Faults}
+use Rattle.rules.specs.OneCycle.{Config, Ballots, stopIf, startIf, stopAndStart, sendsMember, sendsJoin, memberDecides}
+use Rattle.rules.specs.Faults.{Row, ownVote, voteOf, decides}
+
+-- ---- options
+
+pub none-some {ℓ} : {A : Type ℓ} {x : A} → _≡_ {A = Option A} none (some x) → ⊥
+none-some e = let z : _≡_ {A = ℕ} 0 1 = cc in omega arith
+
+pub some-inj {ℓ} : {A : Type ℓ} {x y : A} → _≡_ {A = Option A} (some x) (some y) → x ≡ y
+some-inj p = cc
+
+-- ---- what a node is
+
+abbrev pub idle : State → Bool
+idle (Out r) = true
+idle Joining = false
+idle (Member g) = false
+
+pub which : (s : State) → (idle s ≡ true) ⊎ ((s ≡ Joining) ⊎ ((g : Group) × (groupOf s ≡ some g)))
+which (Out r) = inl refl
+which Joining = inr (inl refl)
+which (Member g) = inr (inr (g, refl))
+
+pub is-joining : (t : State) → sendsJoin t ≡ true → t ≡ Joining
+is-joining (Out z) e = absurd (false≢true e)
+is-joining Joining e = refl
+is-joining (Member h) e = absurd (false≢true e)
+
+pub held-sends : (s : State) (g : Group) → groupOf s ≡ some g → sendsMember s ≡ true
+held-sends (Out r) g e = absurd (none-some e)
+held-sends Joining g e = absurd (none-some e)
+held-sends (Member h) g e = refl
+
+pub not-halted : (s : State) (g : Group) → groupOf s ≡ some g → halted s ≡ true → ⊥
+not-halted (Out r) g e f = none-some e
+not-halted Joining g e f = none-some e
+not-halted (Member h) g e f = false≢true f
+
+-- ---- rule 1
+
+-- it leaves a member that is not stopped, and a joining node
+pub rule1-member : (stop start : Bool) (s : State) (g : Group) → stop ≡ false → groupOf s ≡ some g → stopAndStart stop start s ≡ s
+unfolding stopAndStart
+rule1-member stop start (Out r) g e f = absurd (none-some f)
+rule1-member stop start Joining g e f = absurd (none-some f)
+rule1-member stop start (Member h) g e f = rw e (go start)
+  where
+    go : (b : Bool) → startIf b (Member h) ≡ Member h
+    go true = refl
+    go false = refl
+
+pub rule1-joining : (stop start : Bool) → stop ≡ false → stopAndStart stop start Joining ≡ Joining
+unfolding stopAndStart
+rule1-joining stop start e = rw e (go start)
+  where
+    go : (b : Bool) → startIf b Joining ≡ Joining
+    go true = refl
+    go false = refl
+
+-- a member after rule 1 was the same before
+pub rule1-back : (stop start : Bool) (s : State) (g : Group) → groupOf (stopAndStart stop start s) ≡ some g → stopAndStart stop start s ≡ s
+unfolding stopAndStart
+rule1-back true true s g e = absurd (none-some e)
+rule1-back true false s g e = absurd (none-some e)
+rule1-back false true (Out r) g e = absurd (none-some e)
+rule1-back false true Joining g e = absurd (none-some e)
+rule1-back false true (Member k) g e = refl
+rule1-back false false s g e = refl
+
+-- ---- who votes, and what each makes of the votes that it got
+
+pub own-group : (N : ℕ) (c : Faults) (r : Row) (q : ℕ) (g : Group) → g ≡ ownVote N c r q g .group
+unfolding ownVote
+own-group N c r q g = refl
+
+pub vote-group : (C : Config) (c : Faults) (r : Row) (p : ℕ) (s : State) (v : Vote) → voteOf C c r p s ≡ some v → groupOf s ≡ some (v .group)
+vote-group C c r p (Out k) v f = absurd (none-some f)
+vote-group C c r p Joining v f = absurd (none-some f)
+vote-group C c r p (Member g) v f = ap {B = Option Group} some (own-group (C .nodes) c r p g ∙ ap (λ (x : Vote). x .group) (some-inj f))
+
+pub vote-decides : (C : Config) (c : Faults) (r : Row) (p : ℕ) (s : State) (v : Vote) (b : Ballots) → voteOf C c r p s ≡ some v → decides C c r p s b ≡ memberDecides C p v b
+vote-decides C c r p (Out k) v b f = absurd (none-some f)
+vote-decides C c r p Joining v b f = absurd (none-some f)
+vote-decides C c r p (Member g) v b f = ap (λ (x : Vote). memberDecides C p x b) (some-inj f)
+
+pub member-votes : (C : Config) (c : Faults) (r : Row) (p : ℕ) (s : State) (g : Group) → groupOf s ≡ some g → voteOf C c r p s ≡ some (ownVote (C .nodes) c r p g)
+member-votes C c r p (Out k) g e = absurd (none-some e)
+member-votes C c r p Joining g e = absurd (none-some e)
+member-votes C c r p (Member h) g e = ap (λ (x : Group). some (ownVote (C .nodes) c r p x)) (some-inj e)
+
+pub idle-decides : (C : Config) (c : Faults) (r : Row) (p : ℕ) (s : State) (b : Ballots) → idle s ≡ true → groupOf (decides C c r p s b) ≡ none
+idle-decides C c r p (Out k) b e = refl
+idle-decides C c r p Joining b e = absurd (false≢true e)
+idle-decides C c r p (Member g) b e = absurd (false≢true e)

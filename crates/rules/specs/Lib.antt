@@ -1,0 +1,4 @@
+pub mod OneCycle
+pub mod Faults
+pub mod Reference
+pub mod Examples

@@ -1,0 +1,122 @@
+-- Paper 01, "One cycle": rules 1 to 6, each of one node q in a cluster of N nodes.
+-- Assumes nothing.
+use mathlib.Core.Bool.{Bool, true, false, not, _&&_, _||_, cond}
+use mathlib.Core.Option.{Option, none, some}
+use Prim.Native.Nat.{ℕ}
+use lib.Dec.{eqb}
+use Rattle.sets.specs.Sets.{has, single, _∪_, _∩_, _∖_, those, below, lowest, any, every}
+use Rattle.sets.specs.Quorum.{quorum}
+use Rattle.state.specs.declared.Reason.{Reason}
+use Rattle.state.specs.declared.Reason.the-variants.{Stopped, NoQuorum, Outvoted}
+use Rattle.state.specs.declared.Group.{Group}
+use Rattle.state.specs.declared.State.{State}
+use Rattle.state.specs.declared.State.the-variants.{Out, Joining, Member}
+use Rattle.state.specs.State.{nextNumber}
+use Rattle.rules.specs.declared.Vote.{Vote}
+
+-- what is fixed for a cluster: how many nodes it has (N)
+pub record Config : Type 0 where
+  pub nodes : ℕ
+
+-- 1. "Stop: the node becomes out with reason 0. Then start: an out node becomes joining; others do not change. Both may name one node."
+abbrev pub stopped : State
+stopped = Out Stopped
+
+abbrev pub stopIf : Bool → State → State
+stopIf true s = stopped
+stopIf false s = s
+
+abbrev pub startIf : Bool → State → State
+startIf true (Out r) = Joining
+startIf true Joining = Joining
+startIf true (Member g) = Member g
+startIf false s = s
+
+unfoldable pub stopAndStart : Bool → Bool → State → State
+stopAndStart stop start s = startIf start (stopIf stop s)
+
+-- 2. "Heartbeat: a member sends one with join 0, a joining node with join 1, an out node nothing."
+abbrev pub sendsMember : State → Bool
+sendsMember (Out r) = false
+sendsMember Joining = false
+sendsMember (Member g) = true
+
+abbrev pub sendsJoin : State → Bool
+sendsJoin (Out r) = false
+sendsJoin Joining = true
+sendsJoin (Member g) = false
+
+-- 3. "A member's view V is itself, the members of M heard with join 0, and the nodes outside M heard with join 1. Every other heartbeat counts for
+-- nothing, and so does a heard bit at N or above."
+unfoldable pub viewOf : ℕ → ℕ → ℕ → ℕ → ℕ → ℕ
+viewOf N q M heard0 heard1 = single q ∪ (M ∩ below N heard0) ∪ (below N heard1 ∖ M)
+
+-- 4. "A member's vote is G, M, B and V. Joining nodes do not vote." Two votes are equal if all four are.
+unfoldable pub sameGroup : Group → Group → Bool
+sameGroup g h = eqb (g .number) (h .number) && eqb (g .set) (h .set) && eqb (g .base) (h .base)
+
+unfoldable pub sameVote : Vote → Vote → Bool
+sameVote v w = sameGroup (v .group) (w .group) && eqb (v .view) (w .view)
+
+-- what arrived from each sender
+abbrev pub Ballots : Type 0
+Ballots = ℕ → Option Vote
+
+abbrev pub is : Vote → Option Vote → Bool
+is v none = false
+is v (some w) = sameVote v w
+
+-- the senders in its M whose vote is v
+unfoldable pub voters : ℕ → Ballots → Vote → ℕ
+voters N b v = those N (λ p. has p (v .group .set) && is v (b p))
+
+-- "Some V has a quorum if twice its count is more than the size of B."
+unfoldable pub wins : ℕ → Ballots → Vote → Bool
+wins N b v = quorum (voters N b v) (v .group .base)
+
+-- "its new set is the senders whose counted vote has that V, and V without M. The new base is the new set with M added. G stays if the set is the
+-- same, else grows by one; the number after 4294967295 is 0."
+unfoldable pub newSet : ℕ → Ballots → Vote → ℕ
+newSet N b v = voters N b v ∪ (v .view ∖ v .group .set)
+
+unfoldable pub groupWith : Vote → ℕ → Group
+groupWith v S =
+    record { number = cond (eqb S (v .group .set)) (v .group .number) (nextNumber (v .group .number)); set = S; base = S ∪ v .group .set }
+
+unfoldable pub newGroup : ℕ → Ballots → Vote → Group
+newGroup N b v = groupWith v (newSet N b v)
+
+-- a member of the group that the vote v gives
+abbrev pub memberOn : Config → Ballots → Vote → State
+memberOn C b v = Member (newGroup (C .nodes) b v)
+
+-- 5. "A member counts, from senders in M and its own always included, the votes with its own G, M and B. .. It halts with reason 1 exactly when no V
+-- has a quorum, and with reason 2 when one has but is not its own V. Otherwise" it goes on. M holds the node, so its own vote is one from M.
+abbrev pub withOwn : ℕ → Vote → Ballots → Ballots
+withOwn q own b p = cond (eqb p q) (some own) (b p)
+
+-- a vote with the same G, M and B that has a quorum
+abbrev pub rival : ℕ → Ballots → Group → Option Vote → Bool
+rival N b g none = false
+rival N b g (some v) = sameGroup g (v .group) && wins N b v
+
+unfoldable pub memberDecides : Config → ℕ → Vote → Ballots → State
+memberDecides C q own arrived =
+    let b : Ballots = withOwn q own arrived in
+    cond (wins (C .nodes) b own) (memberOn C b own)
+    (cond (any (C .nodes) (λ p. rival (C .nodes) b (own .group) (b p))) (Out Outvoted) (Out NoQuorum))
+
+-- 6. "A joining node looks at each vote that arrived whole: it fits if the node is in its V and not in its M, and twice the number of equal votes from
+-- senders in its M is more than the size of its B. If exactly one vote value fits, the node becomes a member with new set, base and G as in 5; else
+-- it stays joining."
+abbrev pub fits : ℕ → ℕ → Ballots → Option Vote → Bool
+fits N q b none = false
+fits N q b (some v) = has q (v .view) && not (has q (v .group .set)) && wins N b v
+
+abbrev pub enterOn : Config → ℕ → Ballots → Option Vote → State
+enterOn C q b none = Joining
+enterOn C q b (some v) =
+    cond (fits (C .nodes) q b (some v) && every (C .nodes) (λ p. not (fits (C .nodes) q b (b p)) || is v (b p))) (memberOn C b v) Joining
+
+unfoldable pub joinerDecides : Config → ℕ → Ballots → State
+joinerDecides C q b = enterOn C q b (b (lowest (C .nodes) (λ p. fits (C .nodes) q b (b p))))

@@ -1,0 +1,19 @@
+// The types that the rules of one cycle speak of.
+use state::Group;
+
+// A member's vote: the group that it holds, and the nodes that it heard.
+pub struct Vote {
+    pub group: Group,
+    pub view: u64,
+}
+
+// The faults of one cycle: the nodes stopped and started, those whose heartbeat or vote is lost in sending, and for each receiver the senders
+// whose heartbeat or vote it misses.
+pub struct Faults {
+    pub stop: u64,
+    pub start: u64,
+    pub heartbeat_lost: u64,
+    pub vote_lost: u64,
+    pub heartbeat_missed: [u64; 64],
+    pub vote_missed: [u64; 64],
+}

@@ -1,0 +1,13 @@
+use Rattle.sets.proofs.Machine.{bit-one}
+use borrow.Author.Needs.{needs}
+use Rattle.sets.proofs.single.Statement.{statement}
+use Rattle.sets.proofs.single.Tie as tie
+
+shl-result : tie.Need-shl-result
+shl-result c = search needs
+
+returns : tie.Need-returns
+returns c = bit-one (c .args .q) (c .pre)
+
+pub single-spec : {M : Type 1} → statement M
+single-spec = tie.close (tie.spec shl-result returns)

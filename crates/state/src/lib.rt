@@ -1,0 +1,35 @@
+// The state of a node, and its 24-byte image.
+
+// Why a node is out: stopped or never started; it halted for want of a quorum; a quorum voted for another view than its own.
+pub enum Reason {
+    Stopped,
+    NoQuorum,
+    Outvoted,
+}
+
+// The group that a member holds: its number G, the set M of its members, and the base B of its quorums (the present and the previous group).
+pub struct Group {
+    pub number: u32,
+    pub set: u64,
+    pub base: u64,
+}
+
+pub enum State {
+    Out(Reason),
+    Joining,
+    Member(Group),
+}
+
+// A node: its state, its number, and how many nodes the cluster has.
+pub struct Node {
+    pub state: State,
+    pub id: u8,
+    pub nodes: u8,
+}
+
+// What reading an image finds.
+pub enum Decoded {
+    Good(Node),
+    WrongLength,
+    Malformed,
+}
