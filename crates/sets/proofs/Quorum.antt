@@ -1,4 +1,4 @@
--- The three laws of a quorum: two quorums of one base meet; a larger set is a quorum too; a quorum of a base is one of each part of it.
+-- The three laws of a quorum: two quorums of one base meet; a larger set is a quorum too; a quorum of a base inside a part of it is one of that part.
 -- Assumes nothing.
 use mathlib.Core.Path.{_≡_, sym, ap, _∙_}
 use mathlib.Core.Logic.{_⊎_, inl, inr, _≢_}
@@ -11,30 +11,28 @@ use Rattle.sets.proofs.Booleans.{ltb-true, ltb-lt, and-l, and-r, or-e}
 use Rattle.sets.proofs.Membership.{_⊆_, has-inter, has-union, some-node}
 use Rattle.sets.proofs.Sizes.{size-union, size-none, size-sub}
 
+-- what the definition says: all that is proved here goes by these two
+more : (S B : ℕ) → quorum S B ≡ true → size B < 2 * size S
+unfolding quorum
+more S B h = ltb-lt h
+
+enough : (S B : ℕ) → size B < 2 * size S → quorum S B ≡ true
+unfolding quorum
+enough S B h = ltb-true h
+
 -- a set that holds a quorum is one
 pub quorum-mono : (S R B : ℕ) → _⊆_ S R → quorum S B ≡ true → quorum R B ≡ true
-unfolding quorum
-quorum-mono S R B s h =
-    let l : size B < 2 * size S = ltb-lt h in
-    let m : size S ≤ size R = size-sub S R s in
-    let r : size B < 2 * size R = omega arith in
-    ltb-true r
+quorum-mono S R B s h = enough R B (omega (arith, more S B h, size-sub S R s))
 
--- a quorum of a set is one of each part of it (for quiet cycles, where a base can shrink)
-pub quorum-anti : (S A B : ℕ) → _⊆_ A B → quorum S B ≡ true → quorum S A ≡ true
-unfolding quorum
-quorum-anti S A B s h =
-    let l : size B < 2 * size S = ltb-lt h in
-    let m : size A ≤ size B = size-sub A B s in
-    let r : size A < 2 * size S = omega arith in
-    ltb-true r
+-- a quorum of a base inside a part of it is one of that part
+pub quorum-part : (S A B : ℕ) → _⊆_ S A → _⊆_ A B → quorum S B ≡ true → quorum S A ≡ true
+quorum-part S A B i s h = enough S A (omega (arith, more S B h, size-sub A B s))
 
 -- two quorums of one set share a node
 pub quorum-meet : (S R B : ℕ) → _⊆_ S B → _⊆_ R B → quorum S B ≡ true → quorum R B ≡ true → (q : ℕ) × (has q S ≡ true) × (has q R ≡ true)
-unfolding quorum
 quorum-meet S R B s r h k =
-    let l : size B < 2 * size S = ltb-lt h in
-    let m : size B < 2 * size R = ltb-lt k in
+    let l = more S B h in
+    let m = more R B k in
     let e : size (S ∪ R) + size (S ∩ R) ≡ size S + size R = size-union S R in
     let u : size (S ∪ R) ≤ size B = size-sub (S ∪ R) B (λ q g. pick q (or-e (has q S) (has q R) (sym (has-union q S R) ∙ g))) in
     let n : (S ∩ R) ≢ 0 = λ z. let f : size (S ∩ R) ≡ size 0 = ap size z in no-zero l m e u (f ∙ size-none) in
