@@ -9,7 +9,7 @@ use Rattle.sets.specs.Sets.{has}
 use Rattle.sets.proofs.Booleans.{bool, and-l, and-r}
 use Rattle.state.specs.declared.Group.{Group}
 use Rattle.state.specs.declared.State.the-variants.{Joining}
-use Rattle.state.specs.State.{groupOf, halted, foundingGroup}
+use Rattle.state.specs.State.{halted, foundingGroup}
 use Rattle.rules.specs.declared.Faults.{Faults}
 use Rattle.rules.specs.OneCycle.{Config, stopAndStart}
 use Rattle.rules.specs.Faults.{at, disturbed}

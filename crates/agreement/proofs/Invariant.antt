@@ -2,7 +2,7 @@
 use mathlib.Core.Path.{_≡_, refl, sym, ap, _∙_, subst}
 use mathlib.Core.Logic.{_⊎_, inl, inr, _≢_}
 use mathlib.Core.Bool.{Bool, true, false, not, _&&_, cond}
-use mathlib.Core.Option.{Option, none, some}
+use mathlib.Core.Option.{none, some}
 use Prim.Native.Nat.{ℕ, _<_}
 use Rattle.sets.specs.Sets.{has, lowest}
 use Rattle.sets.specs.Quorum.{quorum}
@@ -11,7 +11,6 @@ use Rattle.sets.proofs.Membership.{_⊆_}
 use Rattle.sets.proofs.Nodes.{those-in, in-those, of-those, lowest-in}
 use Rattle.sets.proofs.Quorum.{quorum-meet}
 use Rattle.state.specs.declared.Group.{Group}
-use Rattle.state.specs.declared.State.{State}
 use Rattle.state.specs.declared.State.the-variants.{Joining, Member}
 use Rattle.state.specs.State.{groupOf, halted, foundingGroup, initial}
 use Rattle.rules.specs.declared.Faults.{Faults}

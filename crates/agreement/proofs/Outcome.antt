@@ -1,14 +1,13 @@
 -- What one cycle that keeps the promise gives, from rule 2 on. Assumes nothing.
-use mathlib.Core.Path.{_≡_, refl, sym, ap, _∙_, subst}
+use mathlib.Core.Path.{_≡_, sym, ap, _∙_, subst}
 use mathlib.Core.Logic.{_⊎_, inl, inr, _≢_}
 use mathlib.Core.Bool.{true, false}
-use mathlib.Core.Option.{Option, none, some}
+use mathlib.Core.Option.{Option, some}
 use Prim.Native.Nat.{ℕ, _<_}
 use Rattle.sets.specs.Sets.{has}
 use Rattle.sets.specs.Quorum.{quorum}
 use Rattle.sets.proofs.Membership.{_⊆_}
 use Rattle.state.specs.declared.Group.{Group}
-use Rattle.state.specs.declared.State.{State}
 use Rattle.state.specs.declared.State.the-variants.{Joining}
 use Rattle.state.specs.State.{groupOf, halted}
 use Rattle.rules.specs.declared.Vote.{Vote}

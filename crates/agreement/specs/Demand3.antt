@@ -4,11 +4,10 @@ use mathlib.Core.Path.{_≡_}
 use mathlib.Core.Logic.{_⊎_, _≢_}
 use mathlib.Core.Bool.{Bool, true, false, _&&_}
 use mathlib.Core.List.{List, [], _∷_, _++_}
-use mathlib.Core.Option.{Option, some}
+use mathlib.Core.Option.{some}
 use Prim.Native.Nat.{ℕ, _<_}
 use Rattle.sets.specs.Sets.{has}
 use Rattle.state.specs.declared.Group.{Group}
-use Rattle.state.specs.declared.State.{State}
 use Rattle.state.specs.declared.State.the-variants.{Joining}
 use Rattle.state.specs.State.{groupOf, halted}
 use Rattle.rules.specs.declared.Faults.{Faults}

@@ -2,4 +2,8 @@ pub mod Rows
 pub mod Votes
 pub mod Undisturbed
 pub mod States
+pub mod Counting
+pub mod Slots
+pub mod Own
+pub mod Entering
 mod Worked

@@ -1,18 +1,17 @@
 -- All that takes a state apart: who is what, rule 1, who votes, what each makes of the votes that it got. Assumes nothing.
-use mathlib.Core.Path.{_≡_, refl, sym, ap, _∙_}
+use mathlib.Core.Path.{_≡_, refl, ap, _∙_}
 use mathlib.Core.Logic.{_⊎_, inl, inr}
 use mathlib.Core.Bool.{Bool, true, false, false≢true}
 use mathlib.Core.Option.{Option, none, some}
 use Prim.Native.Nat.{ℕ}
 use native.Mathlib.Omega.{arith}
-use Rattle.sets.specs.Sets.{has}
 use Rattle.state.specs.declared.Group.{Group}
 use Rattle.state.specs.declared.State.{State}
 use Rattle.state.specs.declared.State.the-variants.{Out, Joining, Member}
 use Rattle.state.specs.State.{groupOf, halted}
 use Rattle.rules.specs.declared.Vote.{Vote}
 use Rattle.rules.specs.declared.Faults.{Faults}
-use Rattle.rules.specs.OneCycle.{Config, Ballots, stopIf, startIf, stopAndStart, sendsMember, sendsJoin, memberDecides}
+use Rattle.rules.specs.OneCycle.{Config, Ballots, startIf, stopAndStart, sendsMember, sendsJoin, memberDecides}
 use Rattle.rules.specs.Faults.{Row, ownVote, voteOf, decides}
 
 -- ---- options

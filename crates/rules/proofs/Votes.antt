@@ -5,7 +5,7 @@ use mathlib.Core.Bool.{Bool, true, false, not, _&&_, _||_, false≢true}
 use mathlib.Core.Option.{Option, none, some}
 use Prim.Native.Nat.{ℕ, _<_}
 use lib.Dec.{eqb, ltb}
-use Rattle.sets.specs.Sets.{has, single, _∪_, _∩_, _∖_, those, below}
+use Rattle.sets.specs.Sets.{has, single, _∪_, _∩_, _∖_, below}
 use Rattle.sets.specs.Quorum.{quorum}
 use Rattle.sets.proofs.Booleans.{bool, and-l, and-r, and-i, or-e, or-l, or-r, not-e, not-i, eqb-self, eqb-true}
 use Rattle.sets.proofs.Membership.{_⊆_, has-union, has-inter, has-diff, has-single, set-ext}

@@ -1,6 +1,6 @@
 -- The examples hold: the rules give what the table expects. Assumes nothing.
 use mathlib.Core.Path.{_≡_, refl}
-use mathlib.Core.List.{List, map}
+use mathlib.Core.List.{map}
 use lib.Count.{ones}
 use Rattle.sets.specs.Sets.{has, single, _∪_, _∩_, _∖_, those, below, size, lowest, any, every}
 use Rattle.sets.specs.Quorum.{quorum}

@@ -1,4 +1,5 @@
 pub mod OneCycle
+pub mod Ballots
 pub mod Faults
 pub mod Reference
 pub mod Examples

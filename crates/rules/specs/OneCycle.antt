@@ -6,7 +6,6 @@ use Prim.Native.Nat.{ℕ}
 use lib.Dec.{eqb}
 use Rattle.sets.specs.Sets.{has, single, _∪_, _∩_, _∖_, those, below, lowest, any, every}
 use Rattle.sets.specs.Quorum.{quorum}
-use Rattle.state.specs.declared.Reason.{Reason}
 use Rattle.state.specs.declared.Reason.the-variants.{Stopped, NoQuorum, Outvoted}
 use Rattle.state.specs.declared.Group.{Group}
 use Rattle.state.specs.declared.State.{State}

@@ -1,0 +1,37 @@
+-- How long the parts of a frame are, and the frames. Assumes nothing.
+use mathlib.Core.Path.{_≡_, refl, ap, _∙_}
+use mathlib.Core.List.{List, [], _∷_, _++_}
+use Prim.Native.Nat.{ℕ, _+_, _*_, _^_}
+use lib.ListN.{length, length-append}
+use Rattle.bigendian.specs.BigEndian.{bytesOf}
+use Rattle.bigendian.proofs.Laws.{length-bytes}
+use Rattle.crc.specs.Crc.{frameCheck}
+use Rattle.rules.specs.declared.Vote.{Vote}
+use Rattle.frames.specs.Written.{header, frame, heartbeatFrame, votePayload, voteFrame}
+
+pub length-header : (sync startup number words cycle : ℕ) → length (header sync startup number words cycle) ≡ 5
+unfolding header
+length-header sync startup number words cycle = length-bytes 5 _
+
+pub length-frame : (start : ℕ) (s : List ℕ) → length (frame start s) ≡ length s + 3
+unfolding frame
+length-frame start s = length-append s (bytesOf 3 (frameCheck start s)) ∙ ap (λ (k : ℕ). length s + k) (length-bytes 3 (frameCheck start s))
+
+-- a frame with its header and a payload of k bytes
+pub length-with : (start sync startup number words cycle k : ℕ) (payload : List ℕ) → length payload ≡ k
+    → length (frame start (header sync startup number words cycle ++ payload)) ≡ 5 + k + 3
+length-with start sync startup number words cycle k payload e =
+    length-frame start (header sync startup number words cycle ++ payload)
+    ∙ simp (length-append, length-header sync startup number words cycle, e)
+
+pub length-payload : (v : Vote) → length (votePayload v) ≡ 28
+unfolding votePayload
+length-payload v = simp (length-append, length-bytes)
+
+pub length-heartbeat : (q join sync startup cycle channel : ℕ) → length (heartbeatFrame q join sync startup cycle channel) ≡ 10
+unfolding heartbeatFrame
+length-heartbeat q join sync startup cycle channel = length-with _ sync startup (q + 1) 1 cycle 2 (join * 2 ^ 7 ∷ 0 ∷ []) refl
+
+pub length-vote : (q : ℕ) (v : Vote) (cycle channel : ℕ) → length (voteFrame q v cycle channel) ≡ 36
+unfolding voteFrame
+length-vote q v cycle channel = length-with _ 0 0 (q + 65) 14 cycle 28 (votePayload v) (length-payload v)

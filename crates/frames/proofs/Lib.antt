@@ -1,0 +1,4 @@
+pub mod Faults
+pub mod Lengths
+pub mod Headers
+pub mod RoundTrip

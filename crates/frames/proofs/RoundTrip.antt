@@ -1,0 +1,361 @@
+-- What is written reads back, and a frame that is accepted is, byte for byte, the one that would be written. Assumes nothing.
+use mathlib.Core.Path.{_≡_, refl, sym, ap, ap₂, _∙_, subst}
+use mathlib.Core.Logic.{_⊎_, inl, inr}
+use mathlib.Core.Bool.{Bool, true, false, _&&_, cond}
+use mathlib.Core.List.{List, [], _∷_, _++_, append-assoc, append-nil}
+use mathlib.Core.Option.{Option, none, some}
+use Prim.Native.Nat.{ℕ, _+_, _-_, _*_, _%_, _^_, _≤_, _<_}
+use native.Mathlib.Nat.{mod-lt}
+use native.Mathlib.Omega.{arith}
+use lib.Dec.{eqb, lit<}
+use lib.ListN.{length, take, drop, getD, length-append, drop-of-length-le}
+use lib.Pow.{pow-pos, pow-mono}
+use lib.Bits.{and-le-r}
+use lib.Seq.{take-at, getD-at, drop-cons}
+use borrow.Author.Tests.{eq-eqb, eqb-false, le-leb, leb-true}
+use Rattle.sets.specs.Sets.{has, subset, below, _∩_}
+use Rattle.sets.proofs.Booleans.{and-l, and-r, eqb-true}
+use Rattle.sets.proofs.Membership.{bit2}
+use Rattle.bigendian.specs.BigEndian.{bytesOf, numberAt}
+use Rattle.bigendian.proofs.Laws.{Bytes, length-bytes, number-at, number-lt, bytes-rest}
+use Rattle.crc.specs.Crc.{headerCheck, frameCheck, channelStart}
+use Rattle.crc.proofs.Laws.{header-lt, frame-lt, start-lt}
+use Rattle.rules.specs.declared.Vote.{Vote}
+use Rattle.frames.specs.declared.HeartbeatRead.the-variants as beat
+use Rattle.frames.specs.declared.VoteRead.the-variants as vote
+use Rattle.frames.specs.declared.Fault.{Fault}
+use Rattle.frames.specs.declared.Fault.the-variants.{Content}
+use Rattle.frames.specs.declared.HeartbeatRead.{HeartbeatRead}
+use Rattle.frames.specs.Written.{header, frame, heartbeatFrame, votePayload, voteFrame, formedVote}
+use Rattle.frames.specs.Read.{syncOf, startupOf, wordsOf, faultOf, heartbeatIndicators, voteIndicators, heartbeatContent, heartbeatUnless, readHeartbeat, payloadVote, voteUnless, readVote}
+use Rattle.frames.proofs.Faults.{Clean, clean, clean-none, whole-length, all-five}
+use Rattle.frames.proofs.Lengths.{length-header, length-frame, length-with, length-payload}
+use Rattle.frames.proofs.Headers.{word, Fields, word-lt, word-fields, fields-word}
+
+-- ---- the check at a frame's end
+
+module _ (start : ℕ) (s : List ℕ) where
+  place : length (frame start s) - 3 ≡ length s
+  place = let l = length-frame start s in omega arith
+
+  front : take (length (frame start s) - 3) (frame start s) ≡ s
+  unfolding frame
+  front = take-at s (bytesOf 3 (frameCheck start s)) (length (frame start s) - 3) (sym place)
+
+  at-end : start < 2 ^ 24 → numberAt (frame start s) (length (frame start s) - 3) 3 ≡ frameCheck start s
+  unfolding frame
+  at-end l =
+      ap (λ (t : List ℕ). numberAt (s ++ t) (length (frame start s) - 3) 3) (sym (append-nil (bytesOf 3 (frameCheck start s))))
+      ∙ number-at s [] (length (frame start s) - 3) 3 (frameCheck start s) (sym place) (frame-lt start s l)
+
+-- ---- a written header
+
+abbrev sent : ℕ → ℕ → ℕ → ℕ → ℕ → ℕ → List ℕ → List ℕ
+sent sync startup number words cycle channel payload = frame (channelStart channel) (header sync startup number words cycle ++ payload)
+
+module _ (sync startup number words cycle channel : ℕ) (payload : List ℕ) (a : sync < 2) (b : startup < 2) (c : number < 2 ^ 11) (d : words < 2 ^ 7)
+    (e : cycle < 2 ^ 6) where
+  head : numberAt (sent sync startup number words cycle channel payload) 0 5 ≡ word sync startup number words (headerCheck sync startup number words) cycle
+  unfolding frame header
+  head =
+      ap (λ (l : List ℕ). numberAt l 0 5) (append-assoc (header sync startup number words cycle) payload _)
+      ∙ number-at
+      []
+      _
+      0
+      5
+      (word sync startup number words (headerCheck sync startup number words) cycle)
+      refl
+      (word-lt sync startup number words (headerCheck sync startup number words) cycle a b c d (header-lt sync startup number words) e)
+
+  sent-fields : Fields (numberAt (sent sync startup number words cycle channel payload) 0 5) sync startup number words (headerCheck sync startup number words) cycle
+  sent-fields =
+      subst
+      (λ (x : ℕ). Fields x sync startup number words (headerCheck sync startup number words) cycle)
+      (sym head)
+      (word-fields sync startup number words (headerCheck sync startup number words) cycle a b c d (header-lt sync startup number words) e)
+
+  sent-clean : {indicators : Bool} → length payload ≡ 2 * words → indicators ≡ true
+      → Clean number words cycle indicators channel (sent sync startup number words cycle channel payload)
+  sent-clean l i =
+      let f = sent-fields in
+      let s = sent sync startup number words cycle channel payload in
+      let n : length s ≡ 5 + 2 * words + 3 = length-with (channelStart channel) sync startup number words cycle (2 * words) payload l in
+      let w : wordsOf s ≡ words = f .worded in
+      record {
+        sized = omega arith;
+        checked = rw (f .synced, f .started, f .numbered, f .worded) (f .checked);
+        framed = at-end _ _ (start-lt channel) ∙ ap (frameCheck (channelStart channel)) (sym (front _ _));
+        sent = f .sent;
+        reserved = f .reserved;
+        preamble = f .preamble;
+        numbered = f .numbered;
+        worded = f .worded;
+        counted = f .counted;
+        indicated = i;
+      }
+
+-- ---- an accepted frame's header and check
+
+module _ (number words cycle : ℕ) (indicators : Bool) (channel : ℕ) (s : List ℕ) (bytes : Bytes s) (c : Clean number words cycle indicators channel s) where
+  taken-header : header (syncOf s) (startupOf s) number words cycle ++ drop 5 s ≡ s
+  unfolding header
+  taken-header =
+      let l : 0 + 5 ≤ length s = let z = c .sized in omega arith in
+      ap (λ (x : ℕ). bytesOf 5 x ++ drop 5 s)
+      (sym
+      (fields-word
+      (syncOf s)
+      (startupOf s)
+      number
+      words
+      (headerCheck (syncOf s) (startupOf s) number words)
+      cycle
+      (numberAt s 0 5)
+      (number-lt s 0 5 bytes)
+      record {
+        reserved = c .reserved;
+        preamble = c .preamble;
+        sent = c .sent;
+        synced = refl;
+        started = refl;
+        numbered = c .numbered;
+        worded = c .worded;
+        checked = c .checked ∙ ap₂ (headerCheck (syncOf s) (startupOf s)) (c .numbered) (c .worded);
+        counted = c .counted;
+      }))
+      ∙ bytes-rest s 0 5 bytes l
+
+  -- with p in front of the check, and as long as the length field says
+  taken-frame : (p : List ℕ) → length p ≡ 5 + 2 * words → p ++ drop (length p) s ≡ s → s ≡ frame (channelStart channel) p
+  unfolding frame
+  taken-frame p k e =
+      let w = c .worded in
+      let z = c .sized in
+      let i : length s - 3 ≡ length p = omega arith in
+      let l : length p + 3 ≤ length s = omega arith in
+      let m : length s ≤ length p + 3 = omega arith in
+      let f : take (length s - 3) s ≡ p =
+      ap₂ (λ (n : ℕ) (x : List ℕ). take n x) i (sym e) ∙ take-at p (drop (length p) s) (length p) refl in
+      let v : numberAt s (length p) 3 ≡ frameCheck (channelStart channel) p =
+      ap (λ (n : ℕ). numberAt s n 3) (sym i) ∙ c .framed ∙ ap (frameCheck (channelStart channel)) f in
+      let r : drop (length p) s ≡ bytesOf 3 (numberAt s (length p) 3) =
+      sym (bytes-rest s (length p) 3 bytes l) ∙ ap (λ (x : List ℕ). bytesOf 3 (numberAt s (length p) 3) ++ x) (drop-of-length-le s m) ∙ append-nil _ in
+      sym e ∙ ap (λ (x : List ℕ). p ++ x) (r ∙ ap (bytesOf 3) v)
+
+-- ---- heartbeats
+
+-- the answer of a heartbeat with that join bit
+abbrev pub joinAnswer : ℕ → HeartbeatRead
+joinAnswer join = cond (eqb join 0) beat.Alive beat.Join
+
+module _ (start : ℕ) (h : List ℕ) (a : ℕ) (l : length h ≡ 5) where
+  first-byte : getD (frame start (h ++ (a ∷ 0 ∷ []))) 5 0 ≡ a
+  unfolding frame
+  first-byte = rw append-assoc (getD-at h a (0 ∷ bytesOf 3 (frameCheck start (h ++ (a ∷ 0 ∷ [])))) 0 5 l)
+
+  second-byte : getD (frame start (h ++ (a ∷ 0 ∷ []))) 6 0 ≡ 0
+  unfolding frame
+  second-byte =
+      let t = bytesOf 3 (frameCheck start (h ++ (a ∷ 0 ∷ []))) in
+      let e : (h ++ (a ∷ 0 ∷ [])) ++ t ≡ (h ++ (a ∷ [])) ++ (0 ∷ t) = simp append-assoc in
+      ap (λ (s : List ℕ). getD s 6 0) e ∙ getD-at (h ++ (a ∷ [])) 0 t 0 6 (simp (length-append, l))
+
+content-back : (join : ℕ) (s : List ℕ) → join < 2 → getD s 5 0 ≡ join * 2 ^ 7 → getD s 6 0 ≡ 0 → heartbeatContent s ≡ joinAnswer join
+content-back join s l a b = go (bit2 join l)
+  where
+    go : (join ≡ 0) ⊎ (join ≡ 1) → heartbeatContent s ≡ joinAnswer join
+    go (inl e) = rw (a, b, e)
+    go (inr e) = rw (a, b, e)
+
+pub heartbeat-back : (q join sync startup cycle channel : ℕ) → q < 64 → join < 2 → sync < 2 → startup ≤ sync → cycle < 64
+    → readHeartbeat q cycle channel (heartbeatFrame q join sync startup cycle channel) ≡ joinAnswer join
+unfolding readHeartbeat heartbeatFrame
+heartbeat-back q join sync startup cycle channel hq hj hs ht hc =
+    let payload : List ℕ = join * 2 ^ 7 ∷ 0 ∷ [] in
+    let s = sent sync startup (q + 1) 1 cycle channel payload in
+    let b : startup < 2 = omega arith in
+    let n : q + 1 < 2 ^ 11 = omega arith in
+    let f = sent-fields sync startup (q + 1) 1 cycle channel payload hs b n (lit< tt) hc in
+    let i : heartbeatIndicators s ≡ true = rw (f .synced, f .started) (le-leb startup sync ht) in
+    let c = sent-clean sync startup (q + 1) 1 cycle channel payload hs b n (lit< tt) hc refl i in
+    let h = header sync startup (q + 1) 1 cycle in
+    let l : length h ≡ 5 = length-header sync startup (q + 1) 1 cycle in
+    rw (clean-none (q + 1) 1 cycle (heartbeatIndicators s) channel s c)
+    (content-back join s hj (first-byte _ h (join * 2 ^ 7) l) (second-byte _ h (join * 2 ^ 7) l))
+
+-- an answer that is no refusal
+not-refused : (f : Fault) (t : Bool) → beat.Refused f ≡ cond t beat.Alive beat.Join → ⊥
+not-refused f true e = let z : _≡_ {A = ℕ} 0 1 = cc in omega arith
+not-refused f false e = let z : _≡_ {A = ℕ} 0 1 = cc in omega arith
+
+same-join : (a b : Bool) → cond a beat.Alive beat.Join ≡ cond b beat.Alive beat.Join → a ≡ b
+same-join true true e = refl
+same-join false false e = refl
+same-join true false e = absurd (let z : _≡_ {A = ℕ} 0 1 = cc in omega arith)
+same-join false true e = absurd (let z : _≡_ {A = ℕ} 0 1 = cc in omega arith)
+
+picked : (a b c d : Bool) → cond (a && b) (cond c beat.Alive beat.Join) (beat.Refused Content) ≡ cond d beat.Alive beat.Join
+    → (a ≡ true) × (b ≡ true) × (c ≡ d)
+picked true true c d e = (refl, refl, same-join c d e)
+picked true false c d e = absurd (not-refused Content d e)
+picked false b c d e = absurd (not-refused Content d e)
+
+-- a byte with nothing but the join bit
+join-byte : (x join : ℕ) → x < 256 → join < 2 → x % 2 ^ 7 ≡ 0 → eqb x 0 ≡ eqb join 0 → x ≡ join * 2 ^ 7
+join-byte x join lx lj r e = go (bit2 join lj)
+  where
+    go : (join ≡ 0) ⊎ (join ≡ 1) → x ≡ join * 2 ^ 7
+    go (inl j) = let z : x ≡ 0 = eqb-true (e ∙ eq-eqb join 0 j) in omega arith
+    go (inr j) = let z : x ≡ 0 → ⊥ = eqb-false x 0 (e ∙ ap (λ (y : ℕ). eqb y 0) j) in omega arith
+
+-- a heartbeat that is taken: no fault, and the two payload bytes
+taken-content : (o : Option Fault) (join : ℕ) (s : List ℕ) → join < 2 → Bytes s → heartbeatUnless o s ≡ joinAnswer join
+    → (o ≡ none) × (getD s 5 0 ≡ join * 2 ^ 7) × (getD s 6 0 ≡ 0)
+taken-content (some f) join s l b e = absurd (not-refused f (eqb join 0) e)
+taken-content none join s l b e =
+    let p = picked (eqb (getD s 5 0 % 2 ^ 7) 0) (eqb (getD s 6 0) 0) (eqb (getD s 5 0) 0) (eqb join 0) e in
+    (refl, join-byte (getD s 5 0) join (b 5) l (eqb-true (p .0)) (p .2), eqb-true (p .1))
+
+pub heartbeat-only : (q join cycle channel : ℕ) (s : List ℕ) → join < 2 → Bytes s → readHeartbeat q cycle channel s ≡ joinAnswer join
+    → (startupOf s ≤ syncOf s) × (s ≡ heartbeatFrame q join (syncOf s) (startupOf s) cycle channel)
+unfolding readHeartbeat heartbeatFrame
+heartbeat-only q join cycle channel s l b e =
+    let p = taken-content (faultOf (q + 1) 1 cycle (heartbeatIndicators s) channel s) join s l b e in
+    let c = clean (q + 1) 1 cycle (heartbeatIndicators s) channel s (p .0) in
+    let n : length s ≡ 10 = whole-length (q + 1) 1 cycle (heartbeatIndicators s) channel s (p .0) in
+    let h = header (syncOf s) (startupOf s) (q + 1) 1 cycle in
+    let k : length (h ++ (join * 2 ^ 7 ∷ 0 ∷ [])) ≡ 7 = simp (length-append, length-header (syncOf s) (startupOf s) (q + 1) 1 cycle) in
+    let five : 5 < length s = omega arith in
+    let six : 6 < length s = omega arith in
+    let r : (join * 2 ^ 7 ∷ 0 ∷ []) ++ drop 7 s ≡ drop 5 s =
+    ap₂ (λ (x y : ℕ). x ∷ y ∷ drop 7 s) (sym (p .1)) (sym (p .2)) ∙ ap (λ (x : List ℕ). getD s 5 0 ∷ x) (sym (drop-cons s 6 0 six)) ∙ sym (drop-cons s 5 0 five) in
+    let w : (h ++ (join * 2 ^ 7 ∷ 0 ∷ [])) ++ drop 7 s ≡ s =
+    append-assoc h (join * 2 ^ 7 ∷ 0 ∷ []) (drop 7 s) ∙ ap (λ (x : List ℕ). h ++ x) r ∙ taken-header (q + 1) 1 cycle (heartbeatIndicators s) channel s b c in (
+      leb-true (startupOf s) (syncOf s) (c .indicated),
+      taken-frame (q + 1) 1 cycle (heartbeatIndicators s) channel s b c (h ++ (join * 2 ^ 7 ∷ 0 ∷ [])) k (ap (λ (x : ℕ). (h ++ (join * 2 ^ 7 ∷ 0 ∷ [])) ++ drop x s) k ∙ w),
+    )
+
+-- ---- votes
+
+-- the numbers of a vote that is formed fit eight bytes
+fits-below : (n x : ℕ) → n ≤ 64 → eqb (below n x) x ≡ true → x < 2 ^ 64
+unfolding below
+fits-below n x l e =
+    let m : x % 2 ^ n < 2 ^ n = mod-lt x (pow-pos n) in
+    let k : x % 2 ^ n ≡ x = eqb-true e in
+    let p : 2 ^ n ≤ 2 ^ 64 = pow-mono l in
+    omega arith
+
+subset-le : (a b : ℕ) → subset a b ≡ true → a ≤ b
+unfolding subset _∩_
+subset-le a b e = subst (λ (x : ℕ). x ≤ b) (eqb-true e) (and-le-r a b)
+
+formed-fits : (n q : ℕ) (v : Vote) → n ≤ 64 → formedVote n q v ≡ true → (v .group .set < 2 ^ 64) × (v .group .base < 2 ^ 64) × (v .view < 2 ^ 64)
+unfolding formedVote
+formed-fits n q v l e =
+    let g = v .group in
+    let p =
+    all-five
+    (has q (g .set))
+    (has q (v .view))
+    (subset (g .set) (g .base))
+    (eqb (below n (g .base)) (g .base))
+    (eqb (below n (v .view)) (v .view))
+    e in
+    let s : g .set ≤ g .base = subset-le (g .set) (g .base) (p .2) in
+    let b : g .base < 2 ^ 64 = fits-below n (g .base) l (p .3) in
+    (omega arith, b, fits-below n (v .view) l (p .4))
+
+-- four numbers between a header h and what follows, each read at its place
+module _ (h t : List ℕ) (a b c d : ℕ) (l : length h ≡ 5) where
+  abbrev between : List ℕ
+  between = (h ++ (bytesOf 4 a ++ (bytesOf 8 b ++ (bytesOf 8 c ++ bytesOf 8 d)))) ++ t
+
+  at-5 : a < 2 ^ 32 → numberAt between 5 4 ≡ a
+  at-5 f = simp append-assoc (number-at h _ 5 4 a l f)
+
+  at-9 : b < 2 ^ 64 → numberAt between 9 8 ≡ b
+  at-9 f =
+      let p = h ++ bytesOf 4 a in
+      let e : between ≡ p ++ (bytesOf 8 b ++ (bytesOf 8 c ++ (bytesOf 8 d ++ t))) = simp append-assoc in
+      ap (λ (s : List ℕ). numberAt s 9 8) e ∙ number-at p _ 9 8 b (simp (length-append, length-bytes, l)) f
+
+  at-17 : c < 2 ^ 64 → numberAt between 17 8 ≡ c
+  at-17 f =
+      let p = h ++ (bytesOf 4 a ++ bytesOf 8 b) in
+      let e : between ≡ p ++ (bytesOf 8 c ++ (bytesOf 8 d ++ t)) = simp append-assoc in
+      ap (λ (s : List ℕ). numberAt s 17 8) e ∙ number-at p _ 17 8 c (simp (length-append, length-bytes, l)) f
+
+  at-25 : d < 2 ^ 64 → numberAt between 25 8 ≡ d
+  at-25 f =
+      let p = h ++ (bytesOf 4 a ++ (bytesOf 8 b ++ bytesOf 8 c)) in
+      let e : between ≡ p ++ (bytesOf 8 d ++ t) = simp append-assoc in
+      ap (λ (s : List ℕ). numberAt s 25 8) e ∙ number-at p _ 25 8 d (simp (length-append, length-bytes, l)) f
+
+payload-back : (start : ℕ) (h : List ℕ) (v : Vote) → length h ≡ 5 → v .group .number < 2 ^ 32 → v .group .set < 2 ^ 64 → v .group .base < 2 ^ 64
+    → v .view < 2 ^ 64 → payloadVote (frame start (h ++ votePayload v)) ≡ v
+unfolding frame votePayload
+payload-back start h v l fg fm fb fv =
+    let g = v .group in
+    let t = bytesOf 3 (frameCheck start (h ++ votePayload v)) in
+    let eg = at-5 h t (g .number) (g .set) (g .base) (v .view) l fg in
+    let em = at-9 h t (g .number) (g .set) (g .base) (v .view) l fm in
+    let eb = at-17 h t (g .number) (g .set) (g .base) (v .view) l fb in
+    let ev = at-25 h t (g .number) (g .set) (g .base) (v .view) l fv in
+    λ i. record { group = record { number = eg i; set = em i; base = eb i }; view = ev i }
+
+pub vote-back : (n q : ℕ) (v : Vote) (cycle channel : ℕ) → n ≤ 64 → q < n → cycle < 64 → v .group .number < 2 ^ 32 → formedVote n q v ≡ true
+    → readVote n q cycle channel (voteFrame q v cycle channel) ≡ vote.Whole v
+unfolding readVote voteFrame
+vote-back n q v cycle channel hn hq hc hg e =
+    let s = sent 0 0 (q + 65) 14 cycle channel (votePayload v) in
+    let b : q + 65 < 2 ^ 11 = omega arith in
+    let k : length (votePayload v) ≡ 2 * 14 = length-payload v in
+    let f = sent-fields 0 0 (q + 65) 14 cycle channel (votePayload v) (lit< tt) (lit< tt) b (lit< tt) hc in
+    let i : voteIndicators s ≡ true = rw (f .synced, f .started) in
+    let c = sent-clean 0 0 (q + 65) 14 cycle channel (votePayload v) (lit< tt) (lit< tt) b (lit< tt) hc k i in
+    let z = formed-fits n q v hn e in
+    let p : payloadVote s ≡ v = payload-back _ (header 0 0 (q + 65) 14 cycle) v (length-header 0 0 (q + 65) 14 cycle) hg (z .0) (z .1) (z .2) in
+    ap (λ (o : Option Fault). voteUnless o n q s) (clean-none (q + 65) 14 cycle (voteIndicators s) channel s c)
+    ∙ ap (λ (w : Vote). cond (formedVote n q w) (vote.Whole w) (vote.Refused Content)) p
+    ∙ ap (λ (t : Bool). cond t (vote.Whole v) (vote.Refused Content)) e
+
+-- a vote that is taken: no fault, and the payload's
+taken-vote : (o : Option Fault) (n q : ℕ) (s : List ℕ) (v : Vote) → voteUnless o n q s ≡ vote.Whole v → (o ≡ none) × (payloadVote s ≡ v)
+taken-vote (some f) n q s v e = absurd (let z : _≡_ {A = ℕ} 0 1 = cc in omega arith)
+taken-vote none n q s v e = (refl, go (formedVote n q (payloadVote s)) (payloadVote s) e)
+  where
+    go : (t : Bool) (w : Vote) → cond t (vote.Whole w) (vote.Refused Content) ≡ vote.Whole v → w ≡ v
+    go true w h = cc
+    go false w h = absurd (let z : _≡_ {A = ℕ} 0 1 = cc in omega arith)
+
+payload-rest : (s : List ℕ) → Bytes s → 33 ≤ length s → votePayload (payloadVote s) ++ drop 33 s ≡ drop 5 s
+unfolding votePayload
+payload-rest s b l =
+    let l9 : 5 + 4 ≤ length s = omega arith in
+    let l17 : 9 + 8 ≤ length s = omega arith in
+    let l25 : 17 + 8 ≤ length s = omega arith in
+    simp append-assoc
+    (ap (λ (r : List ℕ). bytesOf 4 (numberAt s 5 4) ++ (bytesOf 8 (numberAt s 9 8) ++ (bytesOf 8 (numberAt s 17 8) ++ r))) (bytes-rest s 25 8 b l)
+    ∙ ap (λ (r : List ℕ). bytesOf 4 (numberAt s 5 4) ++ (bytesOf 8 (numberAt s 9 8) ++ r)) (bytes-rest s 17 8 b l25)
+    ∙ ap (λ (r : List ℕ). bytesOf 4 (numberAt s 5 4) ++ r) (bytes-rest s 9 8 b l17)
+    ∙ bytes-rest s 5 4 b l9)
+
+pub vote-only : (n q : ℕ) (v : Vote) (cycle channel : ℕ) (s : List ℕ) → Bytes s → readVote n q cycle channel s ≡ vote.Whole v → s ≡ voteFrame q v cycle channel
+unfolding readVote voteFrame
+vote-only n q v cycle channel s b e =
+    let p = taken-vote (faultOf (q + 65) 14 cycle (voteIndicators s) channel s) n q s v e in
+    let c = clean (q + 65) 14 cycle (voteIndicators s) channel s (p .0) in
+    let n : length s ≡ 36 = whole-length (q + 65) 14 cycle (voteIndicators s) channel s (p .0) in
+    let l : 33 ≤ length s = omega arith in
+    let y : syncOf s ≡ 0 = eqb-true (and-l (eqb (syncOf s) 0) (eqb (startupOf s) 0) (c .indicated)) in
+    let z : startupOf s ≡ 0 = eqb-true (and-r (eqb (syncOf s) 0) (eqb (startupOf s) 0) (c .indicated)) in
+    let h = header 0 0 (q + 65) 14 cycle in
+    let m = votePayload v in
+    let k : length (h ++ m) ≡ 33 = simp (length-append, length-header 0 0 (q + 65) 14 cycle, length-payload v) in
+    let r : m ++ drop 33 s ≡ drop 5 s = ap (λ (x : Vote). votePayload x ++ drop 33 s) (sym (p .1)) ∙ payload-rest s b l in
+    let t : h ++ drop 5 s ≡ s =
+    ap₂ (λ (x y : ℕ). header x y (q + 65) 14 cycle ++ drop 5 s) (sym y) (sym z) ∙ taken-header (q + 65) 14 cycle (voteIndicators s) channel s b c in
+    let w : (h ++ m) ++ drop 33 s ≡ s = append-assoc h m (drop 33 s) ∙ ap (λ (x : List ℕ). h ++ x) r ∙ t in
+    taken-frame (q + 65) 14 cycle (voteIndicators s) channel s b c (h ++ m) k (ap (λ (x : ℕ). (h ++ m) ++ drop x s) k ∙ w)

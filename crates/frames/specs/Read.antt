@@ -1,0 +1,153 @@
+-- Paper 01, "Frames" and refusals 5 to 10: heartbeat and vote frames as they are read, and the two-channel rule.
+-- Assumes nothing.
+use mathlib.Core.Bool.{Bool, not, _&&_, _||_, cond}
+use mathlib.Core.List.{List}
+use mathlib.Core.Option.{Option, none, some}
+use Prim.Native.Nat.{ℕ, _+_, _-_, _*_, _/_, _%_, _^_}
+use lib.Dec.{eqb, ltb, leb}
+use lib.ListN.{getD, length, take}
+use Rattle.bigendian.specs.BigEndian.{numberAt}
+use Rattle.crc.specs.Crc.{headerCheck, frameCheck, channelStart}
+use Rattle.rules.specs.declared.Vote.{Vote}
+use Rattle.rules.specs.OneCycle.{sameVote}
+use Rattle.frames.specs.declared.Fault.{Fault}
+use Rattle.frames.specs.declared.Fault.the-variants.{Length, HeaderCheck, FrameCheck, NullFrame, NotDue, Content}
+use Rattle.frames.specs.declared.HeartbeatRead.{HeartbeatRead}
+use Rattle.frames.specs.declared.HeartbeatRead.the-variants as beat
+use Rattle.frames.specs.declared.VoteRead.{VoteRead}
+use Rattle.frames.specs.declared.VoteRead.the-variants as vote
+use Rattle.frames.specs.declared.HeartbeatReceived.{HeartbeatReceived}
+use Rattle.frames.specs.declared.HeartbeatReceived.the-variants as beats
+use Rattle.frames.specs.declared.VoteReceived.{VoteReceived}
+use Rattle.frames.specs.declared.VoteReceived.the-variants as votes
+use Rattle.frames.specs.Written.{formedVote}
+
+-- the refusal's number
+abbrev pub faultCode : Fault → ℕ
+faultCode Length = 5
+faultCode HeaderCheck = 6
+faultCode FrameCheck = 7
+faultCode NullFrame = 8
+faultCode NotDue = 9
+faultCode Content = 10
+
+-- ---- the fields of a header
+
+-- the five header bytes as one number of 40 bits, and k bits of it above the lowest i
+abbrev pub field : List ℕ → ℕ → ℕ → ℕ
+field s i k = numberAt s 0 5 / 2 ^ i % 2 ^ k
+
+abbrev pub reservedOf : List ℕ → ℕ
+reservedOf s = field s 39 1
+
+abbrev pub preambleOf : List ℕ → ℕ
+preambleOf s = field s 38 1
+
+abbrev pub nullOf : List ℕ → ℕ
+nullOf s = field s 37 1
+
+abbrev pub syncOf : List ℕ → ℕ
+syncOf s = field s 36 1
+
+abbrev pub startupOf : List ℕ → ℕ
+startupOf s = field s 35 1
+
+abbrev pub numberOf : List ℕ → ℕ
+numberOf s = field s 24 11
+
+abbrev pub wordsOf : List ℕ → ℕ
+wordsOf s = field s 17 7
+
+abbrev pub checkOf : List ℕ → ℕ
+checkOf s = field s 6 11
+
+abbrev pub cycleOf : List ℕ → ℕ
+cycleOf s = field s 0 6
+
+-- ---- refusals 5 to 9, "of several the lowest"
+
+-- "5: fewer than 8 bytes, or not 8 plus twice the length field."
+unfoldable pub wrongLength : List ℕ → Bool
+wrongLength s = ltb (length s) 8 || not (eqb (length s) (8 + 2 * wordsOf s))
+
+-- "6: header check."
+unfoldable pub wrongHeader : List ℕ → Bool
+wrongHeader s = not (eqb (checkOf s) (headerCheck (syncOf s) (startupOf s) (numberOf s) (wordsOf s)))
+
+-- "7: frame check."
+unfoldable pub wrongFrame : ℕ → List ℕ → Bool
+wrongFrame channel s = not (eqb (numberAt s (length s - 3) 3) (frameCheck (channelStart channel) (take (length s - 3) s)))
+
+-- "the null frame bit is 1; 0 there means a null frame"
+unfoldable pub isNull : List ℕ → Bool
+isNull s = eqb (nullOf s) 0
+
+-- "9: another frame number, cycle count, payload length, indicator or reserved bit than due."
+unfoldable pub isDue : ℕ → ℕ → ℕ → List ℕ → Bool
+isDue number words cycle s =
+    eqb (reservedOf s) 0 && eqb (preambleOf s) 0 && eqb (numberOf s) number && eqb (wordsOf s) words && eqb (cycleOf s) cycle
+
+-- "startup only with sync"; "sync and startup 0"
+abbrev pub heartbeatIndicators : List ℕ → Bool
+heartbeatIndicators s = leb (startupOf s) (syncOf s)
+
+abbrev pub voteIndicators : List ℕ → Bool
+voteIndicators s = eqb (syncOf s) 0 && eqb (startupOf s) 0
+
+-- the first of 5 to 9 that holds of s
+unfoldable pub faultOf : ℕ → ℕ → ℕ → Bool → ℕ → List ℕ → Option Fault
+faultOf number words cycle indicators channel s =
+    cond (wrongLength s) (some Length)
+    (cond (wrongHeader s) (some HeaderCheck)
+    (cond (wrongFrame channel s) (some FrameCheck)
+    (cond (isNull s) (some NullFrame)
+    (cond (isDue number words cycle s && indicators) none (some NotDue)))))
+
+-- ---- heartbeats: "bit 7 of the first byte is join, all else 0"; "10: heartbeat bits that must be 0"
+
+abbrev pub heartbeatContent : List ℕ → HeartbeatRead
+heartbeatContent s = cond (eqb (getD s 5 0 % 2 ^ 7) 0 && eqb (getD s 6 0) 0) (cond (eqb (getD s 5 0) 0) beat.Alive beat.Join) (beat.Refused Content)
+
+abbrev pub heartbeatUnless : Option Fault → List ℕ → HeartbeatRead
+heartbeatUnless none s = heartbeatContent s
+heartbeatUnless (some f) s = beat.Refused f
+
+-- the heartbeat of node q in a cycle, from the copy on a channel
+unfoldable pub readHeartbeat : ℕ → ℕ → ℕ → List ℕ → HeartbeatRead
+readHeartbeat q cycle channel s = heartbeatUnless (faultOf (q + 1) 1 cycle (heartbeatIndicators s) channel s) s
+
+-- ---- votes
+
+abbrev pub payloadVote : List ℕ → Vote
+payloadVote s =
+    record { group = record { number = numberAt s 5 4; set = numberAt s 9 8; base = numberAt s 17 8 }; view = numberAt s 25 8 }
+
+abbrev pub voteContent : ℕ → ℕ → List ℕ → VoteRead
+voteContent n q s = cond (formedVote n q (payloadVote s)) (vote.Whole (payloadVote s)) (vote.Refused Content)
+
+abbrev pub voteUnless : Option Fault → ℕ → ℕ → List ℕ → VoteRead
+voteUnless none n q s = voteContent n q s
+voteUnless (some f) n q s = vote.Refused f
+
+unfoldable pub readVote : ℕ → ℕ → ℕ → ℕ → List ℕ → VoteRead
+readVote n q cycle channel s = voteUnless (faultOf (q + 65) 14 cycle (voteIndicators s) channel s) n q s
+
+-- ---- "A unit reads both channels. One good copy counts; two good copies count if their payloads are equal, else the frame is missed." A good heartbeat's
+-- payload is its join bit.
+
+abbrev pub receiveHeartbeat : HeartbeatRead → HeartbeatRead → HeartbeatReceived
+receiveHeartbeat beat.Alive beat.Alive = beats.Alive
+receiveHeartbeat beat.Alive beat.Join = beats.Missed
+receiveHeartbeat beat.Alive (beat.Refused f) = beats.Alive
+receiveHeartbeat beat.Join beat.Alive = beats.Missed
+receiveHeartbeat beat.Join beat.Join = beats.Join
+receiveHeartbeat beat.Join (beat.Refused f) = beats.Join
+receiveHeartbeat (beat.Refused f) beat.Alive = beats.Alive
+receiveHeartbeat (beat.Refused f) beat.Join = beats.Join
+receiveHeartbeat (beat.Refused f) (beat.Refused g) = beats.Missed
+
+abbrev pub receiveVote : VoteRead → VoteRead → VoteReceived
+receiveVote (vote.Whole v) (vote.Whole w) = cond (sameVote v w) (votes.Whole v) votes.Missed
+receiveVote (vote.Whole v) (vote.Refused f) = votes.Whole v
+receiveVote (vote.Refused f) (vote.Whole w) = votes.Whole w
+receiveVote (vote.Refused f) (vote.Refused g) = votes.Missed

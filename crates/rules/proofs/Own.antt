@@ -1,0 +1,147 @@
+-- Rule 5: the own vote beside the votes of the others, and what a member decides. Assumes nothing.
+use mathlib.Core.Path.{_≡_, refl, sym, ap, ap₂, _∙_}
+use mathlib.Core.Bool.{Bool, true, false, _&&_, _||_, cond, false≢true}
+use mathlib.Core.List.{List}
+use mathlib.Core.Option.{Option, none, some}
+use Prim.Native.Nat.{ℕ, _<_}
+use lib.Dec.{eqb, ltb}
+use Rattle.sets.specs.Sets.{has, single, _∪_, _∖_, those, any}
+use Rattle.sets.specs.Quorum.{quorum}
+use Rattle.sets.proofs.Booleans.{both, eqb-self, eqb-true, ltb-true, and-l, and-r, and-i}
+use Rattle.sets.proofs.Membership.{_⊆_, has-union, has-single, set-ext}
+use Rattle.sets.proofs.Nodes.{has-those, any-i, any-e}
+use Rattle.sets.proofs.Quorum.{quorum-mono}
+use Rattle.state.specs.declared.Reason.the-variants.{NoQuorum, Outvoted}
+use Rattle.state.specs.declared.State.the-variants.{Out, Member}
+use Rattle.rules.specs.declared.Vote.{Vote}
+use Rattle.rules.specs.OneCycle.{Config, Ballots, sameGroup, is, voters, wins, newSet, groupWith, newGroup, withOwn, rival, memberDecides}
+use Rattle.rules.specs.Ballots.{ballotsOf, alike, votedFor, agreed}
+use Rattle.rules.proofs.Votes.{vote-self, voters-is, voters-sub, in-voters}
+use Rattle.rules.proofs.States.{none-some, some-inj}
+use Rattle.rules.proofs.Counting.{quorum-node}
+use Rattle.rules.proofs.Slots.{without, slots-without, voters-tally, rival-agreed}
+
+has-voters : (x N : ℕ) (b : Ballots) (v : Vote) → has x (voters N b v) ≡ (ltb x N && (has x (v .group .set) && is v (b x)))
+unfolding voters
+has-voters x N b v = has-those x N (λ p. has p (v .group .set) && is v (b p))
+
+and-no : (a : Bool) → (a && false) ≡ false
+and-no true = refl
+and-no false = refl
+
+and-yes : (a : Bool) → (a && true) ≡ a
+and-yes true = refl
+and-yes false = refl
+
+module _ (N q : ℕ) (own : Vote) (b : Ballots) where
+  -- the own vote's voters: the others, and the node itself if its set holds it
+  own-voters : q < N
+      → voters N (withOwn q own b) own ≡ cond (has q (own .group .set)) (single q ∪ voters N (without q b) own) (voters N (without q b) own)
+  own-voters l = set-ext (λ x. go x (eqb x q) refl (has q (own .group .set)) refl)
+    where
+      W : ℕ
+      W = voters N (without q b) own
+
+      counts : ℕ → Option Vote → Bool
+      counts x o = ltb x N && (has x (own .group .set) && is own o)
+
+      -- at the own slot, where only the own vote is
+      mine : has q (voters N (withOwn q own b) own) ≡ has q (own .group .set)
+      mine =
+          let o : withOwn q own b q ≡ some own = rw (eqb-self q) in
+          has-voters q N (withOwn q own b) own ∙ ap (counts q) o ∙ ap₂ (λ (y z : Bool). y && (has q (own .group .set) && z)) (ltb-true l) (vote-self own) ∙ and-yes (has q (own .group .set))
+
+      here : (s : Bool) → has q (own .group .set) ≡ s → has q (voters N (withOwn q own b) own) ≡ has q (cond s (single q ∪ W) W)
+      here true k = mine ∙ k ∙ sym (has-union q (single q) W ∙ ap (λ (y : Bool). y || has q W) (has-single q q ∙ eqb-self q))
+      here false k =
+          let o : without q b q ≡ none = rw (eqb-self q) in
+          mine ∙ k ∙ sym (has-voters q N (without q b) own ∙ ap (counts q) o ∙ ap (λ (y : Bool). ltb q N && y) (and-no (has q (own .group .set))) ∙ and-no (ltb q N))
+
+      -- at another slot
+      there : (x : ℕ) → eqb x q ≡ false → has x (voters N (withOwn q own b) own) ≡ has x W
+      there x e =
+          let o : withOwn q own b x ≡ without q b x = rw e in
+          has-voters x N (withOwn q own b) own ∙ ap (counts x) o ∙ sym (has-voters x N (without q b) own)
+
+      go : (x : ℕ) (e : Bool) → eqb x q ≡ e → (s : Bool) → has q (own .group .set) ≡ s → has x (voters N (withOwn q own b) own) ≡ has x (cond s (single q ∪ W) W)
+      go x true e s k = let z : x ≡ q = eqb-true e in rw z (here s k)
+      go x false e true k = there x e ∙ sym (has-union x (single q) W ∙ ap (λ (y : Bool). y || has x W) (has-single x q ∙ e))
+      go x false e false k = there x e
+
+  -- where the own vote has no quorum, the others alone say whether another vote has one
+  own-rivals : wins N (withOwn q own b) own ≡ false
+      → any N (λ p. rival N (withOwn q own b) (own .group) (withOwn q own b p)) ≡ any N (λ p. rival N (without q b) (own .group) (without q b p))
+  unfolding wins
+  own-rivals lost = both (any N f) (any N h) (λ e. let w = any-e N f e in to (withOwn q own b (w .0)) (w .2)) (λ e. let w = any-e N h e in from (w .0) (w .1) (without q b (w .0)) refl (w .2))
+    where
+      f : ℕ → Bool
+      f p = rival N (withOwn q own b) (own .group) (withOwn q own b p)
+
+      h : ℕ → Bool
+      h p = rival N (without q b) (own .group) (without q b p)
+
+      -- a slot that holds a vote other than the own one holds it among the others
+      other : (v : Vote) → (own ≡ v → ⊥) → (x : ℕ) (e : Bool) → eqb x q ≡ e → cond e (some own) (b x) ≡ some v → without q b x ≡ some v
+      other v n x true e k = absurd (n (some-inj k))
+      other v n x false e k = rw e k
+
+      back : (v : Vote) (x : ℕ) (e : Bool) → eqb x q ≡ e → cond e none (b x) ≡ some v → withOwn q own b x ≡ some v
+      back v x true e k = absurd (none-some k)
+      back v x false e k = rw e k
+
+      to : (o : Option Vote) → rival N (withOwn q own b) (own .group) o ≡ true → any N h ≡ true
+      to none e = absurd (false≢true e)
+      to (some v) e =
+          let enough : wins N (withOwn q own b) v ≡ true = and-r (sameGroup (own .group) (v .group)) (wins N (withOwn q own b) v) e in
+          let n : own ≡ v → ⊥ = λ k. false≢true (sym lost ∙ ap (λ (x : Vote). wins N (withOwn q own b) x) k ∙ enough) in
+          let part : _⊆_ (voters N (withOwn q own b) v) (voters N (without q b) v) =
+          λ x m. let w = voters-is N (withOwn q own b) v x m in in-voters N (without q b) v x (w .0) (voters-sub N (withOwn q own b) v x m) (other v n x (eqb x q) refl (w .1)) in
+          let still : wins N (without q b) v ≡ true = quorum-mono (voters N (withOwn q own b) v) (voters N (without q b) v) (v .group .base) part enough in
+          let x = quorum-node (voters N (without q b) v) (v .group .base) still in
+          let w = voters-is N (without q b) v (x .0) (x .1) in
+          any-i N (x .0) h (w .0) (ap (rival N (without q b) (own .group)) (w .1)
+          ∙ and-i (sameGroup (own .group) (v .group)) (wins N (without q b) v) (and-l (sameGroup (own .group) (v .group)) (wins N (withOwn q own b) v) e) still)
+
+      from : (p : ℕ) → p < N → (o : Option Vote) → without q b p ≡ o → rival N (without q b) (own .group) o ≡ true → any N f ≡ true
+      from p l none k e = absurd (false≢true e)
+      from p l (some v) k e =
+          let part : _⊆_ (voters N (without q b) v) (voters N (withOwn q own b) v) =
+          λ x m. let w = voters-is N (without q b) v x m in in-voters N (withOwn q own b) v x (w .0) (voters-sub N (without q b) v x m) (back v x (eqb x q) refl (w .1)) in
+          let enough : wins N (withOwn q own b) v ≡ true =
+          quorum-mono (voters N (without q b) v) (voters N (withOwn q own b) v) (v .group .base) part (and-r (sameGroup (own .group) (v .group)) (wins N (without q b) v) e) in
+          any-i N p f l (ap (rival N (withOwn q own b) (own .group)) (back v p (eqb p q) refl k)
+          ∙ and-i (sameGroup (own .group) (v .group)) (wins N (withOwn q own b) v) (and-l (sameGroup (own .group) (v .group)) (wins N (without q b) v) e) enough)
+
+-- ---- the same from the votes in slots
+
+module _ (numbers sets bases views : List ℕ) (N present q : ℕ) (own : Vote) where
+  -- d holds the slots of the others, A those of them whose vote has the own group
+  module _ (s d A : ℕ) (es : s ≡ single q) (ed : d ≡ present ∖ s) (ea : A ≡ those N (alike numbers sets bases d (own .group))) where
+    others : ballotsOf numbers sets bases views d ≡ without q (ballotsOf numbers sets bases views present)
+    others = ap (ballotsOf numbers sets bases views) (ed ∙ ap (λ (x : ℕ). present ∖ x) es) ∙ slots-without numbers sets bases views present q
+
+    pub own-tally : (t m : ℕ) (r : Bool) → q < N → t ≡ those N (votedFor views A (own .view)) → r ≡ has q (own .group .set) → m ≡ cond r (single q ∪ t) t
+        → m ≡ voters N (withOwn q own (ballotsOf numbers sets bases views present)) own
+    own-tally t m r l et er em =
+        let theirs : t ≡ voters N (without q (ballotsOf numbers sets bases views present)) own =
+        et ∙ ap (λ (x : ℕ). those N (votedFor views x (own .view))) ea ∙ sym (voters-tally numbers sets bases views N d own) ∙ ap (λ (b : Ballots). voters N b own) others in
+        em ∙ ap₂ (λ (x : Bool) (y : ℕ). cond x (single q ∪ y) y) er theirs ∙ sym (own-voters N q own (ballotsOf numbers sets bases views present) l)
+
+    pub others-agreed : (r : Bool) → r ≡ any N (agreed N views A (own .group .base))
+        → r ≡ any N (λ p. rival N (without q (ballotsOf numbers sets bases views present)) (own .group) (without q (ballotsOf numbers sets bases views present) p))
+    others-agreed r e =
+        e ∙ ap (λ (x : ℕ). any N (agreed N views x (own .group .base))) ea ∙ sym (rival-agreed numbers sets bases views N d (own .group))
+        ∙ ap (λ (b : Ballots). any N (λ p. rival N b (own .group) (b p))) others
+
+-- ---- what a member decides, from its own vote's voters m
+
+module _ (C : Config) (q : ℕ) (own : Vote) (b : Ballots) (m : ℕ) (e : m ≡ voters (C .nodes) (withOwn q own b) own) where
+  pub decides-on : quorum m (own .group .base) ≡ true → memberDecides C q own b ≡ Member (groupWith own (m ∪ (own .view ∖ own .group .set)))
+  unfolding memberDecides wins newGroup newSet
+  decides-on w = rw (sym e, w)
+
+  pub decides-out : (r : Bool) → quorum m (own .group .base) ≡ false → r ≡ any (C .nodes) (λ p. rival (C .nodes) (without q b) (own .group) (without q b p))
+      → memberDecides C q own b ≡ cond r (Out Outvoted) (Out NoQuorum)
+  unfolding memberDecides wins
+  decides-out r w k =
+      rw (sym e, w) (ap (λ (x : Bool). cond x (Out Outvoted) (Out NoQuorum)) (own-rivals (C .nodes) q own b (ap (λ (x : ℕ). quorum x (own .group .base)) (sym e) ∙ w) ∙ sym k))

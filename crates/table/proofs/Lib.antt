@@ -1,0 +1,4 @@
+mod Refusals
+mod Missed
+pub mod Laws
+pub mod Cursor

@@ -1,0 +1,78 @@
+// Published values of the two checks, and frames made by other code: what is printed here must be the stored output.
+ghost use Prim.Native.Nat.{_<_, _^_};
+use libc::STDOUT_FILENO;
+use rules::Vote;
+use state::Group;
+
+fn end_line() {
+    io::write_all(STDOUT_FILENO, b"\n");
+}
+
+// The header check for sync, startup, frame number and length.
+fn show_header(sync: u32, startup: u32, number: u32, length: u32)
+    requires { ⌜ sync < 2 ⌝ }
+    requires { ⌜ startup < 2 ⌝ }
+    requires { ⌜ number < 2048 ⌝ }
+    requires { ⌜ length < 128 ⌝ }
+{
+    let check = crc::header_check(sync, startup, number, length);
+    io::print_hex(STDOUT_FILENO, check as u64, 3);
+    end_line();
+}
+
+// The frame check of some bytes on each channel.
+fn show_check(s: &[u8]) {
+    let a = crc::frame_check(crc::channel_start(0), s);
+    let b = crc::frame_check(crc::channel_start(1), s);
+    io::print_hex(STDOUT_FILENO, a as u64, 6);
+    io::write_all(STDOUT_FILENO, b" ");
+    io::print_hex(STDOUT_FILENO, b as u64, 6);
+    end_line();
+}
+
+fn show_bytes(s: &[u8]) {
+    let mut i = 0;
+    while i < s.len() {
+        io::print_hex(STDOUT_FILENO, s[i] as u64, 2);
+        i += 1;
+    }
+    end_line();
+}
+
+fn show_vote(channel: u32) {
+    let group = Group {
+        number: 0,
+        set: 0x1f,
+        base: 0x1f,
+    };
+    let frame = frames::write_vote(0, Vote { group, view: 0x1f }, 0, channel);
+    show_bytes(&frame);
+}
+
+fn show_headers() {
+    show_header(0, 0, 1, 1);
+    show_header(0, 0, 5, 1);
+    show_header(1, 1, 1, 1);
+    show_header(1, 0, 1, 1);
+    show_header(0, 0, 64, 1);
+    show_header(0, 0, 65, 14);
+    show_header(0, 0, 128, 14);
+    show_header(0, 0, 2047, 127);
+}
+
+fn show_frames() {
+    let member = frames::write_heartbeat(0, 0, 0, 0, 0, 0);
+    show_bytes(&member);
+    let joining = frames::write_heartbeat(4, 1, 0, 0, 63, 1);
+    show_bytes(&joining);
+    let starting = frames::write_heartbeat(63, 0, 1, 1, 9, 0);
+    show_bytes(&starting);
+    show_vote(0);
+    show_vote(1);
+}
+
+fn main() {
+    show_headers();
+    show_check(b"123456789");
+    show_frames();
+}

@@ -1,0 +1,154 @@
+/*
+ * gm.h: proved group membership for a FlexRay cluster of 2 to 64 nodes, the node end.
+ *
+ * Every entry answers 0, or the number of its refusal (GM_REFUSED_..). A refusal changes nothing: every buffer and every result is as it came in. Of
+ * several refusals the lowest is given. No entry allocates, blocks, keeps anything between calls, or reads or writes outside the buffers that it is
+ * lent; any number and any bytes may be passed. What is promised of each entry is proved for all inputs; docs/CLAIMS.md says by which theorem.
+ *
+ * A buffer is a pointer and its length in bytes. A pointer is never null, also where the length is 0. Buffers and results of one call do not overlap;
+ * what happens where they do is outside the promise. Sets of nodes are masks, bit q for node q. Entries may be called from several threads at once on
+ * buffers of their own.
+ *
+ * One cycle of a node, heard0, heard1 and arrived being 0 before it:
+ *   1. gm_stop, gm_start where the host wants it
+ *   2. gm_send_heartbeat for each channel; the host sends the frame if there is one
+ *   3. gm_receive_heartbeat for every other node; GM_HEARD_MEMBER goes into heard0, GM_HEARD_JOINING into heard1
+ *   4. gm_send_vote for each channel; the host sends the frame if there is one
+ *   5. gm_receive_vote for every other node, into the vote buffer and `arrived`
+ *   6. gm_decide
+ */
+#ifndef GM_H
+#define GM_H
+
+#include <stddef.h>
+#include <stdint.h>
+
+#ifdef __cplusplus
+extern "C" {
+#endif
+
+/* sizes of buffers, in bytes */
+#define GM_STATE_BYTES 24
+#define GM_HEARTBEAT_BYTES 10
+#define GM_VOTE_FRAME_BYTES 36
+#define GM_VOTE_BYTES 28
+#define GM_VOTES_BYTES 1792
+
+/* channels */
+#define GM_CHANNEL_A 0
+#define GM_CHANNEL_B 1
+
+/* what gm_receive_heartbeat hears */
+#define GM_MISSED 0
+#define GM_HEARD_MEMBER 1
+#define GM_HEARD_JOINING 2
+
+/* refusals: of the caller's numbers and buffers */
+#define GM_REFUSED_COUNT 1      /* n outside 2 to 64 */
+#define GM_REFUSED_NUMBER 2     /* a node not below n, a cycle count above 63, a channel above 1; to be written: join, sync or startup above 1, startup without sync */
+#define GM_REFUSED_LENGTH 3     /* a buffer of another length than its entry names */
+#define GM_REFUSED_STATE 4      /* a state that is not well formed */
+/* of a frame */
+#define GM_REFUSED_FRAME_LENGTH 5 /* fewer than 8 bytes, or not 8 plus twice the length field */
+#define GM_REFUSED_HEADER_CHECK 6
+#define GM_REFUSED_FRAME_CHECK 7
+#define GM_REFUSED_NULL_FRAME 8
+#define GM_REFUSED_NOT_DUE 9    /* another frame number, cycle count, payload length, indicator or reserved bit than due */
+#define GM_REFUSED_CONTENT 10   /* heartbeat bits that must be 0; a vote whose set or view lacks the sender, whose base lacks part of the set, or with a bit at n or above */
+/* of a founding set */
+#define GM_REFUSED_FOUNDING 13  /* empty, or with a bit at n or above */
+
+/*
+ * The deepest stack that an entry uses, in bytes, as measured (make stack).
+ */
+#define GM_STACK_BYTES 8192
+
+/*
+ * Puts node `node` of `n` at the beginning, for the founding set `founding`: a member with group number 0 if it is in the set, else out.
+ * state: GM_STATE_BYTES. Refusals: COUNT, NUMBER, LENGTH, FOUNDING.
+ */
+uint32_t gm_begin(uint32_t n, uint32_t node, uint64_t founding, uint8_t *state, size_t state_len);
+
+/*
+ * Stops the node: out, reason 0. state: GM_STATE_BYTES. Refusals: LENGTH, STATE.
+ */
+uint32_t gm_stop(uint8_t *state, size_t state_len);
+
+/*
+ * Starts the node: a node that is out becomes joining, others do not change. state: GM_STATE_BYTES. Refusals: LENGTH, STATE.
+ */
+uint32_t gm_start(uint8_t *state, size_t state_len);
+
+/*
+ * Writes the heartbeat of a node from numbers. frame: GM_HEARTBEAT_BYTES. Refusals: COUNT, NUMBER, LENGTH.
+ */
+uint32_t gm_write_heartbeat(uint32_t n, uint32_t node, uint32_t join, uint32_t sync, uint32_t startup, uint32_t cycle, uint32_t channel,
+                            uint8_t *frame, size_t frame_len);
+
+/*
+ * Writes the heartbeat that a node sends in its state: *sent is 1, or 0 if it sends none, and frame is then as it came in.
+ * state: GM_STATE_BYTES, frame: GM_HEARTBEAT_BYTES. Refusals: NUMBER, LENGTH, STATE.
+ */
+uint32_t gm_send_heartbeat(const uint8_t *state, size_t state_len, uint32_t sync, uint32_t startup, uint32_t cycle, uint32_t channel,
+                           uint8_t *frame, size_t frame_len, uint32_t *sent);
+
+/*
+ * Reads one copy of the heartbeat of `node`, due in cycle count `cycle` on `channel`: *join is 0 or 1.
+ * frame: of any length. Refusals: COUNT, NUMBER, FRAME_LENGTH, HEADER_CHECK, FRAME_CHECK, NULL_FRAME, NOT_DUE, CONTENT.
+ */
+uint32_t gm_read_heartbeat(uint32_t n, uint32_t node, uint32_t cycle, uint32_t channel, const uint8_t *frame, size_t frame_len,
+                           uint32_t *join);
+
+/*
+ * Receives the heartbeat of `node` from its copies on channels A and B (length 0 where none came): *heard is GM_MISSED, GM_HEARD_MEMBER or
+ * GM_HEARD_JOINING. One good copy counts; two count if their payloads are equal. a, b: of any length. Refusals: COUNT, NUMBER.
+ */
+uint32_t gm_receive_heartbeat(uint32_t n, uint32_t node, uint32_t cycle, const uint8_t *a, size_t a_len, const uint8_t *b, size_t b_len,
+                              uint32_t *heard);
+
+/*
+ * The view of a node from what it heard: *view holds the node itself if it is a member, and is 0 if it is not.
+ * state: GM_STATE_BYTES. Refusals: LENGTH, STATE.
+ */
+uint32_t gm_view(const uint8_t *state, size_t state_len, uint64_t heard0, uint64_t heard1, uint64_t *view);
+
+/*
+ * Writes the vote of a node from numbers. frame: GM_VOTE_FRAME_BYTES. Refusals: COUNT, NUMBER, LENGTH, CONTENT.
+ */
+uint32_t gm_write_vote(uint32_t n, uint32_t node, uint32_t number, uint64_t set, uint64_t base, uint64_t view, uint32_t cycle,
+                       uint32_t channel, uint8_t *frame, size_t frame_len);
+
+/*
+ * Writes the vote that a node sends in its state, from what it heard: *sent is 1, or 0 if it sends none, and frame is then as it came in.
+ * state: GM_STATE_BYTES, frame: GM_VOTE_FRAME_BYTES. Refusals: NUMBER, LENGTH, STATE.
+ */
+uint32_t gm_send_vote(const uint8_t *state, size_t state_len, uint64_t heard0, uint64_t heard1, uint32_t cycle, uint32_t channel,
+                      uint8_t *frame, size_t frame_len, uint32_t *sent);
+
+/*
+ * Reads one copy of the vote of `node`, due in cycle count `cycle` on `channel`, to its payload: number (4 bytes), set, base and view (8 each).
+ * frame: of any length, vote: GM_VOTE_BYTES.
+ * Refusals: COUNT, NUMBER, LENGTH, FRAME_LENGTH, HEADER_CHECK, FRAME_CHECK, NULL_FRAME, NOT_DUE, CONTENT.
+ */
+uint32_t gm_read_vote(uint32_t n, uint32_t node, uint32_t cycle, uint32_t channel, const uint8_t *frame, size_t frame_len,
+                      uint8_t *vote, size_t vote_len);
+
+/*
+ * Receives the vote of `node` from its copies on channels A and B (length 0 where none came): into its slot of the vote buffer, its bit of *arrived
+ * set; or it is missed, the buffer is as it came in and the bit cleared. a, b: of any length, votes: GM_VOTES_BYTES. Refusals: COUNT, NUMBER, LENGTH.
+ */
+uint32_t gm_receive_vote(uint32_t n, uint32_t node, uint32_t cycle, const uint8_t *a, size_t a_len, const uint8_t *b, size_t b_len,
+                         uint8_t *votes, size_t votes_len, uint64_t *arrived);
+
+/*
+ * Decides: the node's next state, from what it heard and the votes that arrived. A slot whose vote is not sound counts as not arrived, and so does a
+ * bit at n or above; the node's own bit is not looked at. state: GM_STATE_BYTES, votes: GM_VOTES_BYTES. Refusals: LENGTH, STATE.
+ */
+uint32_t gm_decide(uint8_t *state, size_t state_len, uint64_t heard0, uint64_t heard1, const uint8_t *votes, size_t votes_len,
+                   uint64_t arrived);
+
+#ifdef __cplusplus
+}
+#endif
+
+#endif

@@ -1,0 +1,33 @@
+#!/usr/bin/env bash
+# Whether the header and the archive agree: every entry declared once and exported, each called from C, nothing undefined but what is named here, no
+# writable data, and no deeper stack than the header says. Usage: archive.sh ARCHIVE BUILD-FOLDER
+set -euo pipefail
+archive=$1 build=$2
+mkdir -p "$build"
+fail() { echo "archive: $*" >&2; exit 1; }
+
+declared=$(grep -oE '^uint32_t gm_[a-z_]+' include/gm.h | sed 's/uint32_t //' | sort)
+exported=$(nm --defined-only "$archive" | awk '$2 == "T" { print $3 }' | sort)
+[ -z "$(uniq -d <<<"$declared")" ] || fail "an entry is declared twice"
+[ "$declared" = "$exported" ] || fail "declared and exported entries differ: $(diff <(echo "$declared") <(echo "$exported") | tr '\n' ' ')"
+
+# the C library's block operations, which the compiler calls by itself
+needed=$(nm -u "$archive" | awk '$1 == "U" { print $2 }' | sort -u | tr '\n' ' ')
+for symbol in $needed; do
+    case $symbol in memcpy | memset | memmove) ;; *) fail "undefined symbol $symbol" ;; esac
+done
+writable=$(objdump -h "$archive" | awk '$2 ~ /^\.(data|bss|tdata|tbss)/ && $3 !~ /^0+$/ { print $2 }')
+[ -z "$writable" ] || fail "writable data: $writable"
+
+cc=(gcc -std=c99 -Wall -Wextra -Werror -pedantic -O2 -Iinclude)
+"${cc[@]}" tests/entries.c "$archive" -o "$build/entries"
+called=$("$build/entries")
+[ "$called" = "$(wc -l <<<"$declared")" ] || fail "$called entries called"
+printf '#include "gm.h"\nint main() { return gm_stop(nullptr, 0) == GM_REFUSED_LENGTH ? 0 : 1; }\n' >"$build/cpp.cc"
+g++ -Wall -Wextra -Werror -pedantic -Iinclude "$build/cpp.cc" "$archive" -o "$build/cpp"
+
+gcc -std=gnu99 -Wall -Wextra -Werror -O2 -Iinclude tests/stack.c "$archive" -pthread -o "$build/stack"
+deepest=$("$build/stack")
+stated=$(awk '$2 == "GM_STACK_BYTES" { print $3 }' include/gm.h)
+[ "$deepest" -le "$stated" ] || fail "an entry used $deepest bytes of stack, the header says $stated"
+echo "archive: $called entries, needs ${needed:-nothing}, no writable data, deepest stack $deepest bytes"

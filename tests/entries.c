@@ -1,0 +1,94 @@
+/*
+ * Calls every entry of gm.h with its real signature: once so that it is accepted and once so that it is refused. That a refusal changes nothing is looked
+ * at too. Prints nothing but the count of the entries.
+ */
+#include "gm.h"
+
+#include <stdio.h>
+#include <stdlib.h>
+#include <string.h>
+
+static unsigned entries;
+
+static void expect(const char *entry, uint32_t got, uint32_t want)
+{
+    if (got != want) {
+        fprintf(stderr, "%s gave %u and not %u\n", entry, (unsigned)got, (unsigned)want);
+        exit(1);
+    }
+    entries += want == 0;
+}
+
+static void unchanged(const char *entry, const void *a, const void *b, size_t len)
+{
+    if (memcmp(a, b, len) != 0) {
+        fprintf(stderr, "%s was refused and wrote\n", entry);
+        exit(1);
+    }
+}
+
+static uint8_t state[GM_STATE_BYTES], other[GM_STATE_BYTES], before[GM_VOTES_BYTES], votes[GM_VOTES_BYTES];
+static uint8_t beat[GM_HEARTBEAT_BYTES], frame[2][GM_VOTE_FRAME_BYTES], payload[GM_VOTE_BYTES];
+
+static void states(void)
+{
+    expect("gm_begin", gm_begin(5, 1, 0x1f, state, sizeof state), 0);
+    memcpy(before, state, sizeof state);
+    expect("gm_begin", gm_begin(5, 1, 0x3f, state, sizeof state), GM_REFUSED_FOUNDING);
+    expect("gm_begin", gm_begin(5, 5, 0x1f, state, sizeof state), GM_REFUSED_NUMBER);
+    expect("gm_begin", gm_begin(65, 70, 0, state, 3), GM_REFUSED_COUNT);
+    unchanged("gm_begin", before, state, sizeof state);
+    memcpy(other, state, sizeof other);
+    expect("gm_stop", gm_stop(other, sizeof other), 0);
+    expect("gm_stop", gm_stop(other, sizeof other - 1), GM_REFUSED_LENGTH);
+    expect("gm_start", gm_start(other, sizeof other), 0);
+    other[0] = 3;
+    expect("gm_start", gm_start(other, sizeof other), GM_REFUSED_STATE);
+}
+
+static void heartbeats(void)
+{
+    uint32_t sent = 7, join = 7, heard = 7;
+    expect("gm_write_heartbeat", gm_write_heartbeat(5, 2, 1, 1, 1, 9, GM_CHANNEL_B, beat, sizeof beat), 0);
+    expect("gm_write_heartbeat", gm_write_heartbeat(5, 2, 1, 0, 1, 9, GM_CHANNEL_B, beat, sizeof beat), GM_REFUSED_NUMBER);
+    expect("gm_read_heartbeat", gm_read_heartbeat(5, 2, 9, GM_CHANNEL_A, beat, sizeof beat, &join), GM_REFUSED_FRAME_CHECK);
+    expect("gm_read_heartbeat", gm_read_heartbeat(5, 2, 9, GM_CHANNEL_B, beat, sizeof beat, &join), 0);
+    expect("gm_receive_heartbeat", gm_receive_heartbeat(5, 2, 9, beat, 0, beat, sizeof beat, &heard), 0);
+    expect("heard", heard != GM_HEARD_JOINING || join != 1, 0);
+    entries--;
+    expect("gm_receive_heartbeat", gm_receive_heartbeat(5, 2, 64, beat, 0, beat, sizeof beat, &heard), GM_REFUSED_NUMBER);
+    expect("gm_send_heartbeat", gm_send_heartbeat(state, sizeof state, 0, 0, 9, GM_CHANNEL_A, beat, sizeof beat, &sent), 0);
+    expect("gm_send_heartbeat", gm_send_heartbeat(state, sizeof state, 0, 0, 9, 2, beat, 1, &sent), GM_REFUSED_NUMBER);
+}
+
+static void views_and_votes(void)
+{
+    uint64_t view = 0, arrived = 0;
+    uint32_t sent = 7;
+    expect("gm_view", gm_view(state, sizeof state, 0x0d, 0, &view), 0);
+    expect("gm_view", gm_view(state, 0, 0x0d, 0, &view), GM_REFUSED_LENGTH);
+    for (uint32_t ch = 0; ch < 2; ch++)
+        if (gm_send_vote(state, sizeof state, 0x0d, 0, 9, ch, frame[ch], sizeof frame[ch], &sent) != 0)
+            exit(1);
+    expect("gm_send_vote", sent != 1 || view != 0x0f, 0);
+    expect("gm_send_vote", gm_send_vote(state, sizeof state, 0x0d, 0, 9, 0, frame[0], 35, &sent), GM_REFUSED_LENGTH);
+    expect("gm_receive_vote", gm_receive_vote(5, 1, 9, frame[0], 36, frame[1], 36, votes, sizeof votes, &arrived), 0);
+    expect("gm_receive_vote", gm_receive_vote(5, 1, 9, frame[0], 36, frame[1], 36, votes, 1, &arrived), GM_REFUSED_LENGTH);
+    expect("gm_read_vote", gm_read_vote(5, 1, 9, 0, frame[0], 36, payload, sizeof payload), 0);
+    expect("gm_read_vote", gm_read_vote(5, 2, 9, 0, frame[0], 36, payload, sizeof payload), GM_REFUSED_NOT_DUE);
+    expect("gm_write_vote", gm_write_vote(5, 3, 1, 0x1f, 0x1f, 0x0f, 9, 0, frame[0], 36), 0);
+    expect("gm_write_vote", gm_write_vote(5, 3, 1, 0x1f, 0x3f, 0x0f, 9, 0, frame[0], 36), GM_REFUSED_CONTENT);
+    if (arrived != 2 || memcmp(payload, votes + GM_VOTE_BYTES, sizeof payload) != 0)
+        exit(1);
+}
+
+int main(void)
+{
+    states();
+    heartbeats();
+    views_and_votes();
+    expect("gm_decide", gm_decide(state, sizeof state, 0x1d, 0, votes, sizeof votes, 0), 0);
+    expect("gm_decide", gm_decide(state, sizeof state, 0x1d, 0, votes, sizeof votes - 1, 0), GM_REFUSED_LENGTH);
+    printf("%u\n", entries);
+    return 0;
+}

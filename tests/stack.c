@@ -1,0 +1,70 @@
+/*
+ * Measures the deepest stack use of an entry: a thread runs each entry on a stack that was painted, and looks how far down the paint is gone.
+ * Prints the deepest figure in bytes.
+ */
+#include "gm.h"
+
+#include <pthread.h>
+#include <stdio.h>
+#include <stdlib.h>
+#include <string.h>
+
+enum { STACK = 1 << 18, PAINT = 0xA5, MARGIN = 256 };
+
+static uint8_t *stack;
+static uint8_t state[GM_STATE_BYTES], joiner[GM_STATE_BYTES], votes[GM_VOTES_BYTES], beat[GM_HEARTBEAT_BYTES], frame[GM_VOTE_FRAME_BYTES];
+static uint8_t payload[GM_VOTE_BYTES];
+static size_t deepest;
+
+static void run_entry(unsigned which)
+{
+    const uint64_t all = ~(uint64_t)0;
+    uint64_t mask = 0;
+    uint32_t number = 0;
+    switch (which) {
+    case 0: gm_begin(64, 3, all, state, sizeof state); break;
+    case 1: gm_begin(64, 4, 8, joiner, sizeof joiner); break;
+    case 2: gm_stop(joiner, sizeof joiner); break;
+    case 3: gm_start(joiner, sizeof joiner); break;
+    case 4: gm_write_heartbeat(64, 3, 0, 1, 1, 5, 1, beat, sizeof beat); break;
+    case 5: gm_send_heartbeat(state, sizeof state, 1, 1, 5, 1, beat, sizeof beat, &number); break;
+    case 6: gm_read_heartbeat(64, 3, 5, 1, beat, sizeof beat, &number); break;
+    case 7: gm_receive_heartbeat(64, 3, 5, beat, sizeof beat, beat, sizeof beat, &number); break;
+    case 8: gm_view(state, sizeof state, all, all, &mask); break;
+    case 9: gm_write_vote(64, 3, 0, all, all, all, 5, 1, frame, sizeof frame); break;
+    case 10: gm_send_vote(state, sizeof state, all, 0, 5, 1, frame, sizeof frame, &number); break;
+    case 11: gm_read_vote(64, 3, 5, 1, frame, sizeof frame, payload, sizeof payload); break;
+    case 12: gm_receive_vote(64, 3, 5, frame, sizeof frame, frame, sizeof frame, votes, sizeof votes, &mask); break;
+    case 13: gm_decide(joiner, sizeof joiner, all, 0, votes, sizeof votes, all); break;
+    case 14: gm_decide(state, sizeof state, all, 0, votes, sizeof votes, all); break;
+    default: exit(1);
+    }
+}
+
+/* paints the stack below this frame, runs the entry, and looks for the lowest byte that changed */
+static void *measure(void *arg)
+{
+    size_t here = (size_t)((uint8_t *)__builtin_frame_address(0) - stack);
+    size_t i = 0;
+    memset(stack, PAINT, here - MARGIN);
+    run_entry(*(unsigned *)arg);
+    while (i < here && stack[i] == PAINT)
+        i++;
+    if (here - i > deepest)
+        deepest = here - i;
+    return NULL;
+}
+
+int main(void)
+{
+    pthread_attr_t attr;
+    if (posix_memalign((void **)&stack, 4096, STACK) != 0 || pthread_attr_init(&attr) != 0 || pthread_attr_setstack(&attr, stack, STACK) != 0)
+        return 1;
+    for (unsigned which = 0; which < 15; which++) {
+        pthread_t t;
+        if (pthread_create(&t, &attr, measure, &which) != 0 || pthread_join(t, NULL) != 0)
+            return 1;
+    }
+    printf("%zu\n", deepest);
+    return 0;
+}
