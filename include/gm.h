@@ -58,10 +58,8 @@ extern "C" {
 /* of a founding set */
 #define GM_REFUSED_FOUNDING 13  /* empty, or with a bit at n or above */
 
-/*
- * The deepest stack that an entry uses, in bytes, as measured (make stack).
- */
-#define GM_STACK_BYTES 8192
+/* no entry uses more stack, in bytes: 2144 as measured (make stack), with some to spare */
+#define GM_STACK_BYTES 2560
 
 /*
  * Puts node `node` of `n` at the beginning, for the founding set `founding`: a member with group number 0 if it is in the set, else out.
