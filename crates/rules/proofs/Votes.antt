@@ -124,10 +124,6 @@ new-in N b v x s m =
     has-union x (voters N b v) (v .view ∖ v .group .set)
     ∙ or-r (has x (voters N b v)) (has x (v .view ∖ v .group .set)) (has-diff x (v .view) (v .group .set) ∙ and-i (has x (v .view)) (not (has x (v .group .set))) s (not-i (has x (v .group .set)) m))
 
-pub voters-new : (N : ℕ) (b : Ballots) (v : Vote) (x : ℕ) → has x (voters N b v) ≡ true → has x (newGroup N b v .set) ≡ true
-unfolding newGroup newSet groupWith
-voters-new N b v x h = has-union x (voters N b v) (v .view ∖ v .group .set) ∙ or-l (has x (voters N b v)) (has x (v .view ∖ v .group .set)) h
-
 -- ---- equal ballots give equal groups
 
 pub voters-ext : (N : ℕ) (a b : Ballots) (v : Vote) → ((p : ℕ) → p < N → a p ≡ b p) → voters N a v ≡ voters N b v

@@ -87,7 +87,7 @@ pub fn view(n: usize, q: usize, set: u64, heard0: u64, heard1: u64) -> u64
     sets::union(sets::union(sets::single(q), members), joiners)
 }
 
-fn same_group(g: Group, h: Group) -> bool
+pub fn same_group(g: Group, h: Group) -> bool
     ensures { λ r. ⌜ r ≡ sameGroup g h ⌝ }
 {
     g.number == h.number && g.set == h.set && g.base == h.base
@@ -230,7 +230,7 @@ pub fn group_with(v: Vote, set: u64) -> Group
 }
 
 // A member of the group that a vote gives: its voters, and the nodes of its view that are to come in.
-fn member_on(v: Vote, voters: u64) -> State
+pub fn member_on(v: Vote, voters: u64) -> State
     ensures { λ r. ⌜ r ≡ State.Member (groupWith v (voters ∪ (v .view ∖ v .group .set))) ⌝ }
 {
     let g = v.group;
@@ -268,7 +268,7 @@ pub fn member_decides(
     }
 }
 
-fn vote_at(
+pub fn vote_at(
     numbers: &[u32; 64],
     sets: &[u64; 64],
     bases: &[u64; 64],
@@ -308,7 +308,7 @@ fn voters(
 }
 
 // Whether the vote in slot p is equal to v.
-fn equals_at(
+pub fn equals_at(
     numbers: &[u32; 64],
     sets: &[u64; 64],
     bases: &[u64; 64],

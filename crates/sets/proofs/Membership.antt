@@ -7,7 +7,6 @@ use native.Mathlib.Omega.{arith}
 use native.Mathlib.Nat.{mod-lt, div-add-mod', le-refl}
 use native.Mathlib.Numerals.{one-add}
 use lib.Dec.{eqb, eqb·zero-suc, eqb·suc-zero, eqb·suc-suc}
-use lib.Arith.{lt-one}
 use lib.Pow.{shr-shr}
 use lib.Bits.{bitAnd, bitOr, and-step, or-step, and-le-l}
 use Rattle.sets.specs.Sets.{has, single, _∪_, _∩_, _∖_, subset}
@@ -144,16 +143,7 @@ ext-in (suc n) a b ha hb e =
 pub set-ext : {a b : ℕ} → ((q : ℕ) → has q a ≡ has q b) → a ≡ b
 set-ext {a} {b} e = ext-in (a + b) a b (omega arith) (omega arith) e
 
--- a number below 2 ^ n has no node at n or above
-pub has-high : (q n m : ℕ) → m < 2 ^ n → n ≤ q → has q m ≡ false
-has-high q zero m h l = ap (has q) (lt-one h) ∙ has-none q
-has-high zero (suc n) m h l = absurd (omega arith)
-has-high (suc q) (suc n) m h l = has-suc q m ∙ has-high q n (m / 2) (omega arith) (omega arith)
-
--- a set with a node is not 0, and a number that is not 0 has a node
-pub has-not-zero : (q m : ℕ) → has q m ≡ true → m ≢ 0
-has-not-zero q m h e = false≢true (sym (has-none q) ∙ ap (has q) (sym e) ∙ h)
-
+-- a number that is not 0 has a node
 not-zero-in : (n m : ℕ) → m ≤ n → m ≢ 0 → (q : ℕ) × (has q m ≡ true)
 not-zero-in zero m h e = absurd (e (omega arith))
 not-zero-in (suc n) m h e = go (bit2 (m % 2) (mod-lt m two-pos)) (not-zero-in n (m / 2) (omega arith))

@@ -1,5 +1,5 @@
 // Published values of the two checks, and frames made by other code: what is printed here must be the stored output.
-ghost use Prim.Native.Nat.{_<_, _^_};
+ghost use Prim.Native.Nat.{_<_};
 use libc::STDOUT_FILENO;
 use rules::Vote;
 use state::Group;

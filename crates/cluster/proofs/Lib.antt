@@ -1,0 +1,4 @@
+mod Arrays
+mod Tallies
+mod Deciding
+mod Whole

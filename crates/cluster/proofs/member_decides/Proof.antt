@@ -1,0 +1,93 @@
+use mathlib.Core.Bool.{cond}
+use mathlib.Core.Path.{_≡_, sym, _∙_}
+use Rattle.state.specs.declared.Reason.the-variants.{NoQuorum, Outvoted}
+use Rattle.state.specs.declared.State.the-variants.{Out}
+use Rattle.rules.specs.OneCycle.{memberDecides}
+use Rattle.rules.specs.Ballots.{voteAt, ballotsOf}
+use Rattle.rules.proofs.Counting.{cond-taken, cond-left}
+use Rattle.cluster.proofs.Tallies.{inside-less, goes-on, halts}
+use borrow.Author.Needs.{needs}
+use Rattle.cluster.proofs.member_decides.Statement.{statement}
+use Rattle.cluster.proofs.member_decides.Tie as tie
+
+abbrev start : tie.After-include → tie.Start
+start c = c .before .before .before .before .before .before .before .before
+
+vote-at-requires : tie.Need-vote-at-requires
+vote-at-requires c κs = search needs
+
+mul-votes : tie.Need-mul-votes
+mul-votes c = search needs
+
+element-copy-out-votes : tie.Need-element-copy-out-votes
+element-copy-out-votes c = search needs
+
+single-requires : tie.Need-single-requires
+single-requires c κs = search needs
+
+difference-requires : tie.Need-difference-requires
+difference-requires c κs = search needs
+
+tally-requires : tie.Need-tally-requires
+tally-requires c κs = search needs
+
+contains-requires : tie.Need-contains-requires
+contains-requires c κs = search needs
+
+include-requires : tie.Need-include-requires
+include-requires c κs = search needs
+
+is-quorum-requires : tie.Need-is-quorum-requires
+is-quorum-requires c κs = search needs
+
+member-on-requires : tie.Need-member-on-requires
+member-on-requires c κs = search needs
+
+any-rival-requires : tie.Need-any-rival-requires
+any-rival-requires c κs =
+    let d = c .before .before in
+    let a = start d .args in
+    (search needs, (start d .pre .1 .0, inside-less (a .present) (d .before .before .before .before .single .result) _ (a .members) (start d .pre .1 .1) (d .before .before .before .difference .ensures)))
+
+returns : tie.Need-returns
+returns c =
+    let d = c .before .before .before in
+    let a = start d .args in
+    c .member-on .ensures
+    ∙ goes-on (a .numbers .now) (a .sets .now) (a .bases .now) (a .views .now) (a .n) (a .members) (a .present) (start d .pre .1 .1) (a .same .now) (start d .pre .1 .0) (a .q) (d .before .before .before .before .before .before .before .vote-at .result) _ _ _ _ _ (start d .pre .0 .1) (start d .pre .0 .2) (d .before .before .before .before .before .before .before .vote-at .ensures) (d .before .before .before .before .single .ensures) (d .before .before .before .difference .ensures) (d .before .before .tally .ensures) (d .before .contains .ensures) (d .include .ensures) _ (c .before .before .is-quorum .ensures) (c .before .if1 .taken)
+
+-- without a quorum for the own vote, the others' votes decide
+halted : (c : tie.After-any-rival)
+    → cond (c .any-rival .result) (Out Outvoted) (Out NoQuorum)
+    ≡ memberDecides (record { nodes = start (c .before .before .before) .args .n }) (start (c .before .before .before) .args .q)
+    (voteAt (start (c .before .before .before) .args .numbers .now) (start (c .before .before .before) .args .sets .now) (start (c .before .before .before) .args .bases .now) (start (c .before .before .before) .args .views .now) (start (c .before .before .before) .args .q))
+    (ballotsOf (start (c .before .before .before) .args .numbers .now) (start (c .before .before .before) .args .sets .now) (start (c .before .before .before) .args .bases .now) (start (c .before .before .before) .args .views .now) (start (c .before .before .before) .args .present))
+halted c =
+    let d = c .before .before .before in
+    let a = start d .args in
+    halts (a .numbers .now) (a .sets .now) (a .bases .now) (a .views .now) (a .n) (a .members) (a .present) (start d .pre .1 .1) (a .same .now) (start d .pre .1 .0) (a .q) (d .before .before .before .before .before .before .before .vote-at .result) _ _ _ _ _ (start d .pre .0 .1) (start d .pre .0 .2) (d .before .before .before .before .before .before .before .vote-at .ensures) (d .before .before .before .before .single .ensures) (d .before .before .before .difference .ensures) (d .before .before .tally .ensures) (d .before .contains .ensures) (d .include .ensures) _ _ (c .before .before .is-quorum .ensures) (c .before .if1 .left) (c .any-rival .ensures)
+
+returns-2 : tie.Need-returns-2
+returns-2 c = sym (cond-taken _ _ _ (c .if2 .taken)) ∙ halted (c .before)
+
+returns-3 : tie.Need-returns-3
+returns-3 c = sym (cond-left _ _ _ (c .if2 .left)) ∙ halted (c .before)
+
+pub member-decides-spec : {M : Type 1} → statement M
+member-decides-spec =
+    tie.close
+    (tie.spec
+    vote-at-requires
+    mul-votes
+    element-copy-out-votes
+    single-requires
+    difference-requires
+    tally-requires
+    contains-requires
+    include-requires
+    is-quorum-requires
+    member-on-requires
+    any-rival-requires
+    returns
+    returns-2
+    returns-3)

@@ -1,0 +1,75 @@
+use mathlib.Core.Bool.{Bool, cond}
+use mathlib.Core.Path.{_≡_, refl, ap, _∙_}
+use Prim.Native.Nat.{ℕ, _≤_, _<_, _-_}
+use native.Mathlib.Omega.{arith}
+use lib.ListN.{length, getD, length-set}
+use borrow.Author.Needs.{needs}
+use borrow.Author.Count.{below-none}
+use Rattle.cluster.specs.Grouped.{spreadAt}
+use Rattle.cluster.proofs.Arrays.{stored}
+use Rattle.cluster.proofs.spread.Statement.{statement}
+use Rattle.cluster.proofs.spread.Tie as tie
+
+abbrev Inv-loop : tie.InvT-loop
+Inv-loop n m same all₀ j₀ all j = (j ≤ n) × (length all ≡ 64) × ((i : ℕ) → i < j → getD all i 0 ≡ spreadAt m same i)
+
+abbrev μ-loop : tie.MeasureT-loop
+μ-loop n m same all₀ j₀ all j = n - j
+
+loop-holds : tie.Need-loop-holds Inv-loop μ-loop
+loop-holds c = (omega arith, refl, below-none _)
+
+contains-requires : tie.Need-contains-requires Inv-loop μ-loop
+contains-requires c κs = omega arith
+
+mul-pick : tie.Need-mul-pick Inv-loop μ-loop
+mul-pick c = omega arith
+
+element-copy-out-pick : tie.Need-element-copy-out-pick Inv-loop μ-loop
+element-copy-out-pick c = omega arith
+
+pick-requires : tie.Need-pick-requires Inv-loop μ-loop
+pick-requires c κs = search needs
+
+mul-all : tie.Need-mul-all Inv-loop μ-loop
+mul-all c = omega arith
+
+array-write-all : tie.Need-array-write-all Inv-loop μ-loop
+array-write-all c = omega arith
+
+add-j : tie.Need-add-j Inv-loop μ-loop
+add-j c = omega arith
+
+loop-less : tie.Need-loop-less Inv-loop μ-loop
+loop-less c = omega arith
+
+loop-again : tie.Need-loop-again Inv-loop μ-loop
+loop-again c =
+    let l = c .before .before .before .before in
+    let a = l .before .args in (
+      omega arith,
+      simp length-set (l .loop .inv .1),
+      stored (λ i y. y ≡ spreadAt (a .m) (a .same .now) i) (l .loop .all) (l .loop .j) (c .pick .result) (omega arith) (l .loop .inv .2)
+          (c .pick .ensures ∙ ap (λ (x : Bool). cond x (a .m) (getD (a .same .now) (l .loop .j) 0)) (c .before .before .contains .ensures)),
+    )
+
+returns : tie.Need-returns Inv-loop μ-loop
+returns c = λ j h. c .before .loop .inv .2 j (omega arith)
+
+pub spread-spec : {M : Type 1} → statement M
+spread-spec =
+    tie.close
+    (tie.spec
+    Inv-loop
+    μ-loop
+    loop-holds
+    contains-requires
+    mul-pick
+    element-copy-out-pick
+    pick-requires
+    mul-all
+    array-write-all
+    add-j
+    loop-less
+    loop-again
+    returns)

@@ -1,0 +1,98 @@
+-- Votes grouped by their value, and what each node makes of them.
+-- Assumes nothing.
+use mathlib.Core.Path.{_≡_}
+use mathlib.Core.Bool.{Bool, true, false, cond}
+use mathlib.Core.List.{List}
+use Prim.Native.Nat.{ℕ, _<_}
+use lib.ListN.{getD}
+use Rattle.sets.specs.Sets.{has, single, _∪_, _∖_, those, below}
+use Rattle.state.specs.declared.Reason.the-variants.{Stopped, NoQuorum, Outvoted}
+use Rattle.state.specs.declared.Group.{Group}
+use Rattle.state.specs.declared.State.{State}
+use Rattle.state.specs.declared.State.the-variants.{Out, Joining, Member}
+use Rattle.rules.specs.declared.Vote.{Vote}
+use Rattle.rules.specs.OneCycle.{sendsMember, sendsJoin, is, viewOf, rival, groupWith, memberDecides, joinerDecides}
+use Rattle.rules.specs.Ballots.{voteAt, ballotsOf}
+use Rattle.cluster.specs.declared.Roles.{Roles}
+
+-- rule 1 of all nodes: a stopped node leaves every set, and then a started one that is no member is joining
+unfoldable pub rolesAfter : ℕ → Roles → ℕ → ℕ → Roles
+rolesAfter n w stop start =
+    let members = below n (w .members ∖ stop) in
+    record {
+      members = members;
+      joining = below n ((start ∪ (w .joining ∖ stop)) ∖ members);
+      «no_quorum» = w .«no_quorum» ∖ stop;
+      outvoted = w .outvoted ∖ stop;
+    }
+
+-- the view of node p, of the nodes whose heartbeats go out
+abbrev pub viewAt : ℕ → List ℕ → ℕ → ℕ → List ℕ → ℕ → ℕ
+viewAt n sets members joining missed p =
+    viewOf n p (getD sets p 0) (members ∖ getD missed p 0) (joining ∖ getD missed p 0)
+
+-- the members whose vote is v
+unfoldable pub equalTo : List ℕ → List ℕ → List ℕ → List ℕ → ℕ → ℕ → Vote → ℕ
+equalTo numbers sets bases views n members v = those n (λ x. is v (ballotsOf numbers sets bases views members x))
+
+-- `same` holds for each member the members whose vote is equal to its own
+abbrev pub Grouped : List ℕ → List ℕ → List ℕ → List ℕ → ℕ → ℕ → List ℕ → Type 0
+Grouped numbers sets bases views n members same =
+    (p : ℕ) → p < n → has p members ≡ true → getD same p 0 ≡ equalTo numbers sets bases views n members (voteAt numbers sets bases views p)
+
+-- element j of `same` where m is stored for each of its nodes
+abbrev pub spreadAt : ℕ → List ℕ → ℕ → ℕ
+spreadAt m same j = cond (has j m) m (getD same j 0)
+
+abbrev pub Within : ℕ → ℕ → Type 0
+Within a b = (p : ℕ) → has p a ≡ true → has p b ≡ true
+
+-- whether the vote in slot p is one with the group g that has a quorum
+abbrev pub rivalAt : List ℕ → List ℕ → List ℕ → List ℕ → ℕ → ℕ → Group → ℕ → Bool
+rivalAt numbers sets bases views n present g p =
+    rival n (ballotsOf numbers sets bases views present) g (ballotsOf numbers sets bases views present p)
+
+-- the state of a node that is neither a member nor joining
+abbrev pub outAt : Roles → ℕ → State
+outAt w q = cond (has q (w .«no_quorum»)) (Out NoQuorum) (cond (has q (w .outvoted)) (Out Outvoted) (Out Stopped))
+
+-- what node q decides on the votes in the slots `present`
+unfoldable pub decidedAt : List ℕ → List ℕ → List ℕ → List ℕ → ℕ → Roles → ℕ → ℕ → State
+decidedAt numbers sets bases views n w present q =
+    cond (has q (w .members)) (memberDecides (record { nodes = n }) q (voteAt numbers sets bases views q) (ballotsOf numbers sets bases views present))
+    (cond (has q (w .joining)) (joinerDecides (record { nodes = n }) q (ballotsOf numbers sets bases views present))
+    (outAt w q))
+
+-- the group that a state holds, zeros if it holds none; and whether it is out for want of a quorum, or outvoted
+abbrev pub heldBy : State → Group
+heldBy (Out r) = record { number = 0; set = 0; base = 0 }
+heldBy Joining = record { number = 0; set = 0; base = 0 }
+heldBy (Member g) = g
+
+abbrev pub isNoQuorum : State → Bool
+isNoQuorum (Out Stopped) = false
+isNoQuorum (Out NoQuorum) = true
+isNoQuorum (Out Outvoted) = false
+isNoQuorum Joining = false
+isNoQuorum (Member g) = false
+
+abbrev pub isOutvoted : State → Bool
+isOutvoted (Out Stopped) = false
+isOutvoted (Out NoQuorum) = false
+isOutvoted (Out Outvoted) = true
+isOutvoted Joining = false
+isOutvoted (Member g) = false
+
+-- the masks with the state d of node q added
+abbrev pub withState : Roles → ℕ → State → Roles
+withState w q d =
+    record {
+      members = cond (sendsMember d) (single q ∪ w .members) (w .members);
+      joining = cond (sendsJoin d) (single q ∪ w .joining) (w .joining);
+      «no_quorum» = cond (isNoQuorum d) (single q ∪ w .«no_quorum») (w .«no_quorum»);
+      outvoted = cond (isOutvoted d) (single q ∪ w .outvoted) (w .outvoted);
+    }
+
+-- a member of the group that a vote with these voters gives
+abbrev pub memberWith : Vote → ℕ → State
+memberWith v voters = Member (groupWith v (voters ∪ (v .view ∖ v .group .set)))

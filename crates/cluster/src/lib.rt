@@ -1,0 +1,527 @@
+// One cycle of all nodes of a cluster. Votes are grouped by their value once a cycle, so that each node's tally is an intersection and a count.
+ghost use mathlib.Core.Path.{_≡_};
+ghost use mathlib.Core.Bool.{true, cond};
+ghost use Prim.Native.Nat.{ℕ, _<_, _≤_};
+ghost use lib.ListN.{getD};
+ghost use Rattle.sets.specs.Sets.{has, _∩_, _∖_, those, any};
+ghost use Rattle.rules.specs.OneCycle.{memberDecides, joinerDecides};
+ghost use Rattle.rules.specs.Ballots.{voteAt, ballotsOf, fitsAt};
+ghost use Rattle.rules.specs.Faults.{cycle as theCycle};
+ghost use Rattle.cluster.specs.States.{stateAt, rowOf};
+ghost use Rattle.cluster.specs.Grouped.{
+  rolesAfter,
+  viewAt,
+  equalTo,
+  Grouped,
+  spreadAt,
+  Within,
+  rivalAt,
+  outAt,
+  decidedAt,
+  heldBy,
+  isNoQuorum,
+  isOutvoted,
+  withState,
+};
+use rules::Faults;
+use rules::Vote;
+use state::Group;
+use state::Reason;
+use state::State;
+
+// The states of all nodes: who is a member, who is joining, who is out for want of a quorum or outvoted (the others are out, stopped), and the group that
+// each member holds. Masks and arrays, so that a cycle works on all nodes at once.
+pub struct States {
+    pub members: u64,
+    pub joining: u64,
+    pub no_quorum: u64,
+    pub outvoted: u64,
+    pub numbers: [u32; 64],
+    pub sets: [u64; 64],
+    pub bases: [u64; 64],
+}
+
+// The masks of the states alone: rule 1 leaves the groups as they are.
+struct Roles {
+    members: u64,
+    joining: u64,
+    no_quorum: u64,
+    outvoted: u64,
+}
+
+// Rule 1 of all nodes: the stop comes before the start.
+fn rule_one(n: usize, w: Roles, stop: u64, start: u64) -> Roles
+    requires { ⌜ n ≤ 64 ⌝ }
+    ensures { λ r. ⌜ r ≡ rolesAfter n w stop start ⌝ }
+{
+    let members = sets::below(n, sets::difference(w.members, stop));
+    let waiting = sets::union(start, sets::difference(w.joining, stop));
+    Roles {
+        members,
+        joining: sets::below(n, sets::difference(waiting, members)),
+        no_quorum: sets::difference(w.no_quorum, stop),
+        outvoted: sets::difference(w.outvoted, stop),
+    }
+}
+
+// Rule 3 of all nodes, of the members and the joining nodes whose heartbeats go out. Views of nodes that are no members are made too, and not used.
+fn views_of(n: usize, sets: &[u64; 64], members: u64, joining: u64, missed: &[u64; 64]) -> [u64; 64]
+    requires { ⌜ n ≤ 64 ⌝ }
+    ensures { λ r. ⌜ ((p : ℕ) → p < n → getD r p 0 ≡ viewAt n (now (sets .entry)) members joining (now (missed .entry)) p) ⌝ }
+{
+    let mut views = [0u64; 64];
+    let mut p: usize = 0;
+    while p < n {
+        let heard0 = sets::difference(members, missed[p]);
+        let heard1 = sets::difference(joining, missed[p]);
+        views[p] = rules::view(n, p, sets[p], heard0, heard1);
+        p += 1;
+    }
+    views
+}
+
+// The members whose vote is v.
+fn equal_votes(
+    n: usize,
+    numbers: &[u32; 64],
+    sets: &[u64; 64],
+    bases: &[u64; 64],
+    views: &[u64; 64],
+    members: u64,
+    v: Vote,
+) -> u64
+    requires { ⌜ n ≤ 64 ⌝ }
+    ensures { λ r. ⌜ r ≡ equalTo (now (numbers .entry)) (now (sets .entry)) (now (bases .entry)) (now (views .entry)) n members v ⌝ }
+{
+    let mut m: u64 = 0;
+    let mut p: usize = 0;
+    while p < n {
+        m = sets::include(
+            m,
+            p,
+            rules::equals_at(numbers, sets, bases, views, members, v, p),
+        );
+        p += 1;
+    }
+    m
+}
+
+fn pick(yes: bool, a: u64, b: u64) -> u64
+    ensures { λ r. ⌜ r ≡ cond yes a b ⌝ }
+{
+    if yes { a } else { b }
+}
+
+// The array with m stored for each of its nodes.
+fn spread(n: usize, m: u64, same: &[u64; 64]) -> [u64; 64]
+    requires { ⌜ n ≤ 64 ⌝ }
+    ensures { λ r. ⌜ ((j : ℕ) → j < n → getD r j 0 ≡ spreadAt m (now (same .entry)) j) ⌝ }
+{
+    let mut all = [0u64; 64];
+    let mut j: usize = 0;
+    while j < n {
+        all[j] = pick(sets::contains(m, j), m, same[j]);
+        j += 1;
+    }
+    all
+}
+
+// For each member the members with an equal vote. A vote is looked for once, for the lowest member that cast it.
+fn groups_of(
+    n: usize,
+    numbers: &[u32; 64],
+    sets: &[u64; 64],
+    bases: &[u64; 64],
+    views: &[u64; 64],
+    members: u64,
+) -> [u64; 64]
+    requires { ⌜ n ≤ 64 ⌝ }
+    ensures { λ r. ⌜ Grouped (now (numbers .entry)) (now (sets .entry)) (now (bases .entry)) (now (views .entry)) n members r ⌝ }
+{
+    let mut same = [0u64; 64];
+    let mut left = members;
+    let mut p: usize = 0;
+    while p < n {
+        if sets::contains(left, p) {
+            let v = rules::vote_at(numbers, sets, bases, views, p);
+            let m = equal_votes(n, numbers, sets, bases, views, members, v);
+            same = spread(n, m, &same);
+            left = sets::difference(left, m);
+        }
+        p += 1;
+    }
+    same
+}
+
+// Of those with equal votes, the ones that arrived from nodes of the set.
+fn tally(votes: u64, present: u64, set: u64) -> u64
+    ensures { λ r. ⌜ r ≡ votes ∩ present ∩ set ⌝ }
+{
+    sets::intersection(sets::intersection(votes, present), set)
+}
+
+// Whether the vote in slot p has the group g and a quorum.
+fn rival_at(
+    n: usize,
+    numbers: &[u32; 64],
+    sets: &[u64; 64],
+    bases: &[u64; 64],
+    views: &[u64; 64],
+    same: &[u64; 64],
+    members: u64,
+    present: u64,
+    g: Group,
+    p: usize,
+) -> bool
+    requires { ⌜ (n ≤ 64) × (p < n) ⌝ }
+    requires { ⌜ Grouped (now numbers) (now sets) (now bases) (now views) n members (now same) ⌝ }
+    requires { ⌜ Within present members ⌝ }
+    ensures { λ r. ⌜ r ≡ rivalAt (now (numbers .entry)) (now (sets .entry)) (now (bases .entry)) (now (views .entry)) n present g p ⌝ }
+{
+    let v = rules::vote_at(numbers, sets, bases, views, p);
+    let h = v.group;
+    let votes = same[p];
+    if !sets::contains(present, p) {
+        return false;
+    }
+    if !rules::same_group(g, h) {
+        return false;
+    }
+    sets::is_quorum(tally(votes, present, h.set), h.base)
+}
+
+// Whether some vote has the group g and a quorum.
+fn any_rival(
+    n: usize,
+    numbers: &[u32; 64],
+    sets: &[u64; 64],
+    bases: &[u64; 64],
+    views: &[u64; 64],
+    same: &[u64; 64],
+    members: u64,
+    present: u64,
+    g: Group,
+) -> bool
+    requires { ⌜ n ≤ 64 ⌝ }
+    requires { ⌜ Grouped (now numbers) (now sets) (now bases) (now views) n members (now same) ⌝ }
+    requires { ⌜ Within present members ⌝ }
+    ensures { λ r. ⌜ r ≡ any n (rivalAt (now (numbers .entry)) (now (sets .entry)) (now (bases .entry)) (now (views .entry)) n present g) ⌝ }
+{
+    let mut p: usize = 0;
+    while p < n {
+        if rival_at(n, numbers, sets, bases, views, same, members, present, g, p) {
+            return true;
+        }
+        p += 1;
+    }
+    false
+}
+
+// Rule 5. The own vote counts whatever arrived of it, and for no view but its own.
+fn member_decides(
+    n: usize,
+    q: usize,
+    numbers: &[u32; 64],
+    sets: &[u64; 64],
+    bases: &[u64; 64],
+    views: &[u64; 64],
+    same: &[u64; 64],
+    members: u64,
+    present: u64,
+) -> State
+    requires { ⌜ (n ≤ 64) × (q < n) × (has q members ≡ true) ⌝ }
+    requires { ⌜ Grouped (now numbers) (now sets) (now bases) (now views) n members (now same) ⌝ }
+    requires { ⌜ Within present members ⌝ }
+    ensures { λ r. ⌜ r ≡ memberDecides (record { nodes = n }) q (voteAt (now (numbers .entry)) (now (sets .entry)) (now (bases .entry)) (now (views .entry)) q) (ballotsOf (now (numbers .entry)) (now (sets .entry)) (now (bases .entry)) (now (views .entry)) present) ⌝ }
+{
+    let own = rules::vote_at(numbers, sets, bases, views, q);
+    let g = own.group;
+    let votes = same[q];
+    let others = sets::difference(present, sets::single(q));
+    let mine = sets::include(tally(votes, others, g.set), q, sets::contains(g.set, q));
+    if sets::is_quorum(mine, g.base) {
+        rules::member_on(own, mine)
+    } else if any_rival(n, numbers, sets, bases, views, same, members, others, g) {
+        State::Out(Reason::Outvoted)
+    } else {
+        State::Out(Reason::NoQuorum)
+    }
+}
+
+// Whether the vote in slot p fits the joining node q.
+fn fits_at(
+    n: usize,
+    q: usize,
+    numbers: &[u32; 64],
+    sets: &[u64; 64],
+    bases: &[u64; 64],
+    views: &[u64; 64],
+    same: &[u64; 64],
+    members: u64,
+    present: u64,
+    p: usize,
+) -> bool
+    requires { ⌜ (n ≤ 64) × (q < 64) × (p < n) ⌝ }
+    requires { ⌜ Grouped (now numbers) (now sets) (now bases) (now views) n members (now same) ⌝ }
+    requires { ⌜ Within present members ⌝ }
+    ensures { λ r. ⌜ r ≡ fitsAt n q (ballotsOf (now (numbers .entry)) (now (sets .entry)) (now (bases .entry)) (now (views .entry)) present) p ⌝ }
+{
+    let v = rules::vote_at(numbers, sets, bases, views, p);
+    let g = v.group;
+    let votes = same[p];
+    if !sets::contains(present, p) {
+        return false;
+    }
+    if !sets::contains(sets::difference(v.view, g.set), q) {
+        return false;
+    }
+    sets::is_quorum(tally(votes, present, g.set), g.base)
+}
+
+// The slots whose votes fit the joining node q.
+fn fitting(
+    n: usize,
+    q: usize,
+    numbers: &[u32; 64],
+    sets: &[u64; 64],
+    bases: &[u64; 64],
+    views: &[u64; 64],
+    same: &[u64; 64],
+    members: u64,
+    present: u64,
+) -> u64
+    requires { ⌜ (n ≤ 64) × (q < 64) ⌝ }
+    requires { ⌜ Grouped (now numbers) (now sets) (now bases) (now views) n members (now same) ⌝ }
+    requires { ⌜ Within present members ⌝ }
+    ensures { λ r. ⌜ r ≡ those n (fitsAt n q (ballotsOf (now (numbers .entry)) (now (sets .entry)) (now (bases .entry)) (now (views .entry)) present)) ⌝ }
+{
+    let mut m: u64 = 0;
+    let mut p: usize = 0;
+    while p < n {
+        let yes = fits_at(n, q, numbers, sets, bases, views, same, members, present, p);
+        m = sets::include(m, p, yes);
+        p += 1;
+    }
+    m
+}
+
+// Rule 6. One vote value fits where all votes that fit are equal to the first of them.
+fn joiner_decides(
+    n: usize,
+    q: usize,
+    numbers: &[u32; 64],
+    sets: &[u64; 64],
+    bases: &[u64; 64],
+    views: &[u64; 64],
+    same: &[u64; 64],
+    members: u64,
+    present: u64,
+) -> State
+    requires { ⌜ (n ≤ 64) × (q < n) ⌝ }
+    requires { ⌜ Grouped (now numbers) (now sets) (now bases) (now views) n members (now same) ⌝ }
+    requires { ⌜ Within present members ⌝ }
+    ensures { λ r. ⌜ r ≡ joinerDecides (record { nodes = n }) q (ballotsOf (now (numbers .entry)) (now (sets .entry)) (now (bases .entry)) (now (views .entry)) present) ⌝ }
+{
+    let fit = fitting(n, q, numbers, sets, bases, views, same, members, present);
+    if fit == 0 {
+        return State::Joining;
+    }
+    let first = sets::lowest(fit) as usize;
+    let v = rules::vote_at(numbers, sets, bases, views, first);
+    let g = v.group;
+    let votes = same[first];
+    if sets::subset(fit, votes) {
+        rules::member_on(v, tally(votes, present, g.set))
+    } else {
+        State::Joining
+    }
+}
+
+fn out_at(w: Roles, q: usize) -> State
+    requires { ⌜ q < 64 ⌝ }
+    ensures { λ r. ⌜ r ≡ outAt w q ⌝ }
+{
+    if sets::contains(w.no_quorum, q) {
+        State::Out(Reason::NoQuorum)
+    } else if sets::contains(w.outvoted, q) {
+        State::Out(Reason::Outvoted)
+    } else {
+        State::Out(Reason::Stopped)
+    }
+}
+
+// What node q decides on the votes in the slots `present`.
+fn decide(
+    n: usize,
+    q: usize,
+    numbers: &[u32; 64],
+    sets: &[u64; 64],
+    bases: &[u64; 64],
+    views: &[u64; 64],
+    same: &[u64; 64],
+    w: Roles,
+    present: u64,
+) -> State
+    requires { ⌜ (n ≤ 64) × (q < n) ⌝ }
+    requires { ⌜ Grouped (now numbers) (now sets) (now bases) (now views) n (w .members) (now same) ⌝ }
+    requires { ⌜ Within present (w .members) ⌝ }
+    ensures { λ r. ⌜ r ≡ decidedAt (now (numbers .entry)) (now (sets .entry)) (now (bases .entry)) (now (views .entry)) n w present q ⌝ }
+{
+    if sets::contains(w.members, q) {
+        member_decides(n, q, numbers, sets, bases, views, same, w.members, present)
+    } else if sets::contains(w.joining, q) {
+        joiner_decides(n, q, numbers, sets, bases, views, same, w.members, present)
+    } else {
+        out_at(w, q)
+    }
+}
+
+fn held_by(s: State) -> Group
+    ensures { λ r. ⌜ r ≡ heldBy s ⌝ }
+{
+    match s {
+        State::Out(_) => Group {
+            number: 0,
+            set: 0,
+            base: 0,
+        },
+        State::Joining => Group {
+            number: 0,
+            set: 0,
+            base: 0,
+        },
+        State::Member(g) => g,
+    }
+}
+
+fn is_no_quorum(s: State) -> bool
+    ensures { λ r. ⌜ r ≡ isNoQuorum s ⌝ }
+{
+    match s {
+        State::Out(r) => match r {
+            Reason::Stopped => false,
+            Reason::NoQuorum => true,
+            Reason::Outvoted => false,
+        },
+        State::Joining => false,
+        State::Member(_) => false,
+    }
+}
+
+fn is_outvoted(s: State) -> bool
+    ensures { λ r. ⌜ r ≡ isOutvoted s ⌝ }
+{
+    match s {
+        State::Out(r) => match r {
+            Reason::Stopped => false,
+            Reason::NoQuorum => false,
+            Reason::Outvoted => true,
+        },
+        State::Joining => false,
+        State::Member(_) => false,
+    }
+}
+
+// The masks with the state d of node q added.
+fn with_state(w: Roles, q: usize, d: State) -> Roles
+    requires { ⌜ q < 64 ⌝ }
+    ensures { λ r. ⌜ r ≡ withState w q d ⌝ }
+{
+    Roles {
+        members: sets::include(w.members, q, rules::sends_member(d)),
+        joining: sets::include(w.joining, q, rules::sends_join(d)),
+        no_quorum: sets::include(w.no_quorum, q, is_no_quorum(d)),
+        outvoted: sets::include(w.outvoted, q, is_outvoted(d)),
+    }
+}
+
+// Rules 5 and 6 of all nodes, on the votes that go out.
+fn decisions(
+    n: usize,
+    numbers: &[u32; 64],
+    sets: &[u64; 64],
+    bases: &[u64; 64],
+    views: &[u64; 64],
+    same: &[u64; 64],
+    w: Roles,
+    sent: u64,
+    missed: &[u64; 64],
+) -> States
+    requires { ⌜ n ≤ 64 ⌝ }
+    requires { ⌜ Grouped (now numbers) (now sets) (now bases) (now views) n (w .members) (now same) ⌝ }
+    requires { ⌜ Within sent (w .members) ⌝ }
+    ensures { λ r. ⌜ ((q : ℕ) → q < n → stateAt r q ≡ decidedAt (now (numbers .entry)) (now (sets .entry)) (now (bases .entry)) (now (views .entry)) n w (sent ∖ getD (now (missed .entry)) q 0) q) ⌝ }
+{
+    let mut next = Roles {
+        members: 0,
+        joining: 0,
+        no_quorum: 0,
+        outvoted: 0,
+    };
+    let mut new_numbers = [0u32; 64];
+    let mut new_sets = [0u64; 64];
+    let mut new_bases = [0u64; 64];
+    let mut q: usize = 0;
+    while q < n {
+        let present = sets::difference(sent, missed[q]);
+        let d = decide(n, q, numbers, sets, bases, views, same, w, present);
+        let g = held_by(d);
+        next = with_state(next, q, d);
+        new_numbers[q] = g.number;
+        new_sets[q] = g.set;
+        new_bases[q] = g.base;
+        q += 1;
+    }
+    States {
+        members: next.members,
+        joining: next.joining,
+        no_quorum: next.no_quorum,
+        outvoted: next.outvoted,
+        numbers: new_numbers,
+        sets: new_sets,
+        bases: new_bases,
+    }
+}
+
+// One cycle under the faults f.
+pub fn cycle(n: usize, s: States, f: Faults) -> States
+    requires { ⌜ n ≤ 64 ⌝ }
+    ensures { λ r. ⌜ rowOf n r ≡ theCycle (record { nodes = n }) f (rowOf n s) ⌝ }
+{
+    let w = rule_one(
+        n,
+        Roles {
+            members: s.members,
+            joining: s.joining,
+            no_quorum: s.no_quorum,
+            outvoted: s.outvoted,
+        },
+        f.stop,
+        f.start,
+    );
+    let numbers = s.numbers;
+    let sets = s.sets;
+    let bases = s.bases;
+    let unheard = f.heartbeat_missed;
+    let missed = f.vote_missed;
+    let views = views_of(
+        n,
+        &sets,
+        sets::difference(w.members, f.heartbeat_lost),
+        sets::difference(w.joining, f.heartbeat_lost),
+        &unheard,
+    );
+    let same = groups_of(n, &numbers, &sets, &bases, &views, w.members);
+    let after = decisions(
+        n,
+        &numbers,
+        &sets,
+        &bases,
+        &views,
+        &same,
+        w,
+        sets::difference(w.members, f.vote_lost),
+        &missed,
+    );
+    after
+}
