@@ -1,5 +1,5 @@
 /*
- * gm.h: proved group membership for a FlexRay cluster of 2 to 64 nodes, the node end.
+ * gm.h: proved group membership for a FlexRay cluster of 2 to 64 nodes: the node end, and runs over a fault table.
  *
  * Every entry answers 0, or the number of its refusal (GM_REFUSED_..). A refusal changes nothing: every buffer and every result is as it came in. Of
  * several refusals the lowest is given. No entry allocates, blocks, keeps anything between calls, or reads or writes outside the buffers that it is
@@ -16,6 +16,8 @@
  *   4. gm_send_vote for each channel; the host sends the frame if there is one
  *   5. gm_receive_vote for every other node, into the vote buffer and `arrived`
  *   6. gm_decide
+ *
+ * gm_cycle, gm_run and gm_run_frames work on a row: the states of all n nodes, one after the other, node q at byte 24 q.
  */
 #ifndef GM_H
 #define GM_H
@@ -46,8 +48,8 @@ extern "C" {
 /* refusals: of the caller's numbers and buffers */
 #define GM_REFUSED_COUNT 1      /* n outside 2 to 64 */
 #define GM_REFUSED_NUMBER 2     /* a node not below n, a cycle count above 63, a channel above 1; to be written: join, sync or startup above 1, startup without sync */
-#define GM_REFUSED_LENGTH 3     /* a buffer of another length than its entry names */
-#define GM_REFUSED_STATE 4      /* a state that is not well formed */
+#define GM_REFUSED_LENGTH 3     /* a buffer of another length than its entry names, or a row not of n states */
+#define GM_REFUSED_STATE 4      /* a state that is not well formed, or in a row a state q that is not node q of n */
 /* of a frame */
 #define GM_REFUSED_FRAME_LENGTH 5 /* fewer than 8 bytes, or not 8 plus twice the length field */
 #define GM_REFUSED_HEADER_CHECK 6
@@ -55,15 +57,18 @@ extern "C" {
 #define GM_REFUSED_NULL_FRAME 8
 #define GM_REFUSED_NOT_DUE 9    /* another frame number, cycle count, payload length, indicator or reserved bit than due */
 #define GM_REFUSED_CONTENT 10   /* heartbeat bits that must be 0; a vote whose set or view lacks the sender, whose base lacks part of the set, or with a bit at n or above */
-/* of a founding set */
-#define GM_REFUSED_FOUNDING 13  /* empty, or with a bit at n or above */
+/* of a table or a record of it */
+#define GM_REFUSED_CUT 11       /* it ends inside a record, or is empty */
+#define GM_REFUSED_KIND 12      /* a wrong mark or kind, a first record not of kind 1, a later one of kind 1 */
+#define GM_REFUSED_LIMIT 13     /* a founding set that is empty or has a bit at n or above; in a record, any bit, receiver, count or entry beyond its limit */
 
-/* no entry uses more stack, in bytes: 2144 as measured (make stack), with some to spare */
+/* no entry on one node, and none on a row, uses more stack, in bytes: 2232 and 37640 as measured (make stack), with some to spare */
 #define GM_STACK_BYTES 2560
+#define GM_ROW_STACK_BYTES 40960
 
 /*
  * Puts node `node` of `n` at the beginning, for the founding set `founding`: a member with group number 0 if it is in the set, else out.
- * state: GM_STATE_BYTES. Refusals: COUNT, NUMBER, LENGTH, FOUNDING.
+ * state: GM_STATE_BYTES. Refusals: COUNT, NUMBER, LENGTH, LIMIT.
  */
 uint32_t gm_begin(uint32_t n, uint32_t node, uint64_t founding, uint8_t *state, size_t state_len);
 
@@ -144,6 +149,23 @@ uint32_t gm_receive_vote(uint32_t n, uint32_t node, uint32_t cycle, const uint8_
  */
 uint32_t gm_decide(uint8_t *state, size_t state_len, uint64_t heard0, uint64_t heard1, const uint8_t *votes, size_t votes_len,
                    uint64_t arrived);
+
+/*
+ * One cycle of all n nodes under the faults of one record of kind 2, on the row as it is lent.
+ * row: n times GM_STATE_BYTES, record: exactly one record. Refusals: COUNT, LENGTH, STATE, CUT, KIND, LIMIT.
+ */
+uint32_t gm_cycle(uint32_t n, uint8_t *row, size_t row_len, const uint8_t *record, size_t record_len);
+
+/*
+ * A table's run: sets the row to the beginning of the table and runs its cycles. The whole table is looked at before the row changes.
+ * row: as many times GM_STATE_BYTES as the table has nodes, in any state; table: of any length. Refusals: CUT, KIND, COUNT, LENGTH, LIMIT, record by record.
+ */
+uint32_t gm_run(uint8_t *row, size_t row_len, const uint8_t *table, size_t table_len);
+
+/*
+ * The same run through frames: in every cycle each node writes its frames for both channels, and reads those of the others. It leaves what gm_run leaves.
+ */
+uint32_t gm_run_frames(uint8_t *row, size_t row_len, const uint8_t *table, size_t table_len);
 
 #ifdef __cplusplus
 }

@@ -14,7 +14,7 @@ exported=$(nm --defined-only "$archive" | awk '$2 == "T" { print $3 }' | sort)
 # what the compiler calls by itself
 needed=$(nm -u "$archive" | awk '$1 == "U" { print $2 }' | sort -u | tr '\n' ' ')
 for symbol in $needed; do
-    case $symbol in memset) ;; *) fail "undefined symbol $symbol" ;; esac
+    case $symbol in memset | memcpy) ;; *) fail "undefined symbol $symbol" ;; esac
 done
 writable=$(objdump -h "$archive" | awk '$2 ~ /^\.(data|bss|tdata|tbss)/ && $3 !~ /^0+$/ { print $2 }')
 [ -z "$writable" ] || fail "writable data: $writable"
@@ -28,7 +28,8 @@ g++ -Wall -Wextra -Werror -pedantic -Iinclude "$build/cpp.cc" "$archive" -o "$bu
 "$build/cpp" || fail "the C++ caller got another answer"
 
 gcc -std=gnu99 -Wall -Wextra -Werror -O2 -Iinclude tests/stack.c "$archive" -pthread -o "$build/stack"
-deepest=$("$build/stack")
-stated=$(awk '$2 == "GM_STACK_BYTES" { print $3 }' include/gm.h)
-[ "$deepest" -le "$stated" ] || fail "an entry used $deepest bytes of stack, the header says $stated"
-echo "archive: $called entries, needs ${needed:-nothing}, no writable data, deepest stack $deepest bytes"
+read -r node row <<<"$("$build/stack")"
+stated() { awk -v name="$1" '$2 == name { print $3 }' include/gm.h; }
+[ "$node" -le "$(stated GM_STACK_BYTES)" ] || fail "an entry on a node used $node bytes of stack, more than the header says"
+[ "$row" -le "$(stated GM_ROW_STACK_BYTES)" ] || fail "an entry on a row used $row bytes of stack, more than the header says"
+echo "archive: $called entries, needs ${needed:-nothing}, no writable data, deepest stack $node bytes on a node, $row on a row"

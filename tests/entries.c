@@ -34,7 +34,7 @@ static void states(void)
 {
     expect("gm_begin", gm_begin(5, 1, 0x1f, state, sizeof state), 0);
     memcpy(before, state, sizeof state);
-    expect("gm_begin", gm_begin(5, 1, 0x3f, state, sizeof state), GM_REFUSED_FOUNDING);
+    expect("gm_begin", gm_begin(5, 1, 0x3f, state, sizeof state), GM_REFUSED_LIMIT);
     expect("gm_begin", gm_begin(5, 5, 0x1f, state, sizeof state), GM_REFUSED_NUMBER);
     expect("gm_begin", gm_begin(65, 70, 0, state, 3), GM_REFUSED_COUNT);
     unchanged("gm_begin", before, state, sizeof state);
@@ -82,11 +82,53 @@ static void views_and_votes(void)
         exit(1);
 }
 
+/* a clean cycle of kind 2, and the table of three nodes whose only cycle it is */
+static uint8_t table[48] = {0x47, 0x4D, 1, 3, 0, 0, 0, 0, 0, 0, 0, 7, 0x47, 0x4D, 2};
+static uint8_t *const cycle = table + 12;
+enum { CYCLE = 36, STOP_LOWEST = 10 };
+
+/* P3, and P10: the number after 4294967295 is 0 */
+static void stop_node_2(uint8_t group, uint8_t number_after)
+{
+    uint8_t row[3 * GM_STATE_BYTES];
+    for (uint32_t q = 0; q < 3; q++) {
+        gm_begin(3, q, 7, row + q * GM_STATE_BYTES, GM_STATE_BYTES);
+        memset(row + q * GM_STATE_BYTES + 4, group, 4);
+    }
+    cycle[STOP_LOWEST] = 4;
+    expect("gm_cycle", gm_cycle(3, row, sizeof row, cycle, CYCLE), 0);
+    cycle[STOP_LOWEST] = 0;
+    expect("group number", row[7] != number_after || row[4] != 0 || row[15] != 3 || row[2 * GM_STATE_BYTES] != 0, 0);
+    entries -= 2;
+}
+
+static void rows(void)
+{
+    uint8_t row[3 * GM_STATE_BYTES], framed[sizeof row];
+    memset(row, 0xA5, sizeof row);
+    memcpy(framed, row, sizeof row);
+    expect("gm_run", gm_run(row, sizeof row, table, sizeof table - 1), GM_REFUSED_CUT);
+    expect("gm_run", gm_run(row, sizeof row - GM_STATE_BYTES, table, sizeof table), GM_REFUSED_LENGTH);
+    expect("gm_run_frames", gm_run_frames(row, sizeof row, table, 1), GM_REFUSED_CUT);
+    expect("gm_cycle", gm_cycle(3, row, sizeof row, cycle, CYCLE), GM_REFUSED_STATE);
+    unchanged("gm_run", framed, row, sizeof row);
+    expect("gm_run", gm_run(row, sizeof row, table, sizeof table), 0);
+    expect("gm_run_frames", gm_run_frames(framed, sizeof framed, table, sizeof table), 0);
+    unchanged("gm_run_frames", framed, row, sizeof row);
+    expect("gm_cycle", gm_cycle(3, row, sizeof row, cycle, CYCLE), 0);
+    expect("gm_cycle", gm_cycle(3, row, sizeof row, table, CYCLE + 12), GM_REFUSED_LENGTH);
+    expect("gm_cycle", gm_cycle(3, row, sizeof row, table, CYCLE), GM_REFUSED_KIND);
+    unchanged("gm_cycle", framed, row, sizeof row);
+    stop_node_2(0, 1);
+    stop_node_2(0xFF, 0);
+}
+
 int main(void)
 {
     states();
     heartbeats();
     views_and_votes();
+    rows();
     expect("gm_decide", gm_decide(state, sizeof state, 0x1d, 0, votes, sizeof votes, 0), 0);
     expect("gm_decide", gm_decide(state, sizeof state, 0x1d, 0, votes, sizeof votes - 1, 0), GM_REFUSED_LENGTH);
     printf("%u\n", entries);

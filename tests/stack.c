@@ -1,6 +1,6 @@
 /*
  * Measures the deepest stack use of an entry: a thread runs each entry on a stack that was painted, and looks how far down the paint is gone.
- * Prints the deepest figure in bytes.
+ * Prints two figures in bytes: the deepest of the entries on one node, and of those on a row.
  */
 #include "gm.h"
 
@@ -9,12 +9,24 @@
 #include <stdlib.h>
 #include <string.h>
 
-enum { STACK = 1 << 18, PAINT = 0xA5, MARGIN = 256 };
+enum { STACK = 1 << 18, PAINT = 0xA5, MARGIN = 256, NODE_CALLS = 15, CALLS = 18 };
 
 static uint8_t *stack;
 static uint8_t state[GM_STATE_BYTES], joiner[GM_STATE_BYTES], votes[GM_VOTES_BYTES], beat[GM_HEARTBEAT_BYTES], frame[GM_VOTE_FRAME_BYTES];
 static uint8_t payload[GM_VOTE_BYTES];
+static uint8_t row[64 * GM_STATE_BYTES];
 static size_t deepest;
+
+/* 64 nodes, all founders but node 63; in the first cycle it starts and node 0 stops, then two clean cycles */
+static uint8_t table[12 + 3 * 36] = {0x47, 0x4D, 1, 64, 0x7F, 0xFF, 0xFF, 0xFF, 0xFF, 0xFF, 0xFF, 0xFF};
+
+static void fill_table(void)
+{
+    for (unsigned k = 0; k < 3; k++)
+        memcpy(table + 12 + 36 * k, "GM\2", 3);
+    table[12 + 10] = 1;
+    table[12 + 11] = 0x80;
+}
 
 static void run_entry(unsigned which)
 {
@@ -37,6 +49,9 @@ static void run_entry(unsigned which)
     case 12: gm_receive_vote(64, 3, 5, frame, sizeof frame, frame, sizeof frame, votes, sizeof votes, &mask); break;
     case 13: gm_decide(joiner, sizeof joiner, all, 0, votes, sizeof votes, all); break;
     case 14: gm_decide(state, sizeof state, all, 0, votes, sizeof votes, all); break;
+    case 15: gm_run(row, sizeof row, table, sizeof table); break;
+    case 16: gm_run_frames(row, sizeof row, table, sizeof table); break;
+    case 17: gm_cycle(64, row, sizeof row, table + 12, 36); break;
     default: exit(1);
     }
 }
@@ -60,8 +75,13 @@ int main(void)
     pthread_attr_t attr;
     if (posix_memalign((void **)&stack, 4096, STACK) != 0 || pthread_attr_init(&attr) != 0 || pthread_attr_setstack(&attr, stack, STACK) != 0)
         return 1;
-    for (unsigned which = 0; which < 15; which++) {
+    fill_table();
+    for (unsigned which = 0; which < CALLS; which++) {
         pthread_t t;
+        if (which == NODE_CALLS) {
+            printf("%zu ", deepest);
+            deepest = 0;
+        }
         if (pthread_create(&t, &attr, measure, &which) != 0 || pthread_join(t, NULL) != 0)
             return 1;
     }

@@ -20,7 +20,7 @@ use Rattle.agreement.proofs.Invariant.{Agreed, at-first, next, lately-i
 
 -- ---- a list of cycles and then another
 
-after-append : (C : Config) (k : Cluster) (cs ds : List Faults) → after C k (cs ++ ds) ≡ after C (after C k cs) ds
+pub after-append : (C : Config) (k : Cluster) (cs ds : List Faults) → after C k (cs ++ ds) ≡ after C (after C k cs) ds
 unfolding after
 after-append C k [] ds = refl
 after-append C k (c ∷ cs) ds = after-append C (step C k c) cs ds

@@ -1,4 +1,4 @@
-mod Arrays
+pub mod Arrays
 mod Tallies
-mod Deciding
-mod Whole
+pub mod Deciding
+pub mod Whole

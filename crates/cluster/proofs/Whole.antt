@@ -27,7 +27,7 @@ use Rattle.cluster.specs.States.{groupAt, stateAt, rowOf}
 use Rattle.cluster.specs.Grouped.{rolesAfter, viewAt, outAt, decidedAt}
 
 -- equal entries, equal rows
-tabulate-ext {ℓ} : {A : Type ℓ} (n : ℕ) (f g : ℕ → A) → ((q : ℕ) → q < n → f q ≡ g q) → tabulate n f ≡ tabulate n g
+pub tabulate-ext {ℓ} : {A : Type ℓ} (n : ℕ) (f g : ℕ → A) → ((q : ℕ) → q < n → f q ≡ g q) → tabulate n f ≡ tabulate n g
 unfolding tabulate
 tabulate-ext zero f g e = refl
 tabulate-ext {A = A} (suc n) f g e = ap₂ (λ (x : A) (l : List A). x ∷ l) (e 0 (omega arith)) (tabulate-ext n (λ q. f (suc q)) (λ q. g (suc q)) (λ q h. e (suc q) (up q h)))
@@ -75,7 +75,7 @@ rule-roles stop start m j u v g = go stop
     go false = rw (and-yes m, and-yes j, and-yes u, and-yes v) (runs start m j u v)
 
 -- who sends what, what each votes and decides, by roles
-member-role : (m j u v : Bool) (g : Group) → sendsMember (byRole m j u v g) ≡ m
+pub member-role : (m j u v : Bool) (g : Group) → sendsMember (byRole m j u v g) ≡ m
 member-role true j u v g = refl
 member-role false true u v g = refl
 member-role false false true v g = refl
@@ -149,11 +149,11 @@ module _ (n : ℕ) (s : States) (f : Faults) where
       ∙ has-diff q (f .start ∪ (s .joining ∖ f .stop)) (below n (s .members ∖ f .stop))
       ∙ ap (λ (x : Bool). x && not (has q (below n (s .members ∖ f .stop)))) (has-union q (f .start) (s .joining ∖ f .stop) ∙ ap (λ (x : Bool). has q (f .start) || x) (has-diff q (s .joining) (f .stop)))
 
-  members-high : (q : ℕ) → ltb q n ≡ false → has q (after .members) ≡ false
+  pub members-high : (q : ℕ) → ltb q n ≡ false → has q (after .members) ≡ false
   unfolding rolesAfter
   members-high q h = has-below q n (s .members ∖ f .stop) ∙ ap (λ (x : Bool). x && has q (s .members ∖ f .stop)) h
 
-  joining-high : (q : ℕ) → ltb q n ≡ false → has q (after .joining) ≡ false
+  pub joining-high : (q : ℕ) → ltb q n ≡ false → has q (after .joining) ≡ false
   unfolding rolesAfter
   joining-high q h =
       has-below q n ((f .start ∪ (s .joining ∖ f .stop)) ∖ below n (s .members ∖ f .stop)) ∙ ap (λ (x : Bool). x && has q ((f .start ∪ (s .joining ∖ f .stop)) ∖ below n (s .members ∖ f .stop))) h
@@ -171,10 +171,10 @@ module _ (n : ℕ) (s : States) (f : Faults) where
       ∙ rule-roles (has q (f .stop)) (has q (f .start)) (has q (s .members)) (has q (s .joining)) (has q (s .«no_quorum»)) (has q (s .outvoted)) (groupAt s q)
       ∙ sym (rw (joining-after q h, members-after q h, out-after q .0, out-after q .1))
 
-  sends-member : (q : ℕ) → q < n → sendsMember (at row q) ≡ has q (after .members)
+  pub sends-member : (q : ℕ) → q < n → sendsMember (at row q) ≡ has q (after .members)
   sends-member q h = ap sendsMember (after-at q h) ∙ member-role (has q (after .members)) (has q (after .joining)) (has q (after .«no_quorum»)) (has q (after .outvoted)) (groupAt s q)
 
-  sends-join : (q : ℕ) → q < n → sendsJoin (at row q) ≡ has q (after .joining)
+  pub sends-join : (q : ℕ) → q < n → sendsJoin (at row q) ≡ has q (after .joining)
   sends-join q h =
       ap sendsJoin (after-at q h) ∙ ap (λ (x : Bool). sendsJoin (byRole (has q (after .members)) x (has q (after .«no_quorum»)) (has q (after .outvoted)) (groupAt s q))) (joining-after q h)
       ∙ join-role (has q (after .members)) (has q (f .start) || (has q (s .joining) && not (has q (f .stop)))) (has q (after .«no_quorum»)) (has q (after .outvoted)) (groupAt s q) ∙ sym (joining-after q h)

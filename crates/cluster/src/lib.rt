@@ -6,7 +6,7 @@ ghost use lib.ListN.{getD};
 ghost use Rattle.sets.specs.Sets.{has, _∩_, _∖_, those, any};
 ghost use Rattle.rules.specs.OneCycle.{memberDecides, joinerDecides};
 ghost use Rattle.rules.specs.Ballots.{voteAt, ballotsOf, fitsAt};
-ghost use Rattle.rules.specs.Faults.{cycle as theCycle};
+ghost use Rattle.rules.specs.Faults.{founding as theFounding, cycle as theCycle};
 ghost use Rattle.cluster.specs.States.{stateAt, rowOf};
 ghost use Rattle.cluster.specs.Grouped.{
   rolesAfter,
@@ -41,16 +41,32 @@ pub struct States {
     pub bases: [u64; 64],
 }
 
+// All nodes at the beginning.
+pub fn begin(n: usize, founding: u64) -> States
+    requires { ⌜ n ≤ 64 ⌝ }
+    ensures { λ r. ⌜ rowOf n r ≡ theFounding n 0 founding ⌝ }
+{
+    States {
+        members: founding,
+        joining: 0,
+        no_quorum: 0,
+        outvoted: 0,
+        numbers: [0u32; 64],
+        sets: [founding; 64],
+        bases: [founding; 64],
+    }
+}
+
 // The masks of the states alone: rule 1 leaves the groups as they are.
-struct Roles {
-    members: u64,
-    joining: u64,
-    no_quorum: u64,
-    outvoted: u64,
+pub struct Roles {
+    pub members: u64,
+    pub joining: u64,
+    pub no_quorum: u64,
+    pub outvoted: u64,
 }
 
 // Rule 1 of all nodes: the stop comes before the start.
-fn rule_one(n: usize, w: Roles, stop: u64, start: u64) -> Roles
+pub fn rule_one(n: usize, w: Roles, stop: u64, start: u64) -> Roles
     requires { ⌜ n ≤ 64 ⌝ }
     ensures { λ r. ⌜ r ≡ rolesAfter n w stop start ⌝ }
 {
@@ -337,7 +353,7 @@ fn joiner_decides(
     }
 }
 
-fn out_at(w: Roles, q: usize) -> State
+pub fn out_at(w: Roles, q: usize) -> State
     requires { ⌜ q < 64 ⌝ }
     ensures { λ r. ⌜ r ≡ outAt w q ⌝ }
 {
@@ -376,7 +392,7 @@ fn decide(
     }
 }
 
-fn held_by(s: State) -> Group
+pub fn held_by(s: State) -> Group
     ensures { λ r. ⌜ r ≡ heldBy s ⌝ }
 {
     match s {
@@ -423,7 +439,7 @@ fn is_outvoted(s: State) -> bool
 }
 
 // The masks with the state d of node q added.
-fn with_state(w: Roles, q: usize, d: State) -> Roles
+pub fn with_state(w: Roles, q: usize, d: State) -> Roles
     requires { ⌜ q < 64 ⌝ }
     ensures { λ r. ⌜ r ≡ withState w q d ⌝ }
 {

@@ -374,22 +374,15 @@ pub fn receive_heartbeat(a: HeartbeatRead, b: HeartbeatRead) -> HeartbeatReceive
     }
 }
 
-// Whether all four numbers of two votes are equal.
+// Whether two votes say the same.
 pub fn same_vote(v: Vote, w: Vote) -> bool
     ensures { λ r. ⌜ r ≡ sameVote v w ⌝ }
 {
-    let g = v.group;
-    let h = w.group;
-    if g.number != h.number {
-        return false;
+    if rules::same_group(v.group, w.group) {
+        v.view == w.view
+    } else {
+        false
     }
-    if g.set != h.set {
-        return false;
-    }
-    if g.base != h.base {
-        return false;
-    }
-    v.view == w.view
 }
 
 pub fn receive_vote(a: VoteRead, b: VoteRead) -> VoteReceived

@@ -1,7 +1,251 @@
-// The node end for a C host: numbers and byte buffers only. Every entry answers 0 or the number of its refusal, and a refusal changes nothing.
+// The entries for a C host: numbers and byte buffers only. Every entry answers 0 or the number of its refusal, and a refusal changes nothing.
 // include/gm.h declares the entries; the contract of each gives its status and every byte that it is lent, for all inputs.
-pub mod decide;
-pub mod heartbeats;
-mod lent;
-pub mod states;
-pub mod votes;
+ghost use mathlib.Core.Path.{_≡_};
+ghost use Rattle.state.specs.Image.{decoded};
+ghost use Rattle.lent.specs.Refusals.{imageStatus};
+ghost use Rattle.entry_states.specs.States.{beginStatus, beginLeft, stopLeft, startLeft};
+ghost use Rattle.entry_heartbeats.specs.Heartbeats.{
+  writeHeartbeatStatus,
+  writeHeartbeatLeft,
+  sendHeartbeatStatus,
+  sendHeartbeatLeft,
+  sendHeartbeatSent,
+  readHeartbeatStatus,
+  readHeartbeatJoin,
+  receiveHeartbeatStatus,
+  receiveHeartbeatHeard,
+};
+ghost use Rattle.entry_votes.specs.Votes.{
+  viewFrom,
+  voteOf,
+  writeVoteStatus,
+  writeVoteLeft,
+  sendVoteStatus,
+  sendVoteLeft,
+  sendVoteSent,
+  readVoteStatus,
+  readVoteLeft,
+  receiveVoteStatus,
+  receiveVoteLeft,
+  receiveVoteArrived,
+};
+ghost use Rattle.entry_decide.specs.Decide.{decideStatus, decideLeft};
+ghost use Rattle.entry_row.specs.Images.{imagesStatus, imagesLeft};
+use calls::Task;
+
+// Puts a node at the beginning.
+#[no_mangle]
+pub extern "C" fn gm_begin(n: u32, node: u32, founding: u64, state: &mut [u8]) -> u32
+    ensures { λ r. ⌜ r ≡ beginStatus n node founding (now (state .entry)) ⌝ }
+    ensures { λ _. ⌜ now (state .exit) ≡ beginLeft n node founding (now (state .entry)) ⌝ }
+{
+    entry_states::begin(n, node, founding, state)
+}
+
+// Rule 1, stop.
+#[no_mangle]
+pub extern "C" fn gm_stop(state: &mut [u8]) -> u32
+    ensures { λ r. ⌜ r ≡ imageStatus (now (state .entry)) ⌝ }
+    ensures { λ _. ⌜ now (state .exit) ≡ stopLeft (now (state .entry)) ⌝ }
+{
+    entry_states::stop(state)
+}
+
+// Rule 1, start.
+#[no_mangle]
+pub extern "C" fn gm_start(state: &mut [u8]) -> u32
+    ensures { λ r. ⌜ r ≡ imageStatus (now (state .entry)) ⌝ }
+    ensures { λ _. ⌜ now (state .exit) ≡ startLeft (now (state .entry)) ⌝ }
+{
+    entry_states::start(state)
+}
+
+// A heartbeat from numbers, into 10 bytes.
+#[no_mangle]
+pub extern "C" fn gm_write_heartbeat(
+    n: u32,
+    node: u32,
+    join: u32,
+    sync: u32,
+    startup: u32,
+    cycle: u32,
+    channel: u32,
+    frame: &mut [u8],
+) -> u32
+    ensures { λ r. ⌜ r ≡ writeHeartbeatStatus n node join sync startup cycle channel (now (frame .entry)) ⌝ }
+    ensures { λ _. ⌜ now (frame .exit) ≡ writeHeartbeatLeft n node join sync startup cycle channel (now (frame .entry)) ⌝ }
+{
+    entry_heartbeats::write(n, node, join, sync, startup, cycle, channel, frame)
+}
+
+// Rule 2: the heartbeat that a node sends, if it sends one.
+#[no_mangle]
+pub extern "C" fn gm_send_heartbeat(
+    state: &[u8],
+    sync: u32,
+    startup: u32,
+    cycle: u32,
+    channel: u32,
+    frame: &mut [u8],
+    sent: &mut u32,
+) -> u32
+    ensures { λ r. ⌜ r ≡ sendHeartbeatStatus (now (state .entry)) sync startup cycle channel (now (frame .entry)) ⌝ }
+    ensures { λ _. ⌜ now (frame .exit) ≡ sendHeartbeatLeft (now (state .entry)) sync startup cycle channel (now (frame .entry)) ⌝ }
+    ensures { λ _. ⌜ now (sent .exit) ≡ sendHeartbeatSent (now (state .entry)) sync startup cycle channel (now (frame .entry)) (now (sent .entry)) ⌝ }
+{
+    entry_heartbeats::send(state, sync, startup, cycle, channel, frame, sent)
+}
+
+// One copy of a node's heartbeat: its join bit.
+#[no_mangle]
+pub extern "C" fn gm_read_heartbeat(
+    n: u32,
+    node: u32,
+    cycle: u32,
+    channel: u32,
+    frame: &[u8],
+    join: &mut u32,
+) -> u32
+    ensures { λ r. ⌜ r ≡ readHeartbeatStatus n node cycle channel (now (frame .entry)) ⌝ }
+    ensures { λ _. ⌜ now (join .exit) ≡ readHeartbeatJoin n node cycle channel (now (frame .entry)) (now (join .entry)) ⌝ }
+{
+    entry_heartbeats::read(n, node, cycle, channel, frame, join)
+}
+
+// Both copies of a node's heartbeat: missed, a member's or a joining node's.
+#[no_mangle]
+pub extern "C" fn gm_receive_heartbeat(
+    n: u32,
+    node: u32,
+    cycle: u32,
+    a: &[u8],
+    b: &[u8],
+    heard: &mut u32,
+) -> u32
+    ensures { λ r. ⌜ r ≡ receiveHeartbeatStatus n node cycle ⌝ }
+    ensures { λ _. ⌜ now (heard .exit) ≡ receiveHeartbeatHeard n node cycle (now (a .entry)) (now (b .entry)) (now (heard .entry)) ⌝ }
+{
+    entry_heartbeats::receive(n, node, cycle, a, b, heard)
+}
+
+// Rule 3: the view of a node, 0 if it is no member.
+#[no_mangle]
+pub extern "C" fn gm_view(state: &[u8], heard0: u64, heard1: u64, view: &mut u64) -> u32
+    ensures { λ r. ⌜ r ≡ imageStatus (now (state .entry)) ⌝ }
+    ensures { λ _. ⌜ now (view .exit) ≡ viewFrom (decoded (now (state .entry))) heard0 heard1 (now (view .entry)) ⌝ }
+{
+    entry_votes::view(state, heard0, heard1, view)
+}
+
+// A vote from numbers, into 36 bytes.
+#[no_mangle]
+pub extern "C" fn gm_write_vote(
+    n: u32,
+    node: u32,
+    number: u32,
+    set: u64,
+    base: u64,
+    view: u64,
+    cycle: u32,
+    channel: u32,
+    frame: &mut [u8],
+) -> u32
+    ensures { λ r. ⌜ r ≡ writeVoteStatus n node (voteOf number set base view) cycle channel (now (frame .entry)) ⌝ }
+    ensures { λ _. ⌜ now (frame .exit) ≡ writeVoteLeft n node (voteOf number set base view) cycle channel (now (frame .entry)) ⌝ }
+{
+    entry_votes::write(n, node, number, set, base, view, cycle, channel, frame)
+}
+
+// Rule 4: the vote that a node sends, if it sends one.
+#[no_mangle]
+pub extern "C" fn gm_send_vote(
+    state: &[u8],
+    heard0: u64,
+    heard1: u64,
+    cycle: u32,
+    channel: u32,
+    frame: &mut [u8],
+    sent: &mut u32,
+) -> u32
+    ensures { λ r. ⌜ r ≡ sendVoteStatus (now (state .entry)) cycle channel (now (frame .entry)) ⌝ }
+    ensures { λ _. ⌜ now (frame .exit) ≡ sendVoteLeft (now (state .entry)) heard0 heard1 cycle channel (now (frame .entry)) ⌝ }
+    ensures { λ _. ⌜ now (sent .exit) ≡ sendVoteSent (now (state .entry)) cycle channel (now (frame .entry)) (now (sent .entry)) ⌝ }
+{
+    entry_votes::send(state, heard0, heard1, cycle, channel, frame, sent)
+}
+
+// One copy of a node's vote: its 28 bytes.
+#[no_mangle]
+pub extern "C" fn gm_read_vote(
+    n: u32,
+    node: u32,
+    cycle: u32,
+    channel: u32,
+    frame: &[u8],
+    vote: &mut [u8],
+) -> u32
+    ensures { λ r. ⌜ r ≡ readVoteStatus n node cycle channel (now (frame .entry)) (now (vote .entry)) ⌝ }
+    ensures { λ _. ⌜ now (vote .exit) ≡ readVoteLeft n node cycle channel (now (frame .entry)) (now (vote .entry)) ⌝ }
+{
+    entry_votes::read(n, node, cycle, channel, frame, vote)
+}
+
+// Both copies of a node's vote: into its slot of the vote buffer, and its bit of the mask.
+#[no_mangle]
+pub extern "C" fn gm_receive_vote(
+    n: u32,
+    node: u32,
+    cycle: u32,
+    a: &[u8],
+    b: &[u8],
+    votes: &mut [u8],
+    arrived: &mut u64,
+) -> u32
+    ensures { λ r. ⌜ r ≡ receiveVoteStatus n node cycle (now (votes .entry)) ⌝ }
+    ensures { λ _. ⌜ now (votes .exit) ≡ receiveVoteLeft n node cycle (now (a .entry)) (now (b .entry)) (now (votes .entry)) ⌝ }
+    ensures { λ _. ⌜ now (arrived .exit) ≡ receiveVoteArrived n node cycle (now (a .entry)) (now (b .entry)) (now (votes .entry)) (now (arrived .entry)) ⌝ }
+{
+    entry_votes::receive(n, node, cycle, a, b, votes, arrived)
+}
+
+// Rules 3 to 6: the next state, from what the node heard and the votes that arrived.
+#[no_mangle]
+pub extern "C" fn gm_decide(
+    state: &mut [u8],
+    heard0: u64,
+    heard1: u64,
+    votes: &[u8],
+    arrived: u64,
+) -> u32
+    ensures { λ r. ⌜ r ≡ decideStatus (now (state .entry)) (now (votes .entry)) ⌝ }
+    ensures { λ _. ⌜ now (state .exit) ≡ decideLeft (now (state .entry)) heard0 heard1 (now (votes .entry)) arrived ⌝ }
+{
+    entry_decide::decide(state, heard0, heard1, votes, arrived)
+}
+
+// One cycle on a row of n states.
+#[no_mangle]
+pub extern "C" fn gm_cycle(n: u32, row: &mut [u8], cycle: &[u8]) -> u32
+    ensures { λ r. ⌜ r ≡ imagesStatus Task.Cycle n (now (row .entry)) (now (cycle .entry)) ⌝ }
+    ensures { λ _. ⌜ now (row .exit) ≡ imagesLeft Task.Cycle n (now (row .entry)) (now (cycle .entry)) ⌝ }
+{
+    entry_row::call(Task::Cycle, n, row, cycle)
+}
+
+// A table's run on a row; the table has N.
+#[no_mangle]
+pub extern "C" fn gm_run(row: &mut [u8], table: &[u8]) -> u32
+    ensures { λ r. ⌜ r ≡ imagesStatus Task.Run 0 (now (row .entry)) (now (table .entry)) ⌝ }
+    ensures { λ _. ⌜ now (row .exit) ≡ imagesLeft Task.Run 0 (now (row .entry)) (now (table .entry)) ⌝ }
+{
+    entry_row::call(Task::Run, 0, row, table)
+}
+
+// The same run through frames.
+#[no_mangle]
+pub extern "C" fn gm_run_frames(row: &mut [u8], table: &[u8]) -> u32
+    ensures { λ r. ⌜ r ≡ imagesStatus Task.FramedRun 0 (now (row .entry)) (now (table .entry)) ⌝ }
+    ensures { λ _. ⌜ now (row .exit) ≡ imagesLeft Task.FramedRun 0 (now (row .entry)) (now (table .entry)) ⌝ }
+{
+    entry_row::call(Task::FramedRun, 0, row, table)
+}

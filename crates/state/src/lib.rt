@@ -115,7 +115,8 @@ pub fn encode(n: Node) -> [u8; 24]
     }
 }
 
-fn place_formed(id: u8, n: u8) -> bool
+// Whether N is one that a cluster can have, and the node below it.
+pub fn place_formed(id: u8, n: u8) -> bool
     ensures { λ r. ⌜ r ≡ formedPlace id n ⌝ }
 {
     if n < 2 {
@@ -127,7 +128,8 @@ fn place_formed(id: u8, n: u8) -> bool
     id < n
 }
 
-fn sets_formed(id: u8, n: u8, m: u64, b: u64) -> bool
+// Whether a member may have these sets.
+pub fn sets_formed(id: u8, n: u8, m: u64, b: u64) -> bool
     requires { ⌜ (id < 64) × (n ≤ 64) ⌝ }
     ensures { λ r. ⌜ r ≡ formedSets id n m b ⌝ }
 {

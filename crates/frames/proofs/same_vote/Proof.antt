@@ -1,24 +1,20 @@
--- `frames::same_vote` meets its contract: each test is one of `sameVote`. Assumes nothing.
-use borrow.Author.Tests.{eq-eqb, ne-eqb}
-use Rattle.rules.specs.OneCycle.{sameGroup, sameVote}
+-- `frames::same_vote` meets its contract: `sameVote` by its two tests. Assumes nothing.
+use mathlib.Core.Path.{sym, _∙_}
+use Rattle.rules.specs.OneCycle.{sameVote}
+use borrow.Author.Needs.{needs}
 use Rattle.frames.proofs.same_vote.Statement.{statement}
 use Rattle.frames.proofs.same_vote.Tie as tie
 
+same-group-requires : tie.Need-same-group-requires
+same-group-requires c κs = search needs
+
 returns : tie.Need-returns
-unfolding sameGroup sameVote
-returns c = simp (ne-eqb _ _ (c .if1 .taken))
+unfolding sameVote
+returns c = simp (sym (c .before .before .before .same-group .ensures) ∙ c .before .before .if1 .taken)
 
 returns-2 : tie.Need-returns-2
-unfolding sameGroup sameVote
-returns-2 c = simp (eq-eqb _ _ (c .before .before .before .if1 .left), ne-eqb _ _ (c .if2 .taken))
-
-returns-3 : tie.Need-returns-3
-unfolding sameGroup sameVote
-returns-3 c = simp (eq-eqb _ _ (c .before .before .before .before .before .before .if1 .left), eq-eqb _ _ (c .before .before .before .if2 .left), ne-eqb _ _ (c .if3 .taken))
-
-returns-4 : tie.Need-returns-4
-unfolding sameGroup sameVote
-returns-4 c = simp (eq-eqb _ _ (c .before .before .before .before .before .before .before .before .if1 .left), eq-eqb _ _ (c .before .before .before .before .before .if2 .left), eq-eqb _ _ (c .before .before .if3 .left))
+unfolding sameVote
+returns-2 c = simp (sym (c .before .same-group .ensures) ∙ c .if1 .left)
 
 pub same-vote-spec : {M : Type 1} → statement M
-same-vote-spec = tie.close (tie.spec returns returns-2 returns-3 returns-4)
+same-vote-spec = tie.close (tie.spec same-group-requires returns returns-2)

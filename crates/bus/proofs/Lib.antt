@@ -1,0 +1,5 @@
+mod Carried
+mod Filled
+mod Hearing
+mod Counted
+mod Formed

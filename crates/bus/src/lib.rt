@@ -1,0 +1,512 @@
+// One cycle of all nodes run through frames: what a unit hears and counts is what it reads on the two channels.
+ghost use mathlib.Core.Path.{_≡_};
+ghost use mathlib.Core.Bool.{true, false, cond};
+ghost use Prim.Native.Nat.{ℕ, _^_, _<_, _≤_};
+ghost use lib.ListN.{length, getD};
+ghost use Rattle.sets.specs.Sets.{has, _∖_};
+ghost use Rattle.state.specs.State.{formedState};
+ghost use Rattle.rules.specs.OneCycle.{memberDecides, joinerDecides};
+ghost use Rattle.rules.specs.Ballots.{voteAt, ballotsOf};
+ghost use Rattle.rules.specs.Faults.{cycle as theCycle};
+ghost use Rattle.frames.specs.Written.{formedVote};
+ghost use Rattle.cluster.specs.States.{stateAt, rowOf};
+ghost use Rattle.cluster.specs.Grouped.{viewAt, decidedAt};
+ghost use Rattle.bus.specs.Channels.{
+  withFrame,
+  withSent,
+  channelOf,
+  heartbeatSent,
+  voteSent,
+  heartbeatRead,
+  isAlive,
+  isJoin,
+  aliveRead,
+  joinRead,
+  viewRead,
+  voteRead,
+  isWhole,
+  voteIn,
+  ballotsRead,
+  decidedRead,
+};
+use cluster::Roles;
+use cluster::States;
+use frames::HeartbeatReceived;
+use frames::VoteReceived;
+use rules::Faults;
+use rules::Vote;
+use state::Group;
+use state::State;
+
+// The heartbeats that a unit received: those with join 0 and those with join 1.
+struct Heard {
+    alive: u64,
+    joining: u64,
+}
+
+// The votes that a unit received, a slot for each sender, and the mask of the slots that hold one.
+struct Arrived {
+    present: u64,
+    numbers: [u32; 64],
+    sets: [u64; 64],
+    bases: [u64; 64],
+    views: [u64; 64],
+}
+
+// A channel with the frame x in the slot of node q.
+fn put(channel: [u8; 2304], q: usize, x: &[u8]) -> [u8; 2304]
+    requires { ⌜ (q < 64) × (length (now x) ≤ 36) ⌝ }
+    ensures { λ r. ⌜ r ≡ withFrame q (now (x .entry)) channel ⌝ }
+{
+    let mut r = channel;
+    let at = 36 * q;
+    let mut i = 0;
+    while i < x.len() {
+        r[at + i] = x[i];
+        i += 1;
+    }
+    r
+}
+
+// Rule 2: the heartbeat of node q, if it sends one.
+fn put_heartbeat(all: [u8; 2304], w: Roles, count: u32, channel: u32, q: usize) -> [u8; 2304]
+    requires { ⌜ (q < 64) × (count < 64) ⌝ }
+    ensures { λ r. ⌜ r ≡ withSent q (heartbeatSent w count channel q) all ⌝ }
+{
+    if sets::contains(w.members, q) {
+        put(
+            all,
+            q,
+            &frames::write_heartbeat(q as u32, 0, 0, 0, count, channel),
+        )
+    } else if sets::contains(w.joining, q) {
+        put(
+            all,
+            q,
+            &frames::write_heartbeat(q as u32, 1, 0, 0, count, channel),
+        )
+    } else {
+        all
+    }
+}
+
+fn heartbeats(n: usize, w: Roles, count: u32, channel: u32) -> [u8; 2304]
+    requires { ⌜ (n ≤ 64) × (count < 64) ⌝ }
+    ensures { λ r. ⌜ r ≡ channelOf n (heartbeatSent w count channel) ⌝ }
+{
+    let mut all = [0u8; 2304];
+    let mut q: usize = 0;
+    while q < n {
+        let next = put_heartbeat(all, w, count, channel, q);
+        all = next;
+        q += 1;
+    }
+    all
+}
+
+// How many bytes of a frame a unit finds: all, or none where the frame does not reach it.
+fn copy_length(reaches: bool, k: usize) -> usize
+    ensures { λ r. ⌜ r ≡ cond reaches k 0 ⌝ }
+    ensures { λ r. ⌜ r ≤ k ⌝ }
+{
+    if reaches { k } else { 0 }
+}
+
+// What a unit receives of the heartbeat of node p.
+fn read_heartbeat(count: u32, reach: u64, a: &[u8], b: &[u8], p: usize) -> HeartbeatReceived
+    requires { ⌜ p < 64 ⌝ }
+    requires { ⌜ (length (now a) ≡ 2304) × (length (now b) ≡ 2304) ⌝ }
+    ensures { λ r. ⌜ r ≡ heartbeatRead count reach (now (a .entry)) (now (b .entry)) p ⌝ }
+{
+    let at = 36 * p;
+    let end = at + copy_length(sets::contains(reach, p), 10);
+    let one = frames::read_heartbeat(p as u32, count, 0, &a[at..end]);
+    let other = frames::read_heartbeat(p as u32, count, 1, &b[at..end]);
+    frames::receive_heartbeat(one, other)
+}
+
+fn is_alive(r: HeartbeatReceived) -> bool
+    ensures { λ x. ⌜ x ≡ isAlive r ⌝ }
+{
+    match r {
+        HeartbeatReceived::Missed => false,
+        HeartbeatReceived::Alive => true,
+        HeartbeatReceived::Join => false,
+    }
+}
+
+fn is_join(r: HeartbeatReceived) -> bool
+    ensures { λ x. ⌜ x ≡ isJoin r ⌝ }
+{
+    match r {
+        HeartbeatReceived::Missed => false,
+        HeartbeatReceived::Alive => false,
+        HeartbeatReceived::Join => true,
+    }
+}
+
+// What a unit hears of all nodes.
+fn hear(n: usize, count: u32, reach: u64, a: &[u8], b: &[u8]) -> Heard
+    requires { ⌜ n ≤ 64 ⌝ }
+    requires { ⌜ (length (now a) ≡ 2304) × (length (now b) ≡ 2304) ⌝ }
+    ensures { λ r. ⌜ (r .alive ≡ aliveRead n count reach (now (a .entry)) (now (b .entry))) × (r .joining ≡ joinRead n count reach (now (a .entry)) (now (b .entry))) ⌝ }
+{
+    let mut alive: u64 = 0;
+    let mut joining: u64 = 0;
+    let mut p: usize = 0;
+    while p < n {
+        let r = read_heartbeat(count, reach, a, b, p);
+        alive = sets::include(alive, p, is_alive(r));
+        joining = sets::include(joining, p, is_join(r));
+        p += 1;
+    }
+    Heard { alive, joining }
+}
+
+// Rule 3 of all nodes. Views of nodes that are no members are made too, and not used.
+fn views_of(
+    n: usize,
+    count: u32,
+    sent: u64,
+    missed: &[u64; 64],
+    sets: &[u64; 64],
+    a: &[u8],
+    b: &[u8],
+) -> [u64; 64]
+    requires { ⌜ n ≤ 64 ⌝ }
+    requires { ⌜ (length (now a) ≡ 2304) × (length (now b) ≡ 2304) ⌝ }
+    ensures { λ r. ⌜ ((q : ℕ) → q < n → getD r q 0 ≡ viewRead n count (sent ∖ getD (now (missed .entry)) q 0) (now (a .entry)) (now (b .entry)) (getD (now (sets .entry)) q 0) q) ⌝ }
+{
+    let mut views = [0u64; 64];
+    let mut q: usize = 0;
+    while q < n {
+        let heard = hear(n, count, sets::difference(sent, missed[q]), a, b);
+        views[q] = rules::view(n, q, sets[q], heard.alive, heard.joining);
+        q += 1;
+    }
+    views
+}
+
+// Rules 2 and 3: all heartbeats go out on both channels, and each node reads what reaches it.
+fn heartbeat_phase(
+    n: usize,
+    count: u32,
+    w: Roles,
+    lost: u64,
+    missed: &[u64; 64],
+    sets: &[u64; 64],
+) -> [u64; 64]
+    requires { ⌜ (n ≤ 64) × (count < 64) ⌝ }
+    requires { ⌜ ((p : ℕ) → has p (w .joining) ≡ true → has p (w .members) ≡ false) ⌝ }
+    ensures { λ r. ⌜ ((q : ℕ) → q < n → getD r q 0 ≡ viewAt n (now (sets .entry)) (w .members ∖ lost) (w .joining ∖ lost) (now (missed .entry)) q) ⌝ }
+{
+    let a = heartbeats(n, w, count, 0);
+    let b = heartbeats(n, w, count, 1);
+    let sent = sets::difference(sets::union(w.members, w.joining), lost);
+    let views = views_of(n, count, sent, missed, sets, &a, &b);
+    views
+}
+
+// Rule 4: the vote of node q, if it casts one.
+fn put_vote(
+    all: [u8; 2304],
+    numbers: &[u32; 64],
+    sets: &[u64; 64],
+    bases: &[u64; 64],
+    views: &[u64; 64],
+    members: u64,
+    count: u32,
+    channel: u32,
+    q: usize,
+) -> [u8; 2304]
+    requires { ⌜ (q < 64) × (count < 64) ⌝ }
+    ensures { λ r. ⌜ r ≡ withSent q (voteSent (now (numbers .entry)) (now (sets .entry)) (now (bases .entry)) (now (views .entry)) members count channel q) all ⌝ }
+{
+    let v = rules::vote_at(numbers, sets, bases, views, q);
+    if sets::contains(members, q) {
+        put(all, q, &frames::write_vote(q as u32, v, count, channel))
+    } else {
+        all
+    }
+}
+
+fn votes(
+    n: usize,
+    numbers: &[u32; 64],
+    sets: &[u64; 64],
+    bases: &[u64; 64],
+    views: &[u64; 64],
+    members: u64,
+    count: u32,
+    channel: u32,
+) -> [u8; 2304]
+    requires { ⌜ (n ≤ 64) × (count < 64) ⌝ }
+    ensures { λ r. ⌜ r ≡ channelOf n (voteSent (now (numbers .entry)) (now (sets .entry)) (now (bases .entry)) (now (views .entry)) members count channel) ⌝ }
+{
+    let mut all = [0u8; 2304];
+    let mut q: usize = 0;
+    while q < n {
+        let next = put_vote(all, numbers, sets, bases, views, members, count, channel, q);
+        all = next;
+        q += 1;
+    }
+    all
+}
+
+// What a unit receives of the vote of node p.
+fn read_vote(n: usize, count: u32, reach: u64, a: &[u8], b: &[u8], p: usize) -> VoteReceived
+    requires { ⌜ (n ≤ 64) × (p < n) ⌝ }
+    requires { ⌜ (length (now a) ≡ 2304) × (length (now b) ≡ 2304) ⌝ }
+    ensures { λ r. ⌜ r ≡ voteRead n count reach (now (a .entry)) (now (b .entry)) p ⌝ }
+{
+    let at = 36 * p;
+    let end = at + copy_length(sets::contains(reach, p), 36);
+    let one = frames::read_vote(n, p as u32, count, 0, &a[at..end]);
+    let other = frames::read_vote(n, p as u32, count, 1, &b[at..end]);
+    frames::receive_vote(one, other)
+}
+
+fn is_whole(r: VoteReceived) -> bool
+    ensures { λ x. ⌜ x ≡ isWhole r ⌝ }
+{
+    match r {
+        VoteReceived::Missed => false,
+        VoteReceived::Whole(_) => true,
+    }
+}
+
+// The vote received, zeros if there is none.
+fn vote_in(r: VoteReceived) -> Vote
+    ensures { λ v. ⌜ v ≡ voteIn r ⌝ }
+{
+    match r {
+        VoteReceived::Missed => Vote {
+            group: Group {
+                number: 0,
+                set: 0,
+                base: 0,
+            },
+            view: 0,
+        },
+        VoteReceived::Whole(v) => v,
+    }
+}
+
+// What arrives at a unit of the votes of all nodes.
+fn arrive(n: usize, count: u32, reach: u64, a: &[u8], b: &[u8]) -> Arrived
+    requires { ⌜ n ≤ 64 ⌝ }
+    requires { ⌜ (length (now a) ≡ 2304) × (length (now b) ≡ 2304) ⌝ }
+    ensures { λ r. ⌜ ballotsOf (r .numbers) (r .sets) (r .bases) (r .views) (r .present) ≡ ballotsRead n count reach (now (a .entry)) (now (b .entry)) ⌝ }
+{
+    let mut present: u64 = 0;
+    let mut numbers = [0u32; 64];
+    let mut sets = [0u64; 64];
+    let mut bases = [0u64; 64];
+    let mut views = [0u64; 64];
+    let mut p: usize = 0;
+    while p < n {
+        let r = read_vote(n, count, reach, a, b, p);
+        let v = vote_in(r);
+        let g = v.group;
+        present = sets::include(present, p, is_whole(r));
+        numbers[p] = g.number;
+        sets[p] = g.set;
+        bases[p] = g.base;
+        views[p] = v.view;
+        p += 1;
+    }
+    Arrived {
+        present,
+        numbers,
+        sets,
+        bases,
+        views,
+    }
+}
+
+// Rule 5, on the votes that the member q reads.
+fn member_decides(
+    n: usize,
+    count: u32,
+    reach: u64,
+    a: &[u8],
+    b: &[u8],
+    own: Vote,
+    q: usize,
+) -> State
+    requires { ⌜ (n ≤ 64) × (q < n) ⌝ }
+    requires { ⌜ (length (now a) ≡ 2304) × (length (now b) ≡ 2304) ⌝ }
+    ensures { λ r. ⌜ r ≡ memberDecides (record { nodes = n }) q own (ballotsRead n count reach (now (a .entry)) (now (b .entry))) ⌝ }
+{
+    let arrived = arrive(n, count, reach, a, b);
+    let numbers = arrived.numbers;
+    let sets = arrived.sets;
+    let bases = arrived.bases;
+    let views = arrived.views;
+    let after = rules::member_decides(n, q, own, &numbers, &sets, &bases, &views, arrived.present);
+    after
+}
+
+// Rule 6, on the votes that the joining node q reads.
+fn joiner_decides(n: usize, count: u32, reach: u64, a: &[u8], b: &[u8], q: usize) -> State
+    requires { ⌜ (n ≤ 64) × (q < n) ⌝ }
+    requires { ⌜ (length (now a) ≡ 2304) × (length (now b) ≡ 2304) ⌝ }
+    ensures { λ r. ⌜ r ≡ joinerDecides (record { nodes = n }) q (ballotsRead n count reach (now (a .entry)) (now (b .entry))) ⌝ }
+{
+    let arrived = arrive(n, count, reach, a, b);
+    let numbers = arrived.numbers;
+    let sets = arrived.sets;
+    let bases = arrived.bases;
+    let views = arrived.views;
+    let after = rules::joiner_decides(n, q, &numbers, &sets, &bases, &views, arrived.present);
+    after
+}
+
+// What node q decides on what it reads. A node that is out reads nothing.
+fn decide(
+    n: usize,
+    count: u32,
+    w: Roles,
+    reach: u64,
+    numbers: &[u32; 64],
+    sets: &[u64; 64],
+    bases: &[u64; 64],
+    views: &[u64; 64],
+    a: &[u8],
+    b: &[u8],
+    q: usize,
+) -> State
+    requires { ⌜ (n ≤ 64) × (q < n) ⌝ }
+    requires { ⌜ (length (now a) ≡ 2304) × (length (now b) ≡ 2304) ⌝ }
+    ensures { λ r. ⌜ r ≡ decidedRead (now (numbers .entry)) (now (sets .entry)) (now (bases .entry)) (now (views .entry)) n count w reach (now (a .entry)) (now (b .entry)) q ⌝ }
+{
+    let own = rules::vote_at(numbers, sets, bases, views, q);
+    if sets::contains(w.members, q) {
+        member_decides(n, count, reach, a, b, own, q)
+    } else if sets::contains(w.joining, q) {
+        joiner_decides(n, count, reach, a, b, q)
+    } else {
+        cluster::out_at(w, q)
+    }
+}
+
+// Rules 5 and 6 of all nodes.
+fn decisions(
+    n: usize,
+    count: u32,
+    w: Roles,
+    sent: u64,
+    missed: &[u64; 64],
+    numbers: &[u32; 64],
+    sets: &[u64; 64],
+    bases: &[u64; 64],
+    views: &[u64; 64],
+    a: &[u8],
+    b: &[u8],
+) -> States
+    requires { ⌜ n ≤ 64 ⌝ }
+    requires { ⌜ (length (now a) ≡ 2304) × (length (now b) ≡ 2304) ⌝ }
+    ensures { λ r. ⌜ ((q : ℕ) → q < n → stateAt r q ≡ decidedRead (now (numbers .entry)) (now (sets .entry)) (now (bases .entry)) (now (views .entry)) n count w (sent ∖ getD (now (missed .entry)) q 0) (now (a .entry)) (now (b .entry)) q) ⌝ }
+{
+    let mut next = Roles {
+        members: 0,
+        joining: 0,
+        no_quorum: 0,
+        outvoted: 0,
+    };
+    let mut new_numbers = [0u32; 64];
+    let mut new_sets = [0u64; 64];
+    let mut new_bases = [0u64; 64];
+    let mut q: usize = 0;
+    while q < n {
+        let reach = sets::difference(sent, missed[q]);
+        let d = decide(n, count, w, reach, numbers, sets, bases, views, a, b, q);
+        let g = cluster::held_by(d);
+        next = cluster::with_state(next, q, d);
+        new_numbers[q] = g.number;
+        new_sets[q] = g.set;
+        new_bases[q] = g.base;
+        q += 1;
+    }
+    States {
+        members: next.members,
+        joining: next.joining,
+        no_quorum: next.no_quorum,
+        outvoted: next.outvoted,
+        numbers: new_numbers,
+        sets: new_sets,
+        bases: new_bases,
+    }
+}
+
+// Rules 4 to 6: all votes go out on both channels, and each node reads what reaches it.
+fn vote_phase(
+    n: usize,
+    count: u32,
+    w: Roles,
+    lost: u64,
+    missed: &[u64; 64],
+    numbers: &[u32; 64],
+    sets: &[u64; 64],
+    bases: &[u64; 64],
+    views: &[u64; 64],
+) -> States
+    requires { ⌜ (n ≤ 64) × (count < 64) ⌝ }
+    requires { ⌜ ((p : ℕ) → has p (w .members) ≡ true → (p < n) × (getD (now numbers) p 0 < 2 ^ 32) × (formedVote n p (voteAt (now numbers) (now sets) (now bases) (now views) p) ≡ true)) ⌝ }
+    ensures { λ r. ⌜ ((q : ℕ) → q < n → stateAt r q ≡ decidedAt (now (numbers .entry)) (now (sets .entry)) (now (bases .entry)) (now (views .entry)) n w (w .members ∖ lost ∖ getD (now (missed .entry)) q 0) q) ⌝ }
+{
+    let a = votes(n, numbers, sets, bases, views, w.members, count, 0);
+    let b = votes(n, numbers, sets, bases, views, w.members, count, 1);
+    let sent = sets::difference(w.members, lost);
+    let after = decisions(
+        n,
+        count,
+        w,
+        sent,
+        missed,
+        numbers,
+        sets,
+        bases,
+        views,
+        &a,
+        &b,
+    );
+    after
+}
+
+// One cycle under the faults f; `count` is its cycle count.
+pub fn cycle(n: usize, count: u32, s: States, f: Faults) -> States
+    requires { ⌜ (n ≤ 64) × (count < 64) ⌝ }
+    requires { ⌜ ((q : ℕ) → q < n → formedState q n (stateAt s q) ≡ true) ⌝ }
+    ensures { λ r. ⌜ rowOf n r ≡ theCycle (record { nodes = n }) f (rowOf n s) ⌝ }
+{
+    let w = cluster::rule_one(
+        n,
+        Roles {
+            members: s.members,
+            joining: s.joining,
+            no_quorum: s.no_quorum,
+            outvoted: s.outvoted,
+        },
+        f.stop,
+        f.start,
+    );
+    let numbers = s.numbers;
+    let sets = s.sets;
+    let bases = s.bases;
+    let unheard = f.heartbeat_missed;
+    let missed = f.vote_missed;
+    let views = heartbeat_phase(n, count, w, f.heartbeat_lost, &unheard, &sets);
+    let after = vote_phase(
+        n,
+        count,
+        w,
+        f.vote_lost,
+        &missed,
+        &numbers,
+        &sets,
+        &bases,
+        &views,
+    );
+    after
+}

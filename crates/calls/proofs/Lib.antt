@@ -1,0 +1,2 @@
+pub mod OverCalls
+pub mod Standing

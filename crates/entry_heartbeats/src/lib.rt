@@ -1,0 +1,258 @@
+// Heartbeats: written from numbers or from a state, read from one channel, received on both.
+ghost use mathlib.Core.Path.{_≡_};
+ghost use mathlib.Core.Bool.{_||_};
+ghost use Prim.Native.Nat.{_≤_, _<_};
+ghost use lib.ListN.{length};
+ghost use Rattle.lent.specs.Refusals.{
+  wrongNode,
+  wrongBit,
+  wrongIndicators,
+  wrongCycle,
+  wrongChannel,
+};
+ghost use Rattle.entry_heartbeats.specs.Heartbeats.{
+  writeHeartbeatStatus,
+  writeHeartbeatLeft,
+  sendHeartbeatStatus,
+  sendsByte,
+  joinBit,
+  heartbeatOf,
+  sendHeartbeatLeft,
+  sendHeartbeatSent,
+  readStatus,
+  readHeartbeatStatus,
+  readHeartbeatJoin,
+  heardCode,
+  receiveHeartbeatStatus,
+  receiveHeartbeatHeard,
+};
+use frames::HeartbeatRead;
+use frames::HeartbeatReceived;
+use lent::wrong_count;
+use lent::wrong_indicators;
+use lent::wrong_slot;
+use state::Decoded;
+use state::Node;
+use state::State;
+
+// Refusal 2, of the numbers of a heartbeat.
+fn wrong_numbers(
+    n: u32,
+    node: u32,
+    join: u32,
+    sync: u32,
+    startup: u32,
+    cycle: u32,
+    channel: u32,
+) -> bool
+    ensures { λ r. ⌜ r ≡ (wrongNode n node || wrongBit join || wrongIndicators sync startup || wrongCycle cycle || wrongChannel channel) ⌝ }
+{
+    if 1 < join {
+        return true;
+    }
+    if wrong_indicators(sync, startup) {
+        return true;
+    }
+    wrong_slot(n, node, cycle, channel)
+}
+
+fn write_refusal(
+    n: u32,
+    node: u32,
+    join: u32,
+    sync: u32,
+    startup: u32,
+    cycle: u32,
+    channel: u32,
+    frame: &[u8],
+) -> u32
+    ensures { λ r. ⌜ r ≡ writeHeartbeatStatus n node join sync startup cycle channel (now (frame .entry)) ⌝ }
+{
+    if wrong_count(n) {
+        return 1;
+    }
+    if wrong_numbers(n, node, join, sync, startup, cycle, channel) {
+        return 2;
+    }
+    if frame.len() != 10 {
+        return 3;
+    }
+    0
+}
+
+// A heartbeat from numbers, into 10 bytes.
+pub fn write(
+    n: u32,
+    node: u32,
+    join: u32,
+    sync: u32,
+    startup: u32,
+    cycle: u32,
+    channel: u32,
+    frame: &mut [u8],
+) -> u32
+    ensures { λ r. ⌜ r ≡ writeHeartbeatStatus n node join sync startup cycle channel (now (frame .entry)) ⌝ }
+    ensures { λ _. ⌜ now (frame .exit) ≡ writeHeartbeatLeft n node join sync startup cycle channel (now (frame .entry)) ⌝ }
+{
+    let status = write_refusal(n, node, join, sync, startup, cycle, channel, frame);
+    if status != 0 {
+        return status;
+    }
+    let written = frames::write_heartbeat(node, join, sync, startup, cycle, channel);
+    bytes::copy(&written, frame);
+    0
+}
+
+// Who sends, and with which join bit.
+fn sends_byte(s: State) -> u32
+    ensures { λ r. ⌜ r ≡ sendsByte s ⌝ }
+{
+    match s {
+        State::Out(_) => 0,
+        State::Joining => 1,
+        State::Member(_) => 1,
+    }
+}
+
+fn join_bit(s: State) -> u32
+    ensures { λ r. ⌜ r ≡ joinBit s ⌝ }
+    ensures { λ r. ⌜ r < 2 ⌝ }
+{
+    if rules::sends_join(s) { 1 } else { 0 }
+}
+
+// Refusal 2, of what a node sends with.
+fn wrong_sending(sync: u32, startup: u32, cycle: u32, channel: u32) -> bool
+    ensures { λ r. ⌜ r ≡ (wrongIndicators sync startup || wrongCycle cycle || wrongChannel channel) ⌝ }
+{
+    if wrong_indicators(sync, startup) {
+        return true;
+    }
+    if 63 < cycle {
+        return true;
+    }
+    1 < channel
+}
+
+// What node n sends.
+fn send_of(
+    n: Node,
+    sync: u32,
+    startup: u32,
+    cycle: u32,
+    channel: u32,
+    frame: &mut [u8],
+    sent: &mut u32,
+)
+    requires { ⌜ n .id < 64 ⌝ }
+    requires { ⌜ sync < 2 ⌝ }
+    requires { ⌜ startup ≤ sync ⌝ }
+    requires { ⌜ cycle < 64 ⌝ }
+    requires { ⌜ length (now frame) ≡ 10 ⌝ }
+    ensures { λ _. ⌜ now (frame .exit) ≡ heartbeatOf n sync startup cycle channel (now (frame .entry)) ⌝ }
+    ensures { λ _. ⌜ now (sent .exit) ≡ sendsByte (n .state) ⌝ }
+{
+    let s = n.state;
+    let sends = sends_byte(s);
+    *sent = sends;
+    if sends == 1 {
+        let written = frames::write_heartbeat(
+            n.id as u32,
+            join_bit(s),
+            sync,
+            startup,
+            cycle,
+            channel,
+        );
+        bytes::copy(&written, frame);
+    }
+}
+
+// Rule 2: the heartbeat that a node sends, if it sends one.
+pub fn send(
+    state: &[u8],
+    sync: u32,
+    startup: u32,
+    cycle: u32,
+    channel: u32,
+    frame: &mut [u8],
+    sent: &mut u32,
+) -> u32
+    ensures { λ r. ⌜ r ≡ sendHeartbeatStatus (now (state .entry)) sync startup cycle channel (now (frame .entry)) ⌝ }
+    ensures { λ _. ⌜ now (frame .exit) ≡ sendHeartbeatLeft (now (state .entry)) sync startup cycle channel (now (frame .entry)) ⌝ }
+    ensures { λ _. ⌜ now (sent .exit) ≡ sendHeartbeatSent (now (state .entry)) sync startup cycle channel (now (frame .entry)) (now (sent .entry)) ⌝ }
+{
+    if wrong_sending(sync, startup, cycle, channel) {
+        return 2;
+    }
+    if frame.len() != 10 {
+        return 3;
+    }
+    match state::decode(state) {
+        Decoded::Good(n) => {
+            send_of(n, sync, startup, cycle, channel, frame, sent);
+            0
+        }
+        Decoded::WrongLength => 3,
+        Decoded::Malformed => 4,
+    }
+}
+
+fn read_refusal(n: u32, node: u32, cycle: u32, channel: u32) -> u32
+    ensures { λ r. ⌜ r ≡ readStatus n node cycle channel ⌝ }
+{
+    if wrong_count(n) {
+        return 1;
+    }
+    if wrong_slot(n, node, cycle, channel) {
+        return 2;
+    }
+    0
+}
+
+// One copy of a node's heartbeat: its join bit.
+pub fn read(n: u32, node: u32, cycle: u32, channel: u32, frame: &[u8], join: &mut u32) -> u32
+    ensures { λ r. ⌜ r ≡ readHeartbeatStatus n node cycle channel (now (frame .entry)) ⌝ }
+    ensures { λ _. ⌜ now (join .exit) ≡ readHeartbeatJoin n node cycle channel (now (frame .entry)) (now (join .entry)) ⌝ }
+{
+    let status = read_refusal(n, node, cycle, channel);
+    if status != 0 {
+        return status;
+    }
+    match frames::read_heartbeat(node, cycle, channel, frame) {
+        HeartbeatRead::Alive => {
+            *join = 0;
+            0
+        }
+        HeartbeatRead::Join => {
+            *join = 1;
+            0
+        }
+        HeartbeatRead::Refused(f) => frames::fault_code(f),
+    }
+}
+
+fn heard_code(r: HeartbeatReceived) -> u32
+    ensures { λ c. ⌜ c ≡ heardCode r ⌝ }
+{
+    match r {
+        HeartbeatReceived::Missed => 0,
+        HeartbeatReceived::Alive => 1,
+        HeartbeatReceived::Join => 2,
+    }
+}
+
+// Both copies of a node's heartbeat: missed, a member's or a joining node's.
+pub fn receive(n: u32, node: u32, cycle: u32, a: &[u8], b: &[u8], heard: &mut u32) -> u32
+    ensures { λ r. ⌜ r ≡ receiveHeartbeatStatus n node cycle ⌝ }
+    ensures { λ _. ⌜ now (heard .exit) ≡ receiveHeartbeatHeard n node cycle (now (a .entry)) (now (b .entry)) (now (heard .entry)) ⌝ }
+{
+    let status = read_refusal(n, node, cycle, 0);
+    if status != 0 {
+        return status;
+    }
+    let on_a = frames::read_heartbeat(node, cycle, 0, a);
+    let on_b = frames::read_heartbeat(node, cycle, 1, b);
+    *heard = heard_code(frames::receive_heartbeat(on_a, on_b));
+    0
+}

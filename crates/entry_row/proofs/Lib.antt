@@ -1,0 +1,3 @@
+pub mod Images
+mod Walks
+mod Accepted

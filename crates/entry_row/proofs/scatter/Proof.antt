@@ -1,0 +1,72 @@
+use mathlib.Core.Path.{_≡_, ap, _∙_}
+use Prim.Native.Nat.{ℕ, _-_, _≤_}
+use native.Mathlib.Omega.{arith}
+use lib.ListN.{length}
+use Rattle.entry_row.specs.Images.{imagesOf}
+use Rattle.entry_row.proofs.Walks.{Written, written-none, written-next, written-length, written-all, placed, is-placed, all-placed}
+use Rattle.entry_row.proofs.scatter.Statement.{statement}
+use Rattle.entry_row.proofs.scatter.Tie as tie
+
+abbrev Inv-loop : tie.InvT-loop
+Inv-loop n s images₀ count q₀ images q = (q ≤ count) × (images ≡ Written q (placed n s) images₀)
+
+abbrev μ-loop : tie.MeasureT-loop
+μ-loop n s images₀ count q₀ images q = count - q
+
+loop-holds : tie.Need-loop-holds Inv-loop μ-loop
+loop-holds c = (omega arith, written-none _ _)
+
+nobody-requires : tie.Need-nobody-requires Inv-loop μ-loop
+nobody-requires c κs = tt
+
+node-at-requires : tie.Need-node-at-requires Inv-loop μ-loop
+node-at-requires c κs = tt
+
+put-image-requires : tie.Need-put-image-requires Inv-loop μ-loop
+put-image-requires c κs =
+    let a = c .before .before .before .before .before .before .args in
+    let l = c .before .before .before .before .loop in
+    let size = c .before .before .before .before .before .before .pre .1 in
+    let long : length (l .images) ≡ length (a .images .now) = written-length _ _ _ _ _ (l .inv .1) (l .inv .0) size in
+    omega arith
+
+add-q : tie.Need-add-q Inv-loop μ-loop
+add-q c = omega arith
+
+loop-less : tie.Need-loop-less Inv-loop μ-loop
+loop-less c = omega arith
+
+loop-again : tie.Need-loop-again Inv-loop μ-loop
+loop-again c =
+    let a = c .before .before .before .before .before .before .before .before .before .args in
+    let l = c .before .before .before .before .before .before .before .loop in
+    let most = c .before .before .before .before .before .before .before .before .before .pre .0 in
+    let x = c .before .before .before .node-at .ensures ∙ is-placed (a .n) (a .s) (l .q) _ (omega arith) most in
+    (omega arith, written-next _ _ _ _ _ _ (l .inv .1) x (c .before .before .put-image .ensures))
+
+same-length : tie.Need-same-length Inv-loop μ-loop
+same-length c = written-length _ _ _ _ _ (c .before .loop .inv .1) (c .before .loop .inv .0) (c .before .before .before .pre .1)
+
+returns : tie.Need-returns Inv-loop μ-loop
+returns c =
+    let a = c .before .before .before .args in
+    let l = c .before .loop in
+    let end : l .q ≡ a .n = omega arith in
+    l .inv .1 ∙ ap (λ (k : ℕ). Written k (placed (a .n) (a .s)) (a .images .now)) end ∙ written-all (a .n) _ _ (c .before .before .before .pre .1)
+    ∙ ap imagesOf (all-placed (a .n) (a .s))
+
+pub scatter-spec : {M : Type 1} → statement M
+scatter-spec =
+    tie.close
+    (tie.spec
+    Inv-loop
+    μ-loop
+    loop-holds
+    nobody-requires
+    node-at-requires
+    put-image-requires
+    add-q
+    loop-less
+    loop-again
+    same-length
+    returns)

@@ -1,0 +1,57 @@
+-- Paper 01: "The press host is written in C and calls the node end with numbers and byte buffers only. For a run the caller lends the states of all units
+-- as one row, one entry per unit." For C the row is N images of 24 bytes, one after the other. What a call on it answers and leaves is what the call on the
+-- nodes gives, through the image.
+-- Assumes nothing.
+use mathlib.Core.Bool.{cond}
+use mathlib.Core.List.{List, [], _∷_, _++_}
+use Prim.Native.Nat.{ℕ, _+_, _*_, _/_, _%_}
+use lib.Dec.{eqb}
+use lib.ListN.{length, take, drop}
+use Rattle.refusal.specs.Refusal.{unless}
+use Rattle.state.specs.declared.Reason.the-variants.{Stopped}
+use Rattle.state.specs.declared.State.the-variants.{Out}
+use Rattle.state.specs.declared.Node.{Node}
+use Rattle.state.specs.declared.Decoded.{Decoded}
+use Rattle.state.specs.declared.Decoded.the-variants.{Good, WrongLength, Malformed}
+use Rattle.state.specs.Image.{imageOf, decoded}
+use Rattle.rules.specs.Faults.{tabulate}
+use Rattle.calls.specs.declared.Task.{Task}
+use Rattle.calls.specs.Calls.{callStatus, callLeft}
+
+-- "4: a state image not well formed, or in a row an entry q that is not node q of that N": such an image stands for a node of no place
+abbrev pub noNode : Node
+noNode = record { state = Out Stopped; id = 0; nodes = 0 }
+
+abbrev pub nodeOr : Decoded → Node
+nodeOr (Good x) = x
+nodeOr WrongLength = noNode
+nodeOr Malformed = noNode
+
+-- the node of image q
+unfoldable pub nodeIn : List ℕ → ℕ → Node
+nodeIn s q = nodeOr (decoded (take 24 (drop (24 * q) s)))
+
+-- how many images there are. "3: .. a row not of N entries": bytes that are no whole number of images have none
+unfoldable pub entriesIn : List ℕ → ℕ
+entriesIn s = cond (eqb (length s % 24) 0) (length s / 24) 0
+
+unfoldable pub nodesIn : List ℕ → List Node
+nodesIn s = tabulate (entriesIn s) (nodeIn s)
+
+-- image q replaced
+abbrev pub withImage : ℕ → List ℕ → List ℕ → List ℕ
+withImage q image s = take (24 * q) s ++ (image ++ drop (24 * q + 24) s)
+
+-- the images of the nodes, one after the other
+unfoldable pub imagesOf : List Node → List ℕ
+imagesOf [] = []
+imagesOf (x ∷ xs) = imageOf x ++ imagesOf xs
+
+-- ---- a call on a row of images
+
+unfoldable pub imagesStatus : Task → ℕ → List ℕ → List ℕ → ℕ
+imagesStatus task n row s = callStatus task n (nodesIn row) s
+
+-- "A refusal returns only its number; states and buffers do not change."
+unfoldable pub imagesLeft : Task → ℕ → List ℕ → List ℕ → List ℕ
+imagesLeft task n row s = unless (imagesStatus task n row s) (imagesOf (callLeft task n (nodesIn row) s)) row

@@ -1,0 +1,289 @@
+-- Every state that the rules give is well formed, whether the promise is kept or not. Assumes nothing.
+use mathlib.Core.Path.{_≡_, refl, sym, ap, _∙_, subst}
+use mathlib.Core.Logic.{_⊎_, inl, inr}
+use mathlib.Core.Bool.{Bool, true, false, not, _&&_, _||_, cond}
+use mathlib.Core.List.{List, [], _∷_}
+use mathlib.Core.Option.{Option, none, some}
+use Prim.Native.Nat.{ℕ, zero, suc, _+_, _^_, _<_}
+use native.Mathlib.Omega.{arith}
+use native.Mathlib.Nat.{mod-lt}
+use lib.Dec.{eqb, ltb}
+use lib.ListN.{getD, length}
+use lib.Pow.{pow-pos}
+use Rattle.sets.specs.Sets.{has, _∖_, subset, below, lowest, any, every}
+use Rattle.sets.proofs.Booleans.{and-l, and-r, and-i, or-e, or-l, not-e, eqb-self, eqb-true, ltb-true, ltb-lt}
+use Rattle.sets.proofs.Membership.{_⊆_, has-union, set-ext, subset-in, subset-of}
+use Rattle.sets.proofs.Nodes.{has-below}
+use Rattle.state.specs.declared.Reason.the-variants.{Stopped, NoQuorum, Outvoted}
+use Rattle.state.specs.declared.Group.{Group}
+use Rattle.state.specs.declared.State.{State}
+use Rattle.state.specs.declared.State.the-variants.{Out, Joining, Member}
+use Rattle.state.specs.State.{groupOf, formedSets, formedState, foundingGroup, initial, nextNumber}
+use Rattle.rules.specs.declared.Vote.{Vote}
+use Rattle.rules.specs.declared.Faults.{Faults}
+use Rattle.rules.specs.OneCycle.{Config, Ballots, stopped, stopAndStart, sendsMember, sendsJoin, viewOf, is, voters, wins, newSet, groupWith, newGroup, memberOn, withOwn, rival, memberDecides, fits, enterOn, joinerDecides}
+use Rattle.rules.specs.Faults.{Row, at, tabulate, founding, voteReaches, heard, ownVote, voteOf, votes, arriveIf, arrivedAt, decides, decisions, ruleOne, cycle}
+use Rattle.rules.specs.Reference.{Cluster, step, after}
+use Rattle.rules.proofs.Rows.{get-tabulate}
+use Rattle.rules.proofs.Votes.{has-view, in-voters, base-is, new-inside, new-in}
+use Rattle.rules.proofs.States.{none-some, some-inj, which, idle, rule1-back, own-group, vote-group, vote-decides, member-votes, idle-decides}
+
+abbrev pub FormedRow : ℕ → Row → Type 0
+FormedRow n row = (q : ℕ) → q < n → formedState q n (at row q) ≡ true
+
+abbrev sized : ℕ → Config
+sized n = record { nodes = n }
+
+-- ---- the test of a state, as laws of the group that it holds
+
+-- no node of m is n or above
+abbrev Bound : ℕ → ℕ → Type 0
+Bound n m = (x : ℕ) → has x m ≡ true → x < n
+
+bound-of : (n m : ℕ) → below n m ≡ m → Bound n m
+bound-of n m e x h = ltb-lt (and-l (ltb x n) (has x m) (sym (has-below x n m) ∙ ap (has x) e ∙ h))
+
+below-of : (n m : ℕ) → Bound n m → below n m ≡ m
+below-of n m b = set-ext (λ x. has-below x n m ∙ go x (has x m) refl)
+  where
+    and-no : (t : Bool) → (t && false) ≡ false
+    and-no true = refl
+    and-no false = refl
+
+    go : (x : ℕ) (t : Bool) → has x m ≡ t → (ltb x n && t) ≡ t
+    go x true h = and-i (ltb x n) true (ltb-true (b x h)) refl
+    go x false h = and-no (ltb x n)
+
+record Sound (n q : ℕ) (g : Group) : Type 0 where
+  number : g .number < 2 ^ 32
+  self : has q (g .set) ≡ true
+  inside : _⊆_ (g .set) (g .base)
+  bound : Bound n (g .base)
+
+abbrev SoundState : ℕ → ℕ → State → Type 0
+SoundState n q s = (g : Group) → groupOf s ≡ some g → Sound n q g
+
+sound-group : (n q : ℕ) (g : Group) → formedState q n (Member g) ≡ true → Sound n q g
+unfolding formedSets
+sound-group n q g e =
+    let sets = and-r (ltb (g .number) (2 ^ 32)) (formedSets q n (g .set) (g .base)) e in
+    let both = and-l (has q (g .set) && subset (g .set) (g .base)) (eqb (below n (g .base)) (g .base)) sets in
+    record {
+      number = ltb-lt (and-l (ltb (g .number) (2 ^ 32)) (formedSets q n (g .set) (g .base)) e);
+      self = and-l (has q (g .set)) (subset (g .set) (g .base)) both;
+      inside = subset-in (g .set) (g .base) (and-r (has q (g .set)) (subset (g .set) (g .base)) both);
+      bound = bound-of n (g .base) (eqb-true (and-r (has q (g .set) && subset (g .set) (g .base)) (eqb (below n (g .base)) (g .base)) sets));
+    }
+
+formed-group : (n q : ℕ) (g : Group) → Sound n q g → formedState q n (Member g) ≡ true
+unfolding formedSets
+formed-group n q g s =
+    and-i (ltb (g .number) (2 ^ 32)) (formedSets q n (g .set) (g .base)) (ltb-true (s .number))
+    (and-i (has q (g .set) && subset (g .set) (g .base)) (eqb (below n (g .base)) (g .base))
+    (and-i (has q (g .set)) (subset (g .set) (g .base)) (s .self) (subset-of (g .set) (g .base) (s .inside)))
+    (ap (λ (x : ℕ). eqb x (g .base)) (below-of n (g .base) (s .bound)) ∙ eqb-self (g .base)))
+
+sound-state : (n q : ℕ) (s : State) → formedState q n s ≡ true → SoundState n q s
+sound-state n q (Out r) f g e = absurd (none-some e)
+sound-state n q Joining f g e = absurd (none-some e)
+sound-state n q (Member h) f g e = subst (λ (x : Group). Sound n q x) (some-inj e) (sound-group n q h f)
+
+formed-state : (n q : ℕ) (s : State) → SoundState n q s → formedState q n s ≡ true
+formed-state n q (Out r) f = refl
+formed-state n q Joining f = refl
+formed-state n q (Member g) f = formed-group n q g (f g refl)
+
+-- ---- the group that a vote gives
+
+-- a vote of numbers and nodes that there are
+record Fair (n : ℕ) (v : Vote) : Type 0 where
+  number : v .group .number < 2 ^ 32
+  set : Bound n (v .group .set)
+  view : Bound n (v .view)
+
+view-bound : (n q M h0 h1 : ℕ) → q < n → Bound n M → Bound n (viewOf n q M h0 h1)
+view-bound n q M h0 h1 l b x h =
+    go (or-e (eqb x q || (has x M && (ltb x n && has x h0))) ((ltb x n && has x h1) && not (has x M)) (sym (has-view x n q M h0 h1) ∙ h))
+  where
+    first : (eqb x q ≡ true) ⊎ ((has x M && (ltb x n && has x h0)) ≡ true) → x < n
+    first (inl e) = subst (λ (y : ℕ). y < n) (sym (eqb-true e)) l
+    first (inr e) = b x (and-l (has x M) (ltb x n && has x h0) e)
+
+    go : ((eqb x q || (has x M && (ltb x n && has x h0))) ≡ true) ⊎ (((ltb x n && has x h1) && not (has x M)) ≡ true) → x < n
+    go (inl e) = first (or-e (eqb x q) (has x M && (ltb x n && has x h0)) e)
+    go (inr e) = ltb-lt (and-l (ltb x n) (has x h1) (and-l (ltb x n && has x h1) (not (has x M)) e))
+
+own-fair : (n : ℕ) (c : Faults) (r : Row) (q : ℕ) (g : Group) → q < n → Sound n q g → Fair n (ownVote n c r q g)
+unfolding ownVote
+own-fair n c r q g l s =
+    let bound : Bound n (g .set) = λ x h. s .bound x (s .inside x h) in
+    record {
+      number = s .number;
+      set = bound;
+      view = view-bound n q (g .set) (heard n c r sendsMember q) (heard n c r sendsJoin q) l bound;
+    }
+
+next-lt : (G : ℕ) → nextNumber G < 2 ^ 32
+unfolding nextNumber
+next-lt G = mod-lt (G + 1) (pow-pos 32)
+
+number-lt : (b : Bool) (G : ℕ) → G < 2 ^ 32 → cond b G (nextNumber G) < 2 ^ 32
+number-lt true G l = l
+number-lt false G l = next-lt G
+
+voter-in : (n : ℕ) (b : Ballots) (v : Vote) (q : ℕ) → has q (voters n b v) ≡ true → has q (newGroup n b v .set) ≡ true
+unfolding newGroup newSet groupWith
+voter-in n b v q h =
+    has-union q (voters n b v) (v .view ∖ v .group .set) ∙ or-l (has q (voters n b v)) (has q (v .view ∖ v .group .set)) h
+
+new-number : (n : ℕ) (b : Ballots) (v : Vote) → v .group .number < 2 ^ 32 → newGroup n b v .number < 2 ^ 32
+unfolding newGroup groupWith
+new-number n b v l = number-lt (eqb (newSet n b v) (v .group .set)) (v .group .number) l
+
+new-bound : (n : ℕ) (b : Ballots) (v : Vote) → Fair n v → Bound n (newGroup n b v .base)
+new-bound n b v f x h =
+    go (or-e (has x (v .view)) (has x (v .group .set)) (sym (ap (has x) (base-is n b v) ∙ has-union x (v .view) (v .group .set)) ∙ h))
+  where
+    go : (has x (v .view) ≡ true) ⊎ (has x (v .group .set) ≡ true) → x < n
+    go (inl e) = f .view x e
+    go (inr e) = f .set x e
+
+new-sound : (n q : ℕ) (b : Ballots) (v : Vote) → Fair n v → has q (newGroup n b v .set) ≡ true → Sound n q (newGroup n b v)
+new-sound n q b v f h = record { number = new-number n b v (f .number); self = h; inside = new-inside n b v; bound = new-bound n b v f }
+
+-- ---- rules 5 and 6
+
+member-sound : (n q : ℕ) (own : Vote) (arrived : Ballots) → q < n → has q (own .group .set) ≡ true → Fair n own
+    → SoundState n q (memberDecides (sized n) q own arrived)
+unfolding memberDecides
+member-sound n q own arrived l m f g e = go (wins n b own) (any n (λ p. rival n b (own .group) (b p))) e
+  where
+    b : Ballots
+    b = withOwn q own arrived
+
+    mine : b q ≡ some own
+    mine = ap (λ (x : Bool). cond x (some own) (arrived q)) (eqb-self q)
+
+    go : (won beaten : Bool) → groupOf (cond won (memberOn (sized n) b own) (cond beaten (Out Outvoted) (Out NoQuorum))) ≡ some g → Sound n q g
+    go true beaten e = subst (λ (x : Group). Sound n q x) (some-inj e) (new-sound n q b own f (voter-in n b own q (in-voters n b own q l m mine)))
+    go false true e = absurd (none-some e)
+    go false false e = absurd (none-some e)
+
+joiner-sound : (n q : ℕ) (b : Ballots) → ((p : ℕ) (v : Vote) → b p ≡ some v → Fair n v) → SoundState n q (joinerDecides (sized n) q b)
+unfolding joinerDecides
+joiner-sound n q b fair g e = go (lowest n (λ p. fits n q b (b p))) (b (lowest n (λ p. fits n q b (b p)))) refl e
+  where
+    go : (p : ℕ) (o : Option Vote) → b p ≡ o → groupOf (enterOn (sized n) q b o) ≡ some g → Sound n q g
+    go p none k e = absurd (none-some e)
+    go p (some v) k e = turn (fits n q b (some v) && every n (λ x. not (fits n q b (b x)) || is v (b x))) refl e
+      where
+        turn : (t : Bool) → (fits n q b (some v) && every n (λ x. not (fits n q b (b x)) || is v (b x))) ≡ t
+            → groupOf (cond t (memberOn (sized n) b v) Joining) ≡ some g → Sound n q g
+        turn true f e =
+            let fit = and-l (fits n q b (some v)) (every n (λ x. not (fits n q b (b x)) || is v (b x))) f in
+            let new = and-l (has q (v .view) && not (has q (v .group .set))) (wins n b v) fit in
+            subst (λ (x : Group). Sound n q x) (some-inj e)
+            (new-sound n q b v (fair p v k)
+            (new-in n b v q (and-l (has q (v .view)) (not (has q (v .group .set))) new)
+            (not-e (has q (v .group .set)) (and-r (has q (v .view)) (not (has q (v .group .set))) new))))
+        turn false f e = absurd (none-some e)
+
+-- ---- the whole cycle
+
+-- what holds of every entry and of what stands past the last holds of what is read
+read-tabulate {ℓ} : {A : Type ℓ} (P : A → Type 0) (n q : ℕ) (f : ℕ → A) (d : A) → P d → ((x : ℕ) → x < n → P (f x)) → P (getD (tabulate n f) q d)
+unfolding tabulate
+read-tabulate P zero q f d o i = o
+read-tabulate P (suc n) zero f d o i = i 0 (omega arith)
+read-tabulate P (suc n) (suc q) f d o i = read-tabulate P n q (λ x. f (suc x)) d o (λ x l. i (suc x) (omega arith))
+
+module _ (n : ℕ) (c : Faults) (r : Row) (w : (q : ℕ) → q < n → SoundState n q (at r q)) where
+  abbrev got : ℕ → Ballots
+  got q = arrivedAt c (votes (sized n) c r) q
+
+  abbrev FairVote : Option Vote → Type 0
+  FairVote o = (v : Vote) → o ≡ some v → Fair n v
+
+  vote-fair : (p : ℕ) → p < n → FairVote (voteOf (sized n) c r p (at r p))
+  vote-fair p l v e =
+      let held = vote-group (sized n) c r p (at r p) v e in
+      subst (Fair n) (some-inj (sym (member-votes (sized n) c r p (at r p) (v .group) held) ∙ e)) (own-fair n c r p (v .group) l (w p l (v .group) held))
+
+  arrived-fair : (q p : ℕ) → FairVote (got q p)
+  unfolding votes
+  arrived-fair q p =
+      go (voteReaches c p q) (getD (votes (sized n) c r) p none)
+      (read-tabulate FairVote n p (λ x. voteOf (sized n) c r x (at r x)) none (λ v e. absurd (none-some e)) vote-fair)
+    where
+      go : (b : Bool) (o : Option Vote) → FairVote o → FairVote (arriveIf b o)
+      go true o f = f
+      go false o f = λ v e. absurd (none-some e)
+
+  decides-sound : (q : ℕ) → q < n → SoundState n q (decides (sized n) c r q (at r q) (got q))
+  decides-sound q l h e = go (which (at r q))
+    where
+      go : (idle (at r q) ≡ true) ⊎ ((at r q ≡ Joining) ⊎ ((g : Group) × (groupOf (at r q) ≡ some g))) → Sound n q h
+      go (inl i) = absurd (none-some (sym (idle-decides (sized n) c r q (at r q) (got q) i) ∙ e))
+      go (inr (inl j)) =
+          joiner-sound n q (got q) (arrived-fair q) h (sym (ap (λ (s : State). groupOf (decides (sized n) c r q s (got q))) j) ∙ e)
+      go (inr (inr m)) =
+          let g = m .0 in
+          let s = w q l g (m .1) in
+          member-sound n q (ownVote n c r q g) (got q) l (ap (λ (x : Group). has q (x .set)) (sym (own-group n c r q g)) ∙ s .self)
+          (own-fair n c r q g l s) h
+          (sym (ap groupOf (vote-decides (sized n) c r q (at r q) (ownVote n c r q g) (got q) (member-votes (sized n) c r q (at r q) g (m .1)))) ∙ e)
+
+  decisions-formed : FormedRow n (decisions (sized n) c r (votes (sized n) c r))
+  unfolding decisions
+  decisions-formed q l =
+      ap (formedState q n) (get-tabulate n q (λ x. decides (sized n) c r x (at r x) (got x)) stopped l)
+      ∙ formed-state n q (decides (sized n) c r q (at r q) (got q)) (decides-sound q l)
+
+rule-one-sound : (n : ℕ) (c : Faults) (row : Row) → FormedRow n row → (q : ℕ) → q < n → SoundState n q (at (ruleOne n c row) q)
+unfolding ruleOne
+rule-one-sound n c row w q l g e =
+    let stop = has q (c .stop) in
+    let start = has q (c .start) in
+    let held = sym (ap groupOf (get-tabulate n q (λ x. stopAndStart (has x (c .stop)) (has x (c .start)) (at row x)) stopped l)) ∙ e in
+    sound-state n q (at row q) (w q l) g (sym (ap groupOf (rule1-back stop start (at row q) g held)) ∙ held)
+
+-- ---- every row of a history
+
+pub cycle-formed : (n : ℕ) (c : Faults) (row : Row) → FormedRow n row → FormedRow n (cycle (record { nodes = n }) c row)
+unfolding cycle
+cycle-formed n c row w = decisions-formed n c (ruleOne n c row) (rule-one-sound n c row w)
+
+pub founding-formed : (n G F : ℕ) → G < 2 ^ 32 → below n F ≡ F → FormedRow n (founding n G F)
+unfolding founding
+founding-formed n G F l b q k = ap (formedState q n) (get-tabulate n q (initial G F) stopped k) ∙ go (has q F) refl
+  where
+    go : (t : Bool) → has q F ≡ t → formedState q n (cond t (Member (foundingGroup G F)) (Out Stopped)) ≡ true
+    go true h = formed-group n q (foundingGroup G F) (record { number = l; self = h; inside = λ x e. e; bound = bound-of n F b })
+    go false h = refl
+
+pub after-formed : (n : ℕ) (k : Cluster) (cs : List Faults) → FormedRow n (k .row) → FormedRow n (after (record { nodes = n }) k cs .row)
+unfolding after step
+after-formed n k [] w = w
+after-formed n k (c ∷ cs) w = after-formed n (step (sized n) k c) cs (cycle-formed n c (k .row) w)
+
+-- ---- and has an entry for each node
+
+pub length-tabulate {ℓ} : {A : Type ℓ} (n : ℕ) (f : ℕ → A) → length (tabulate n f) ≡ n
+unfolding tabulate
+length-tabulate zero f = refl
+length-tabulate (suc n) f = ap suc (length-tabulate n (λ q. f (suc q)))
+
+pub length-founding : (n G F : ℕ) → length (founding n G F) ≡ n
+unfolding founding
+length-founding n G F = length-tabulate n (initial G F)
+
+pub length-cycle : (n : ℕ) (c : Faults) (row : Row) → length (cycle (record { nodes = n }) c row) ≡ n
+unfolding cycle decisions
+length-cycle n c row =
+    let r = ruleOne n c row in
+    length-tabulate n (λ q. decides (sized n) c r q (at r q) (arrivedAt c (votes (sized n) c r) q))
+
+pub length-after : (n : ℕ) (k : Cluster) (cs : List Faults) → length (k .row) ≡ n → length (after (record { nodes = n }) k cs .row) ≡ n
+unfolding after step
+length-after n k [] e = e
+length-after n k (c ∷ cs) e = length-after n (step (sized n) k c) cs (length-cycle n c (k .row))

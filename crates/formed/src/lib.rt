@@ -1,0 +1,1 @@
+// Every state that the rules give is well formed; no code.

@@ -1,0 +1,24 @@
+// Calls on the row of node structs that a caller lends.
+ghost use mathlib.Core.Path.{_≡_};
+ghost use Rattle.calls.specs.Calls.{callStatus, callLeft};
+use calls::Task;
+use state::Node;
+
+// A call on the row: the refusal's number with the row as it was, or 0.
+pub fn call(task: Task, n: u32, row: &mut [Node], bytes: &[u8]) -> u32
+    ensures { λ r. ⌜ r ≡ callStatus task n (now (row .entry)) (now (bytes .entry)) ⌝ }
+    ensures { λ _. ⌜ now (row .exit) ≡ callLeft task n (now (row .entry)) (now (bytes .entry)) ⌝ }
+{
+    let a = runs::answer(
+        task,
+        n,
+        row.len(),
+        row::gather(runs::count_byte(n), &*row),
+        bytes,
+    );
+    let status = a.status;
+    if status == 0 {
+        row::scatter(a.nodes, a.states, &mut *row);
+    }
+    status
+}

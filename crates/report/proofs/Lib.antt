@@ -1,0 +1,6 @@
+mod Lengths
+mod Windows
+mod Following
+mod Giving
+pub mod Pieces
+mod Worked

@@ -1,0 +1,54 @@
+-- `report::run_cycle` meets its contract. Assumes nothing.
+use denote.Ref.{now}
+use Rattle.table.proofs.Laws.{accepted}
+use Rattle.report.proofs.Giving.{gives-cycle}
+use native.Mathlib.Omega.{arith}
+use Rattle.report.proofs.run_cycle.Statement.{statement}
+use Rattle.report.proofs.run_cycle.Tie as tie
+
+cycle-faults-requires : tie.Need-cycle-faults-requires
+cycle-faults-requires c κs =
+    let s = c .before .before .before .before in
+    let t = accepted (s .args .z .nodes) (s .args .z .cycle) (now (s .args .left)) (s .pre .1 .0) in
+    (t .head, t .there)
+
+step-requires : tie.Need-step-requires
+step-requires c κs = omega arith
+
+put-line-requires : tie.Need-put-line-requires
+put-line-requires c κs = omega arith
+
+add-t16 : tie.Need-add-t16
+add-t16 c = omega arith
+
+cycle-length-requires : tie.Need-cycle-length-requires
+cycle-length-requires c κs =
+    let s = c .before .before .before .before .before .before .before .before .before .before .before .before in
+    accepted (s .args .z .nodes) (s .args .z .cycle) (now (s .args .left)) (s .pre .1 .0) .head
+
+same-length : tie.Need-same-length
+same-length c = omega arith
+
+returns : tie.Need-returns
+returns c =
+    let l = c .before .before .before .before in
+    let t = l .before .before .before in
+    let f = t .before in
+    let k = f .before .before .before .before in
+    let s = k .before in
+    gives-cycle (s .args .z) (now (s .args .left)) (s .pre .0) (s .pre .1 .0) (k .shared-slice-known .given 35 .fits) (c .cycle-length .result)
+    (c .cycle-length .ensures) (f .cycle-faults .result) (f .cycle-faults .ensures) (t .step .result .states) (t .step .result .watch) (t .step .result .kept)
+    (t .step .result .halted) (t .step .result .entered) (t .step .ensures .0) (t .step .ensures .1 .0) (t .step .ensures .1 .1 .0) (t .step .ensures .1 .1 .1)
+    (now (s .args .out)) (s .args .at) (l .put-line .last .0) (l .put-line .result) (l .put-line .ensures)
+
+pub run-cycle-spec : {M : Type 1} → statement M
+run-cycle-spec =
+    tie.close
+    (tie.spec
+    cycle-faults-requires
+    step-requires
+    put-line-requires
+    add-t16
+    cycle-length-requires
+    same-length
+    returns)

@@ -1,0 +1,198 @@
+// What the program prints for a table, piece by piece.
+ghost use mathlib.Core.Path.{_≡_};
+ghost use Prim.Native.Nat.{_+_, _≤_};
+ghost use lib.ListN.{length};
+ghost use Rattle.text.specs.Text.{Appended};
+ghost use Rattle.table.specs.Records.{cycleRefusal};
+ghost use Rattle.reference.specs.Watched.{referenceOf};
+ghost use Rattle.report.specs.Printed.{headerLine, promiseText, groupText, masksText, fields, refusedLine, printed};
+ghost use Rattle.report.specs.Pieces.{remaining, Sound, Begun, Gives};
+use cluster::States;
+use reference::Watch;
+
+// A table's run between two cycles: the number of nodes, the number of the next cycle, and the cluster as it stands.
+pub struct Session {
+    pub nodes: usize,
+    pub cycle: u64,
+    pub states: States,
+    pub watch: Watch,
+}
+
+// What one call appended: the session after it, the bytes of the table that it took, the cursor after what it wrote, and whether that was the last.
+pub struct Piece {
+    pub session: Session,
+    pub taken: usize,
+    pub at: usize,
+    pub over: bool,
+}
+
+fn put_promise(out: &mut [u8], at: usize, kept: bool) -> usize
+    requires { ⌜ at + 8 ≤ length (now out) ⌝ }
+    ensures { λ r. ⌜ Appended (now (out .entry)) at (promiseText kept) (now (out .exit)) r ⌝ }
+{
+    if kept {
+        text::put(out, at, b" kept ")
+    } else {
+        text::put(out, at, b" broken ")
+    }
+}
+
+// The number and the set of the reference group.
+fn put_group(out: &mut [u8], at: usize, w: Watch) -> usize
+    requires { ⌜ at + 37 ≤ length (now out) ⌝ }
+    ensures { λ r. ⌜ Appended (now (out .entry)) at (groupText (referenceOf w)) (now (out .exit)) r ⌝ }
+{
+    if !w.defined {
+        return text::put(out, at, b"- -");
+    }
+    let number = text::put_decimal(out, at, w.group.number as u64);
+    let space = text::put_byte(out, number, b' ');
+    text::put_hex(out, space, w.group.set)
+}
+
+// The last two fields of a line.
+fn put_masks(out: &mut [u8], at: usize, halted: u64, entered: u64) -> usize
+    requires { ⌜ at + 35 ≤ length (now out) ⌝ }
+    ensures { λ r. ⌜ Appended (now (out .entry)) at (masksText halted entered) (now (out .exit)) r ⌝ }
+{
+    let space = text::put_byte(out, at, b' ');
+    let first = text::put_hex(out, space, halted);
+    let between = text::put_byte(out, first, b' ');
+    let second = text::put_hex(out, between, entered);
+    text::put_byte(out, second, b'\n')
+}
+
+// The line of a cycle.
+fn put_line(
+    out: &mut [u8],
+    at: usize,
+    cycle: u64,
+    kept: bool,
+    w: Watch,
+    halted: u64,
+    entered: u64,
+) -> usize
+    requires { ⌜ at + 100 ≤ length (now out) ⌝ }
+    ensures { λ r. ⌜ Appended (now (out .entry)) at (fields cycle kept (referenceOf w) halted entered) (now (out .exit)) r ⌝ }
+{
+    let number = text::put_decimal(out, at, cycle);
+    let promise = put_promise(out, number, kept);
+    let group = put_group(out, promise, w);
+    put_masks(out, group, halted, entered)
+}
+
+// The line of a refusal, and nothing where there is none.
+fn put_refusal(out: &mut [u8], at: usize, refusal: u32) -> usize
+    requires { ⌜ at + 29 ≤ length (now out) ⌝ }
+    ensures { λ r. ⌜ Appended (now (out .entry)) at (refusedLine refusal) (now (out .exit)) r ⌝ }
+{
+    if refusal == 0 {
+        return at;
+    }
+    let word = text::put(out, at, b"refused ");
+    let number = text::put_decimal(out, word, refusal as u64);
+    text::put_byte(out, number, b'\n')
+}
+
+fn put_header(out: &mut [u8], at: usize) -> usize
+    requires { ⌜ at + 39 ≤ length (now out) ⌝ }
+    ensures { λ r. ⌜ Appended (now (out .entry)) at headerLine (now (out .exit)) r ⌝ }
+{
+    let half = text::put(out, at, b"cycle promise group ");
+    text::put(out, half, b"set halted entered\n")
+}
+
+// A session before cycle 1.
+fn begin(nodes: usize, founding: u64) -> Session
+    requires { ⌜ nodes ≤ 64 ⌝ }
+    ensures { λ r. ⌜ Begun nodes founding r ⌝ }
+{
+    let states = cluster::begin(nodes, founding);
+    let watch = reference::begin(founding);
+    Session {
+        nodes,
+        cycle: 1,
+        states,
+        watch,
+    }
+}
+
+// Begins a table's print: the header line, and the refusal of its first record if there is one. `left` is what is seen of the table.
+pub fn open(left: &[u8], out: &mut [u8], at: usize) -> Piece
+    requires { ⌜ at + 128 ≤ length (now out) ⌝ }
+    ensures { λ r. ⌜ Gives printed 12 (now (left .entry)) (now (out .entry)) at (now (out .exit)) r ⌝ }
+{
+    let header = put_header(out, at);
+    let refusal = table::start_refusal(false, 0, left);
+    if refusal != 0 {
+        let end = put_refusal(out, header, refusal);
+        return Piece {
+            session: begin(0, 0),
+            taken: 0,
+            at: end,
+            over: true,
+        };
+    }
+    let nodes = table::start_count(left) as usize;
+    Piece {
+        session: begin(nodes, table::start_founding(left)),
+        taken: 12,
+        at: header,
+        over: false,
+    }
+}
+
+// One cycle, from a record that is not refused.
+fn run_cycle(z: Session, left: &[u8], out: &mut [u8], at: usize) -> Piece
+    requires { ⌜ Sound z ⌝ }
+    requires { ⌜ cycleRefusal (z .nodes) (z .cycle) (now left) ≡ 0 ⌝ }
+    requires { ⌜ at + 100 ≤ length (now out) ⌝ }
+    ensures { λ r. ⌜ Gives (remaining z) 36 (now (left .entry)) (now (out .entry)) at (now (out .exit)) r ⌝ }
+{
+    let nodes = z.nodes;
+    let cycle = z.cycle;
+    let states = z.states;
+    let watch = z.watch;
+    let turn = reference::step(nodes, states, watch, table::cycle_faults(left));
+    let next = turn.watch;
+    let end = put_line(out, at, cycle, turn.kept, next, turn.halted, turn.entered);
+    let after = turn.states;
+    Piece {
+        session: Session {
+            nodes,
+            cycle: cycle + 1,
+            states: after,
+            watch: next,
+        },
+        taken: table::cycle_length(left),
+        at: end,
+        over: false,
+    }
+}
+
+// Goes on with a table's print by one record: the line of its cycle, or of its refusal, or nothing at the end of the file. `left` is what is seen of the rest.
+pub fn turn(z: Session, left: &[u8], out: &mut [u8], at: usize) -> Piece
+    requires { ⌜ Sound z ⌝ }
+    requires { ⌜ at + 128 ≤ length (now out) ⌝ }
+    ensures { λ r. ⌜ Gives (remaining z) 36 (now (left .entry)) (now (out .entry)) at (now (out .exit)) r ⌝ }
+{
+    if left.len() == 0 {
+        return Piece {
+            session: z,
+            taken: 0,
+            at,
+            over: true,
+        };
+    }
+    let refusal = table::cycle_refusal(z.nodes, z.cycle, left);
+    if refusal != 0 {
+        let end = put_refusal(out, at, refusal);
+        return Piece {
+            session: z,
+            taken: 0,
+            at: end,
+            over: true,
+        };
+    }
+    run_cycle(z, left, out, at)
+}

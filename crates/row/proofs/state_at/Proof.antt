@@ -1,0 +1,72 @@
+-- By the masks, in their order. Assumes nothing.
+use mathlib.Core.Path.{sym, _∙_}
+use borrow.Author.Needs.{needs}
+use Rattle.cluster.specs.States.{stateAt}
+use Rattle.row.proofs.state_at.Statement.{statement}
+use Rattle.row.proofs.state_at.Tie as tie
+
+contains-requires : tie.Need-contains-requires
+contains-requires c κs = search needs
+
+mul-t7 : tie.Need-mul-t7
+mul-t7 c = search needs
+
+element-copy-out-t10 : tie.Need-element-copy-out-t10
+element-copy-out-t10 c = search needs
+
+mul-t11 : tie.Need-mul-t11
+mul-t11 c = search needs
+
+element-copy-out-t14 : tie.Need-element-copy-out-t14
+element-copy-out-t14 c = search needs
+
+mul-t15 : tie.Need-mul-t15
+mul-t15 c = search needs
+
+element-copy-out-t18 : tie.Need-element-copy-out-t18
+element-copy-out-t18 c = search needs
+
+contains-requires-2 : tie.Need-contains-requires-2
+contains-requires-2 c κs = search needs
+
+roles-of-requires : tie.Need-roles-of-requires
+roles-of-requires c κs = search needs
+
+out-at-requires : tie.Need-out-at-requires
+out-at-requires c κs = search needs
+
+returns : tie.Need-returns
+unfolding stateAt
+returns c = simp (sym (c .before .before .before .before .contains .ensures) ∙ c .before .before .before .if1 .taken)
+
+returns-2 : tie.Need-returns-2
+unfolding stateAt
+returns-2 c = simp (sym (c .before .before .before .contains .ensures) ∙ c .before .before .if1 .left, sym (c .before .contains2 .ensures) ∙ c .if2 .taken)
+
+returns-3 : tie.Need-returns-3
+unfolding stateAt
+returns-3 c =
+    simp (
+      sym (c .before .before .before .before .before .contains .ensures) ∙ c .before .before .before .before .if1 .left,
+      sym (c .before .before .before .contains2 .ensures) ∙ c .before .before .if2 .left,
+      c .out-at .ensures,
+      c .before .roles-of .ensures,
+    )
+
+pub state-at-spec : {M : Type 1} → statement M
+state-at-spec =
+    tie.close
+    (tie.spec
+    contains-requires
+    mul-t7
+    element-copy-out-t10
+    mul-t11
+    element-copy-out-t14
+    mul-t15
+    element-copy-out-t18
+    contains-requires-2
+    roles-of-requires
+    out-at-requires
+    returns
+    returns-2
+    returns-3)

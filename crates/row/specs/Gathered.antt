@@ -1,0 +1,67 @@
+-- What the walks over a row of node structs give.
+-- Assumes nothing.
+use mathlib.Core.Bool.{true, _&&_, cond}
+use mathlib.Core.List.{List, [], _∷_}
+use Prim.Native.Nat.{ℕ, suc}
+use lib.Dec.{ltb}
+use lib.ListN.{set, replicate}
+use Rattle.state.specs.declared.State.{State}
+use Rattle.state.specs.declared.Node.{Node}
+use Rattle.cluster.specs.declared.Roles.{Roles}
+use Rattle.cluster.specs.declared.States.{States}
+use Rattle.cluster.specs.Grouped.{heldBy, withState}
+use Rattle.cluster.specs.States.{stateAt}
+use Rattle.row.specs.declared.Gathered.{Gathered}
+use Rattle.row.specs.Row.{inPlace}
+
+abbrev pub rolesOf : States → Roles
+rolesOf s = record { members = s .members; joining = s .joining; «no_quorum» = s .«no_quorum»; outvoted = s .outvoted }
+
+-- the states with that of node q put in
+unfoldable pub withNode : States → ℕ → State → States
+withNode s q d =
+    let w = withState (rolesOf s) q d in
+    record {
+      members = w .members;
+      joining = w .joining;
+      «no_quorum» = w .«no_quorum»;
+      outvoted = w .outvoted;
+      numbers = set (s .numbers) q (heldBy d .number);
+      sets = set (s .sets) q (heldBy d .set);
+      bases = set (s .bases) q (heldBy d .base);
+    }
+
+-- before the first entry
+unfoldable pub nothingOf : Gathered
+nothingOf =
+    record {
+      states =
+          record {
+            members = 0;
+            joining = 0;
+            «no_quorum» = 0;
+            outvoted = 0;
+            numbers = replicate 64 0;
+            sets = replicate 64 0;
+            bases = replicate 64 0;
+          };
+      good = true;
+    }
+
+-- one more entry, that of place q; no cluster has more than 64
+unfoldable pub pushOf : ℕ → Gathered → ℕ → Node → Gathered
+pushOf n g q x = cond (ltb q 64) (record { states = withNode (g .states) q (x .state); good = g .good && inPlace n q x }) g
+
+-- the entries from place q on
+unfoldable pub gathered : ℕ → Gathered → ℕ → List Node → Gathered
+gathered n g q [] = g
+gathered n g q (x ∷ xs) = gathered n (pushOf n g q x) (suc q) xs
+
+-- the entry of place q, x past the last place
+unfoldable pub nodeOf : ℕ → States → ℕ → Node → Node
+nodeOf n s q x = cond (ltb q 64) (record { state = stateAt s q; id = q; nodes = n }) x
+
+-- each entry, from place q on, replaced by what f makes of its place and itself
+unfoldable pub each : (ℕ → Node → Node) → ℕ → List Node → List Node
+each f q [] = []
+each f q (x ∷ xs) = f q x ∷ each f (suc q) xs

@@ -1,0 +1,27 @@
+-- Paper 01: "the caller lends the states of all units as one row, one entry per unit", here as node structs.
+-- Assumes nothing.
+use mathlib.Core.Bool.{Bool, true, _&&_}
+use mathlib.Core.List.{List, [], _∷_}
+use Prim.Native.Nat.{ℕ, suc}
+use lib.Dec.{eqb}
+use Rattle.state.specs.declared.Node.{Node}
+use Rattle.state.specs.State.{formed}
+use Rattle.rules.specs.Faults.{Row, at, tabulate}
+
+-- the states of the entries
+unfoldable pub statesOf : List Node → Row
+statesOf [] = []
+statesOf (x ∷ xs) = x .state ∷ statesOf xs
+
+-- the entries of a cluster of n nodes in the given states
+unfoldable pub nodesOf : ℕ → Row → List Node
+nodesOf n row = tabulate n (λ q. record { state = at row q; id = q; nodes = n })
+
+-- "4: a state image not well formed, or in a row an entry q that is not node q of that N"
+unfoldable pub inPlace : ℕ → ℕ → Node → Bool
+inPlace n q x = formed x && eqb (x .id) q && eqb (x .nodes) n
+
+-- whether every entry, from place q on, is in its place
+unfoldable pub inOrder : ℕ → ℕ → List Node → Bool
+inOrder n q [] = true
+inOrder n q (x ∷ xs) = inPlace n q x && inOrder n (suc q) xs

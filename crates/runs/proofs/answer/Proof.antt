@@ -1,0 +1,60 @@
+-- By the task; the run through frames is told as the plain run. Assumes nothing.
+use denote.Ref.{now}
+use borrow.Author.Needs.{needs}
+use Rattle.calls.specs.declared.Task.the-variants.{Cycle, Run, FramedRun}
+use Rattle.runs.proofs.Calling.{same-task, run-answers}
+use Rattle.runs.proofs.answer.Statement.{statement}
+use Rattle.runs.proofs.answer.Tie as tie
+
+enum-told : tie.Need-enum-told
+enum-told c = search needs
+
+cycle-answer-requires : tie.Need-cycle-answer-requires
+cycle-answer-requires c κs = tt
+
+enum-told-2 : tie.Need-enum-told-2
+enum-told-2 c = search needs
+
+run-answer-requires : tie.Need-run-answer-requires
+run-answer-requires c κs = tt
+
+enum-told-3 : tie.Need-enum-told-3
+enum-told-3 c = search needs
+
+run-answer-requires-2 : tie.Need-run-answer-requires-2
+run-answer-requires-2 c κs = tt
+
+returns : tie.Need-returns
+returns c =
+    let a = c .before .before .before .before .args in
+    let r = c .cycle-answer .result in
+    same-task (a .task) Cycle (a .n) (a .len) (a .g) (now (a .s)) (r .status) (r .nodes) (r .states) (c .before .enum-told .given .1)
+    (c .cycle-answer .ensures)
+
+returns-2 : tie.Need-returns-2
+returns-2 c =
+    let a = c .before .before .before .before .args in
+    let r = c .run-answer .result in
+    same-task (a .task) Run (a .n) (a .len) (a .g) (now (a .s)) (r .status) (r .nodes) (r .states) (c .before .enum-told2 .given .1)
+    (run-answers (a .n) (a .len) (a .g) (now (a .s)) (r .status) (r .nodes) (r .states) (c .run-answer .ensures .0) (c .run-answer .ensures .1))
+
+returns-3 : tie.Need-returns-3
+returns-3 c =
+    let a = c .before .before .before .before .args in
+    let r = c .run-answer2 .result in
+    same-task (a .task) FramedRun (a .n) (a .len) (a .g) (now (a .s)) (r .status) (r .nodes) (r .states) (c .before .enum-told3 .given .1)
+    (run-answers (a .n) (a .len) (a .g) (now (a .s)) (r .status) (r .nodes) (r .states) (c .run-answer2 .ensures .0) (c .run-answer2 .ensures .1))
+
+pub answer-spec : {M : Type 1} → statement M
+answer-spec =
+    tie.close
+    (tie.spec
+    enum-told
+    cycle-answer-requires
+    enum-told-2
+    run-answer-requires
+    enum-told-3
+    run-answer-requires-2
+    returns
+    returns-2
+    returns-3)

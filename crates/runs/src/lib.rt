@@ -1,0 +1,162 @@
+// Calls on a row, worked out on values: what each answers, and the states that it leaves.
+ghost use mathlib.Core.Path.{_≡_};
+ghost use mathlib.Core.Bool.{true};
+ghost use mathlib.Core.List.{List};
+ghost use Prim.Native.Nat.{ℕ, _≤_, _<_};
+ghost use lib.Dec.{ltb};
+ghost use lib.ListN.{length};
+ghost use Rattle.state.specs.declared.Node.{Node};
+ghost use Rattle.state.specs.State.{formedState};
+ghost use Rattle.rules.specs.Faults.{cycle as theCycle};
+ghost use Rattle.table.specs.Records.{cycleLength};
+ghost use Rattle.table.specs.Table.{cyclesIn, tableOf};
+ghost use Rattle.cluster.specs.States.{stateAt, rowOf};
+ghost use Rattle.calls.specs.Calls.{cycleStatus, cycleLeft, ranTo, callStatus, callLeft};
+ghost use Rattle.runs.specs.Answered.{countByte, GatheredFrom, rowRefusal, Leaves, rowAfter};
+use calls::Task;
+use cluster::States;
+use row::Gathered;
+use rules::Faults;
+
+// What a call answers; where it is not refused, N and the states that it leaves.
+pub struct Outcome {
+    pub status: u32,
+    pub nodes: u8,
+    pub states: States,
+}
+
+// N as the entries of a row hold it.
+pub fn count_byte(n: u32) -> u8
+    ensures { λ r. ⌜ r ≡ countByte n ⌝ }
+{
+    if n <= 64 { n as u8 } else { 0 }
+}
+
+// Whether a buffer is longer than the record in it.
+fn is_longer(s: &[u8]) -> bool
+    ensures { λ r. ⌜ r ≡ ltb (cycleLength (now (s .entry))) (length (now (s .entry))) ⌝ }
+{
+    if s.len() < 36 {
+        return false;
+    }
+    table::cycle_length(s) < s.len()
+}
+
+// Refusals 1, 3 and 4 of a single cycle.
+fn row_status(n: u32, len: usize, good: bool, s: &[u8]) -> u32
+    ensures { λ r. ⌜ r ≡ rowRefusal n len good (now (s .entry)) ⌝ }
+{
+    if n < 2 {
+        return 1;
+    }
+    if 64 < n {
+        return 1;
+    }
+    if len != n as usize {
+        return 3;
+    }
+    if is_longer(s) {
+        return 3;
+    }
+    if good { 0 } else { 4 }
+}
+
+// The cycle count of cycle k of a run, as its frames have it.
+fn cycle_count(k: u64) -> u32
+    requires { ⌜ 0 < k ⌝ }
+    ensures { λ r. ⌜ r < 64 ⌝ }
+{
+    ((k - 1) % 64) as u32
+}
+
+// One cycle, on the fault table alone or through frames.
+fn one_cycle(framed: bool, n: usize, k: u64, s: States, f: Faults) -> States
+    requires { ⌜ (n ≤ 64) × (0 < k) ⌝ }
+    requires { ⌜ ((q : ℕ) → q < n → formedState q n (stateAt s q) ≡ true) ⌝ }
+    ensures { λ r. ⌜ rowOf n r ≡ theCycle (record { nodes = n }) f (rowOf n s) ⌝ }
+{
+    if framed {
+        bus::cycle(n, cycle_count(k), s, f)
+    } else {
+        cluster::cycle(n, s, f)
+    }
+}
+
+// The states after the cycles of accepted records, from those at the start.
+fn run(framed: bool, n: usize, start: States, s: &[u8]) -> States
+    requires { ⌜ (n ≤ 64) × (cyclesIn (length (now s)) n 1 (now s) .refusal ≡ 0) ⌝ }
+    requires { ⌜ ((q : ℕ) → q < n → formedState q n (stateAt start q) ≡ true) ⌝ }
+    ensures { λ r. ⌜ rowOf n r ≡ rowAfter (record { nodes = n }) (rowOf n start) (cyclesIn (length (now (s .entry))) n 1 (now (s .entry)) .whole) ⌝ }
+{
+    let mut states = start;
+    let mut at: usize = 0;
+    let mut k: u64 = 1;
+    while at < s.len() {
+        let rest = &s[at..];
+        let f = table::cycle_faults(rest);
+        states = one_cycle(framed, n, k, states, f);
+        at += table::cycle_length(rest);
+        k += 1;
+    }
+    states
+}
+
+fn refused(status: u32, states: States) -> Outcome
+    ensures { λ r. ⌜ r .status ≡ status ⌝ }
+{
+    Outcome {
+        status,
+        nodes: 0,
+        states,
+    }
+}
+
+// A single cycle on the row as it is lent.
+fn cycle_answer(n: u32, len: usize, g: Gathered, s: &[u8]) -> Outcome
+    ensures answered { λ r. ⌜ ((nodes : List Node) → GatheredFrom n g len nodes → r .status ≡ cycleStatus n nodes (now (s .entry))) ⌝ }
+    ensures left { λ r. ⌜ ((nodes : List Node) → GatheredFrom n g len nodes → r .status ≡ 0 → Leaves (r .nodes) (r .states) len (cycleLeft n nodes (now (s .entry)))) ⌝ }
+{
+    let status = row_status(n, len, g.good, s);
+    if status != 0 {
+        return refused(status, g.states);
+    }
+    let refusal = table::cycle_refusal(n as usize, 1, s);
+    if refusal != 0 {
+        return refused(refusal, g.states);
+    }
+    Outcome {
+        status: 0,
+        nodes: n as u8,
+        states: cluster::cycle(n as usize, g.states, table::cycle_faults(s)),
+    }
+}
+
+// A table's run, from the beginning. The whole table is looked at before anything is set.
+fn run_answer(framed: bool, len: usize, lent: States, s: &[u8]) -> Outcome
+    ensures answered { λ r. ⌜ r .status ≡ tableOf true len (now (s .entry)) .cycles .refusal ⌝ }
+    ensures left { λ r. ⌜ (r .status ≡ 0 → Leaves (r .nodes) (r .states) len (ranTo (tableOf true len (now (s .entry))))) ⌝ }
+{
+    let refusal = table::table_refusal(true, len, s);
+    if refusal != 0 {
+        return refused(refusal, lent);
+    }
+    let n = table::start_count(s);
+    let begun = cluster::begin(n as usize, table::start_founding(s));
+    Outcome {
+        status: 0,
+        nodes: n,
+        states: run(framed, n as usize, begun, &s[12..]),
+    }
+}
+
+// What a call answers on what was gathered of a row of so many entries.
+pub fn answer(task: Task, n: u32, len: usize, g: Gathered, s: &[u8]) -> Outcome
+    ensures answered { λ r. ⌜ ((nodes : List Node) → GatheredFrom n g len nodes → r .status ≡ callStatus task n nodes (now (s .entry))) ⌝ }
+    ensures left { λ r. ⌜ ((nodes : List Node) → GatheredFrom n g len nodes → r .status ≡ 0 → Leaves (r .nodes) (r .states) len (callLeft task n nodes (now (s .entry)))) ⌝ }
+{
+    match task {
+        Task::Cycle => cycle_answer(n, len, g, s),
+        Task::Run => run_answer(false, len, g.states, s),
+        Task::FramedRun => run_answer(true, len, g.states, s),
+    }
+}
