@@ -3,7 +3,7 @@ use mathlib.Core.Path.{_≡_, refl, sym, ap, subst, _∙_}
 use mathlib.Core.Logic.{_≢_}
 use mathlib.Core.Bool.{Bool, true, false, false≢true}
 use mathlib.Core.List.{List}
-use Prim.Native.Nat.{ℕ, _+_, _<_}
+use Prim.Native.Nat.{ℕ, _+_, _<_, _≤_}
 use native.Mathlib.Omega.{arith}
 use lib.Dec.{eqb}
 use lib.ListN.{length, getD, set}
@@ -22,3 +22,13 @@ stored P l i x h all here j k = go (eqb j i) refl
         let n : j ≢ i = λ z. false≢true (sym e ∙ ap (λ (y : ℕ). eqb y i) z ∙ eqb-self i) in
         let less : j < i = omega arith in
         subst (P j) (sym (getD-set-other l i j x 0 n)) (all j less)
+
+-- and what holds of the elements from i on, holds of those after it
+pub unstored : (P : ℕ → ℕ → Type 0) (l : List ℕ) (i x : ℕ) → ((j : ℕ) → i ≤ j → P j (getD l j 0)) → (j : ℕ) → i + 1 ≤ j → P j (getD (set l i x) j 0)
+unstored P l i x all j h = subst (P j) (sym (getD-set-other l i j x 0 apart)) (all j later)
+  where
+    apart : j ≢ i
+    apart z = omega arith
+
+    later : i ≤ j
+    later = omega arith

@@ -1,4 +1,5 @@
 pub mod Arrays
 mod Tallies
+mod Keeping
 pub mod Deciding
 pub mod Whole

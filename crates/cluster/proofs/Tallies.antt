@@ -3,90 +3,135 @@ use mathlib.Core.Path.{_≡_, refl, sym, ap, ap₂, subst, _∙_}
 use mathlib.Core.Bool.{Bool, true, false, not, _&&_, _||_, cond, false≢true}
 use mathlib.Core.List.{List}
 use mathlib.Core.Option.{Option, some}
-use Prim.Native.Nat.{ℕ, _+_, _<_, _≤_}
+use Prim.Native.Nat.{ℕ, zero, suc, _<_, _≤_}
 use native.Mathlib.Omega.{arith}
-use lib.Dec.{ltb}
+use lib.Dec.{eqb, ltb}
+use lib.Bits.{and-le-l}
 use lib.ListN.{getD}
 use Rattle.sets.specs.Sets.{has, single, _∪_, _∩_, _∖_, those, subset, lowest, any, every}
 use Rattle.sets.specs.Quorum.{quorum}
-use Rattle.sets.proofs.Booleans.{both, and-l}
-use Rattle.sets.proofs.Membership.{has-inter, has-diff, has-none, some-node, set-ext, subset-in, subset-of}
+use Rattle.sets.proofs.Booleans.{both, and-l, and-i, eqb-true}
+use Rattle.sets.proofs.Membership.{has-inter, has-union, has-diff, has-single, has-none, some-node, set-ext, subset-in, subset-of}
 use Rattle.sets.proofs.Nodes.{has-those, those-in, in-those, of-those, lowest-in, lowest-least, every-i, every-e}
 use Rattle.state.specs.declared.Group.{Group}
 use Rattle.state.specs.declared.Reason.the-variants.{NoQuorum, Outvoted}
 use Rattle.state.specs.declared.State.the-variants.{Out, Joining}
 use Rattle.rules.specs.declared.Vote.{Vote}
 use Rattle.rules.specs.OneCycle.{Ballots, sameGroup, is, voters, wins, newSet, newGroup, withOwn, rival, memberOn, memberDecides, joinerDecides}
-use Rattle.rules.specs.Ballots.{voteAt, ballotsOf, alike, fitsAt, agreesAt}
-use borrow.Author.Count.{below-none, below-more}
-use Rattle.rules.proofs.Votes.{is-eq, is-self}
+use Rattle.rules.specs.Ballots.{voteAt, ballotsOf, fitsAt, agreesAt}
+use Rattle.rules.proofs.Votes.{vote-self, is-eq, is-self}
 use Rattle.rules.proofs.States.{some-inj}
-use Rattle.rules.proofs.Slots.{without, slot-full, slot-empty, slots-without, voters-tally}
-use Rattle.rules.proofs.Own.{own-tally, decides-on, decides-out}
+use Rattle.rules.proofs.Slots.{without, slot-full, slot-empty, slots-without}
+use Rattle.rules.proofs.Own.{decides-on, decides-out}
 use Rattle.rules.proofs.Entering.{fits-full, enters-none, enters-on}
-use Rattle.cluster.specs.Grouped.{equalTo, Grouped, Within, spreadAt, rivalAt, memberWith}
+use Rattle.cluster.specs.Grouped.{equalTo, Alike, Grouped, Within, Below, spreadAt, rivalAt, ownTally, memberWith}
+
+-- tests of a slot, in the order of the masks and in that of the rules
+swap : (a b c : Bool) → (((a && b) && true) && c) ≡ (a && (c && b))
+swap true true true = refl
+swap true true false = refl
+swap true false true = refl
+swap true false false = refl
+swap false b c = refl
+
+no : (a b : Bool) → ((a && false) && b) ≡ (false && b)
+no true b = refl
+no false b = refl
+
+never : (a b : Bool) → (a && (b && false)) ≡ false
+never true true = refl
+never true false = refl
+never false b = refl
+
+own-slot : (a b c : Bool) → (((a && true) && (b || true)) && c) ≡ (a && (c && true))
+own-slot true true true = refl
+own-slot true true false = refl
+own-slot true false true = refl
+own-slot true false false = refl
+own-slot false b c = refl
 
 -- a vote with the group g that has a quorum, from the test s of its group
 pub rival-test : (n : ℕ) (b : Ballots) (g : Group) (o : Option Vote) (v : Vote) (s : Bool) → o ≡ some v → s ≡ sameGroup g (v .group) → rival n b g o ≡ (s && wins n b v)
 rival-test n b g o v s e k = ap (rival n b g) e ∙ ap (λ (x : Bool). x && wins n b v) (sym k)
 
+-- less is left without a node of it
+diff-less : (p a b : ℕ) → has p a ≡ true → has p b ≡ true → a ∖ b < a
+unfolding _∖_ _∩_
+diff-less p a b h k = go (a ∩ b) refl
+  where
+    go : (x : ℕ) → a ∩ b ≡ x → a ∖ b < a
+    go zero e = absurd (false≢true (sym (has-none p) ∙ ap (has p) (sym e) ∙ has-inter p a b ∙ and-i (has p a) (has p b) h k))
+    go (suc x) e = omega (arith, and-le-l a b, e)
+
 -- a part of what is inside is inside
 pub inside-less : (a b d m : ℕ) → Within a m → d ≡ a ∖ b → Within d m
 inside-less a b d m w e x h = w x (and-l (has x a) (not (has x b)) (sym (has-diff x a b) ∙ ap (has x) (sym e) ∙ h))
 
+-- the lowest node of a set that is not empty
+pub lowest-node : (n m p : ℕ) → n ≤ 64 → Below n m → (m ≡ 0 → ⊥) → p ≡ lowest 64 (λ x. has x m) → (p < n) × (has p m ≡ true)
+lowest-node n m p small below some-left e =
+    let x = some-node m some-left in
+    let l : x .0 < n = below (x .0) (x .1) in
+    let k : has p m ≡ true = ap (λ (y : ℕ). has y m) e ∙ lowest-in 64 (x .0) (λ y. has y m) (omega arith) (x .1) .1 in
+    (below p k, k)
+
 module _ (numbers sets bases views : List ℕ) (n members : ℕ) where
-  -- `same` is made for all members but those left, and none below p is left
-  pub record Split (left p : ℕ) (same : List ℕ) : Type 0 where
-    pub within : Within left members
-    pub made : (j : ℕ) → j < n → has j members ≡ true → has j left ≡ false → getD same j 0 ≡ equalTo numbers sets bases views n members (voteAt numbers sets bases views j)
-    pub passed : (j : ℕ) → j < p → has j left ≡ false
-
-  pub split-none : (same : List ℕ) → Split members 0 same
-  split-none same =
-      record {
-        within = λ j h. h;
-        made = λ j h m e. absurd (false≢true (sym e ∙ m));
-        passed = below-none (λ j. has j members ≡ false);
-      }
-
-  pub split-skip : (left p L : ℕ) (same S : List ℕ) → Split left p same → has p left ≡ false → L ≡ left → S ≡ same → Split L (p + 1) S
-  split-skip left p L same S s h e k =
-      record {
-        within = λ j g. s .within j (ap (has j) (sym e) ∙ g);
-        made = λ j l m g. ap (λ (x : List ℕ). getD x j 0) k ∙ s .made j l m (ap (has j) (sym e) ∙ g);
-        passed = below-more (λ j. has j L ≡ false) p (λ j l. ap (has j) e ∙ s .passed j l) (ap (has p) e ∙ h);
-      }
-
-  -- a member that is left: m, the members that vote as it does, is stored for each of them
-  pub split-next : (left p m L : ℕ) (v : Vote) (same S : List ℕ) → Split left p same → p < n → has p left ≡ true → v ≡ voteAt numbers sets bases views p → m ≡ equalTo numbers sets bases views n members v
-      → ((j : ℕ) → j < n → getD S j 0 ≡ spreadAt m same j) → L ≡ left ∖ m → Split L (p + 1) S
+  -- the members that cast a vote are alike
+  pub equal-alike : (m : ℕ) (v : Vote) → m ≡ equalTo numbers sets bases views n members v → Alike numbers sets bases views n members m
   unfolding equalTo
-  split-next left p m L v same S s l h e f spread k =
-      record {
-        within = λ j g. s .within j (and-l (has j left) (not (has j m)) (sym (without-m j) ∙ g));
-        made = λ j i g o. spread j i ∙ go j i g (has j m) refl (sym (without-m j) ∙ o);
-        passed = below-more (λ j. has j L ≡ false) p (λ j i. without-m j ∙ ap (λ (x : Bool). x && not (has j m)) (s .passed j i)) (without-m p ∙ ap₂ (λ (x y : Bool). x && not y) h own);
-      }
+  equal-alike m v f j g h =
+      let w = of-those j n (λ x. is v (ballotsOf numbers sets bases views members x)) (ap (has j) (sym f) ∙ h) in
+      let z : voteAt numbers sets bases views j ≡ v = some-inj (sym (slot-full numbers sets bases views members j g) ∙ is-eq v (ballotsOf numbers sets bases views members j) (w .1)) in
+      f ∙ ap (λ (x : Vote). those n (λ y. is x (ballotsOf numbers sets bases views members y))) (sym z)
+
+  pub none-alike : Alike numbers sets bases views n members 0
+  none-alike j g h = absurd (false≢true (sym (has-none j) ∙ h))
+
+  -- what is left without those that vote as its node p does
+  pub left-less : (left p m L : ℕ) (v : Vote) → p < n → has p members ≡ true → has p left ≡ true → v ≡ voteAt numbers sets bases views p → m ≡ equalTo numbers sets bases views n members v → L ≡ left ∖ m → L < left
+  unfolding equalTo
+  left-less left p m L v l g h e f k = subst (λ (x : ℕ). x < left) (sym k) (diff-less p left m h own)
     where
-      without-m : (j : ℕ) → has j L ≡ (has j left && not (has j m))
-      without-m j = ap (has j) k ∙ has-diff j left m
-
-      full : (j : ℕ) → has j members ≡ true → ballotsOf numbers sets bases views members j ≡ some (voteAt numbers sets bases views j)
-      full j g = slot-full numbers sets bases views members j g
-
       own : has p m ≡ true
-      own = ap (has p) f ∙ in-those p n (λ x. is v (ballotsOf numbers sets bases views members x)) l (is-self v (ballotsOf numbers sets bases views members p) (full p (s .within p h) ∙ ap some (sym e)))
+      own = ap (has p) f ∙ in-those p n (λ x. is v (ballotsOf numbers sets bases views members x)) l (is-self v (ballotsOf numbers sets bases views members p) (slot-full numbers sets bases views members p g ∙ ap some (sym e)))
 
-      and-yes : (a : Bool) → (a && true) ≡ false → a ≡ false
-      and-yes true g = g
-      and-yes false g = refl
+  module _ (lead : ℕ) where
+    -- `same` is made for all members but those left and those of `lead`
+    pub record Split (left : ℕ) (same : List ℕ) : Type 0 where
+      pub within : Within left members
+      pub made : (j : ℕ) → j < n → has j members ≡ true → has j left ≡ false → has j lead ≡ false → getD same j 0 ≡ equalTo numbers sets bases views n members (voteAt numbers sets bases views j)
 
-      go : (j : ℕ) → j < n → has j members ≡ true → (a : Bool) → has j m ≡ a → (has j left && not a) ≡ false → cond a m (getD same j 0) ≡ those n (λ x. is (voteAt numbers sets bases views j) (ballotsOf numbers sets bases views members x))
-      go j i g true a o =
-          let w = of-those j n (λ x. is v (ballotsOf numbers sets bases views members x)) (ap (has j) (sym f) ∙ a) in
-          let z : voteAt numbers sets bases views j ≡ v = some-inj (sym (full j g) ∙ is-eq v (ballotsOf numbers sets bases views members j) (w .1)) in
-          f ∙ ap (λ (x : Vote). those n (λ y. is x (ballotsOf numbers sets bases views members y))) (sym z)
-      go j i g false a o = s .made j i g (and-yes (has j left) o)
+    pub split-none : (L : ℕ) (same : List ℕ) → L ≡ members ∖ lead → Split L same
+    split-none L same k =
+        record {
+          within = inside-less members lead L members (λ j h. h) k;
+          made = λ j h m e o. absurd (false≢true (sym e ∙ ap (has j) k ∙ has-diff j members lead ∙ ap₂ (λ (x y : Bool). x && not y) m o));
+        }
+
+    -- m, the members with one vote, is stored for each of them
+    pub split-next : (left m L : ℕ) (same S : List ℕ) → Split left same → Alike numbers sets bases views n members m → ((j : ℕ) → j < n → getD S j 0 ≡ spreadAt m same j) → L ≡ left ∖ m → Split L S
+    split-next left m L same S s alike spread k =
+        record {
+          within = inside-less left m L members (s .within) k;
+          made = λ j i g o u. spread j i ∙ go j i g u (has j m) refl (sym (has-diff j left m) ∙ ap (has j) (sym k) ∙ o);
+        }
+      where
+        and-yes : (a : Bool) → (a && true) ≡ false → a ≡ false
+        and-yes true g = g
+        and-yes false g = refl
+
+        go : (j : ℕ) → j < n → has j members ≡ true → has j lead ≡ false → (a : Bool) → has j m ≡ a → (has j left && not a) ≡ false
+            → cond a m (getD same j 0) ≡ equalTo numbers sets bases views n members (voteAt numbers sets bases views j)
+        go j i g u true a o = alike j g a
+        go j i g u false a o = s .made j i g (and-yes (has j left) o) u
+
+    -- nothing is left
+    pub split-end : (left : ℕ) (same : List ℕ) → Alike numbers sets bases views n members lead → Split left same → left ≡ 0 → Grouped numbers sets bases views n members lead same
+    split-end left same alike s z p l m = go (has p lead) refl
+      where
+        go : (a : Bool) → has p lead ≡ a → cond a lead (getD same p 0) ≡ equalTo numbers sets bases views n members (voteAt numbers sets bases views p)
+        go true a = alike p m a
+        go false a = s .made p l m (ap (has p) z ∙ has-none p) a
 
 module _ (numbers sets bases views : List ℕ) (n members present : ℕ) (inside : Within present members) where
   arrived-is : (v : Vote) (x : ℕ) → has x present ≡ true → is v (ballotsOf numbers sets bases views members x) ≡ is v (ballotsOf numbers sets bases views present x)
@@ -104,39 +149,23 @@ module _ (numbers sets bases views : List ℕ) (n members present : ℕ) (inside
       sent : Vote → ℕ → Bool
       sent v x = is v (ballotsOf numbers sets bases views members x)
 
-      swap : (a b c : Bool) → (((a && b) && true) && c) ≡ (a && (c && b))
-      swap true true true = refl
-      swap true true false = refl
-      swap true false true = refl
-      swap true false false = refl
-      swap false b c = refl
-
-      no : (a b : Bool) → ((a && false) && b) ≡ (false && b)
-      no true b = refl
-      no false b = refl
-
-      never : (a b : Bool) → (a && (b && false)) ≡ false
-      never true true = refl
-      never true false = refl
-      never false b = refl
-
       go : (x : ℕ) (a : Bool) → has x present ≡ a → (((ltb x n && sent v x) && a) && has x M) ≡ (ltb x n && (has x M && is v (ballotsOf numbers sets bases views present x)))
       go x true h = ap (λ (y : Bool). ((ltb x n && y) && true) && has x M) (arrived-is v x h) ∙ swap (ltb x n) (is v (ballotsOf numbers sets bases views present x)) (has x M)
       go x false h =
           no (ltb x n && sent v x) (has x M)
           ∙ sym (ap (λ (o : Option Vote). ltb x n && (has x M && is v o)) (slot-empty numbers sets bases views present x h) ∙ never (ltb x n) (has x M))
 
-  module _ (same : List ℕ) (grouped : Grouped numbers sets bases views n members same) where
-    -- the tally t of the vote v of a member p
-    pub slot-voters : (p t : ℕ) (v : Vote) → p < n → has p members ≡ true → v ≡ voteAt numbers sets bases views p → t ≡ getD same p 0 ∩ present ∩ v .group .set
+  module _ (lead : ℕ) (same : List ℕ) (grouped : Grouped numbers sets bases views n members lead same) where
+    -- the tally t of the vote v of a member p, among those that cast it
+    pub slot-voters : (p t votes : ℕ) (v : Vote) → p < n → has p members ≡ true → v ≡ voteAt numbers sets bases views p → votes ≡ spreadAt lead same p → t ≡ votes ∩ present ∩ v .group .set
         → t ≡ voters n (ballotsOf numbers sets bases views present) v
-    slot-voters p t v h m e k =
-        k ∙ ap (λ (x : ℕ). x ∩ present ∩ v .group .set) (grouped p h m ∙ ap (equalTo numbers sets bases views n members) (sym e)) ∙ tally-voters v
+    slot-voters p t votes v h m e o k =
+        k ∙ ap (λ (x : ℕ). x ∩ present ∩ v .group .set) (o ∙ grouped p h m ∙ ap (equalTo numbers sets bases views n members) (sym e)) ∙ tally-voters v
 
-    pub slot-wins : (p t : ℕ) (v : Vote) (r : Bool) → p < n → has p present ≡ true → v ≡ voteAt numbers sets bases views p → t ≡ getD same p 0 ∩ present ∩ v .group .set
+    pub slot-wins : (p t votes : ℕ) (v : Vote) (r : Bool) → p < n → has p present ≡ true → v ≡ voteAt numbers sets bases views p → votes ≡ spreadAt lead same p → t ≡ votes ∩ present ∩ v .group .set
         → r ≡ quorum t (v .group .base) → r ≡ wins n (ballotsOf numbers sets bases views present) v
     unfolding wins
-    slot-wins p t v r h m e k f = f ∙ ap (λ (x : ℕ). quorum x (v .group .base)) (slot-voters p t v h (inside p m) e k)
+    slot-wins p t votes v r h m e o k f = f ∙ ap (λ (x : ℕ). quorum x (v .group .base)) (slot-voters p t votes v h (inside p m) e o k)
 
     -- ---- a joining node
 
@@ -167,10 +196,10 @@ module _ (numbers sets bases views : List ℕ) (n members present : ℕ) (inside
             sym (those-in p n fitsSlot l) ∙ ap (has p) (sym e) ∙ lowest-least 64 p (λ x. has x fit) k
 
         -- all that fit are equal to the first if they are among those with its vote
-        pub enters-with : (v : Vote) (r : Bool) → v ≡ voteAt numbers sets bases views first → r ≡ subset fit (getD same first 0)
+        pub enters-with : (votes : ℕ) (v : Vote) (r : Bool) → v ≡ voteAt numbers sets bases views first → votes ≡ spreadAt lead same first → r ≡ subset fit votes
             → joinerDecides (record { nodes = n }) q (ballotsOf numbers sets bases views present) ≡ cond r (memberOn (record { nodes = n }) (ballotsOf numbers sets bases views present) v) Joining
         unfolding equalTo
-        enters-with v r k f =
+        enters-with votes v r k o f =
             enters-on (record { nodes = n }) q (ballotsOf numbers sets bases views present) first v r (first-fits .0) none-before (first-fits .1)
             (slot-full numbers sets bases views present first first-present ∙ ap some (sym k)) (f ∙ ap (subset fit) alike-first ∙ both (subset fit E) (every n (agreesAt n q b v)) to from)
           where
@@ -180,8 +209,8 @@ module _ (numbers sets bases views : List ℕ) (n members present : ℕ) (inside
             E : ℕ
             E = equalTo numbers sets bases views n members v
 
-            alike-first : getD same first 0 ≡ E
-            alike-first = grouped first (first-fits .0) (inside first first-present) ∙ ap (equalTo numbers sets bases views n members) (sym k)
+            alike-first : votes ≡ E
+            alike-first = o ∙ grouped first (first-fits .0) (inside first first-present) ∙ ap (equalTo numbers sets bases views n members) (sym k)
 
             to : subset fit E ≡ true → every n (agreesAt n q b v) ≡ true
             to s = every-i n (agreesAt n q b v) (λ p h. go p h (fitsAt n q b p) refl)
@@ -199,21 +228,51 @@ module _ (numbers sets bases views : List ℕ) (n members present : ℕ) (inside
                 in-those p n (λ x. is v (ballotsOf numbers sets bases views members x)) (w .0) (arrived-is v p (fits-full numbers sets bases views present n q p (w .1)) ∙ y))
 
     -- a member of the group that the vote v of the member p gives
-    pub member-with : (p t : ℕ) (v : Vote) → p < n → has p members ≡ true → v ≡ voteAt numbers sets bases views p → t ≡ getD same p 0 ∩ present ∩ v .group .set
+    pub member-with : (p t votes : ℕ) (v : Vote) → p < n → has p members ≡ true → v ≡ voteAt numbers sets bases views p → votes ≡ spreadAt lead same p → t ≡ votes ∩ present ∩ v .group .set
         → memberWith v t ≡ memberOn (record { nodes = n }) (ballotsOf numbers sets bases views present) v
     unfolding newGroup newSet
-    member-with p t v h m e k = ap (memberWith v) (slot-voters p t v h m e k)
+    member-with p t votes v h m e o k = ap (memberWith v) (slot-voters p t votes v h m e o k)
 
 -- ---- a member
 
-module _ (numbers sets bases views : List ℕ) (n members present : ℕ) (inside : Within present members) (same : List ℕ) (grouped : Grouped numbers sets bases views n members same) where
-  module _ (q : ℕ) (own : Vote) (s d t m : ℕ) (r : Bool) (l : q < n) (i : has q members ≡ true) (e : own ≡ voteAt numbers sets bases views q)
-      (es : s ≡ single q) (ed : d ≡ present ∖ s) (et : t ≡ getD same q 0 ∩ d ∩ own .group .set) (er : r ≡ has q (own .group .set)) (em : m ≡ cond r (single q ∪ t) t) where
+module _ (numbers sets bases views : List ℕ) (n members present : ℕ) (inside : Within present members) (lead : ℕ) (same : List ℕ) (grouped : Grouped numbers sets bases views n members lead same) where
+  module _ (q m votes : ℕ) (own : Vote) (l : q < n) (i : has q members ≡ true) (e : own ≡ voteAt numbers sets bases views q) (ev : votes ≡ spreadAt lead same q)
+      (em : m ≡ ownTally votes (own .group .set) present q) where
     -- the own vote's voters
     mine : m ≡ voters n (withOwn q own (ballotsOf numbers sets bases views present)) own
+    unfolding equalTo voters
     mine =
-        own-tally numbers sets bases views n present q own s d (those n (alike numbers sets bases d (own .group))) es ed refl t m r l
-        (slot-voters numbers sets bases views n members d (inside-less present s d members inside ed) same grouped q t own l i e et ∙ voters-tally numbers sets bases views n d own) er em
+        em ∙ ap (λ (x : ℕ). ownTally x M present q) (ev ∙ grouped q l i ∙ ap (equalTo numbers sets bases views n members) (sym e))
+        ∙ set-ext (λ x.
+        has-inter x (those n sent ∩ (present ∪ single q)) M
+        ∙ ap (λ (y : Bool). y && has x M) (has-inter x (those n sent) (present ∪ single q) ∙ ap₂ (λ (y z : Bool). y && z) (has-those x n sent) (has-union x present (single q) ∙ ap (λ (y : Bool). has x present || y) (has-single x q)))
+        ∙ go x (eqb x q) refl (has x present) refl ∙ sym (has-those x n (λ p. has p M && is own (withOwn q own b p))))
+      where
+        M : ℕ
+        M = own .group .set
+
+        b : Ballots
+        b = ballotsOf numbers sets bases views present
+
+        sent : ℕ → Bool
+        sent x = is own (ballotsOf numbers sets bases views members x)
+
+        cast : (x : ℕ) → x ≡ q → sent x ≡ true
+        cast x z =
+            is-self own (ballotsOf numbers sets bases views members x)
+            (slot-full numbers sets bases views members x (ap (λ (y : ℕ). has y members) z ∙ i) ∙ ap some (ap (voteAt numbers sets bases views) z ∙ sym e))
+
+        go : (x : ℕ) (a : Bool) → eqb x q ≡ a → (c : Bool) → has x present ≡ c
+            → (((ltb x n && sent x) && (c || a)) && has x M) ≡ (ltb x n && (has x M && is own (cond a (some own) (b x))))
+        go x true a c h =
+            ap (λ (y : Bool). ((ltb x n && y) && (c || true)) && has x M) (cast x (eqb-true a)) ∙ own-slot (ltb x n) c (has x M)
+            ∙ ap (λ (y : Bool). ltb x n && (has x M && y)) (sym (vote-self own))
+        go x false a true h =
+            ap (λ (y : Bool). ((ltb x n && y) && true) && has x M) (arrived-is numbers sets bases views n members present inside own x h)
+            ∙ swap (ltb x n) (is own (b x)) (has x M)
+        go x false a false h =
+            no (ltb x n && sent x) (has x M)
+            ∙ sym (ap (λ (o : Option Vote). ltb x n && (has x M && is own o)) (slot-empty numbers sets bases views present x h) ∙ never (ltb x n) (has x M))
 
     pub goes-on : (u : Bool) → u ≡ quorum m (own .group .base) → u ≡ true
         → memberWith own m ≡ memberDecides (record { nodes = n }) q (voteAt numbers sets bases views q) (ballotsOf numbers sets bases views present)
@@ -221,9 +280,9 @@ module _ (numbers sets bases views : List ℕ) (n members present : ℕ) (inside
         sym (decides-on (record { nodes = n }) q own (ballotsOf numbers sets bases views present) m mine (sym k ∙ f))
         ∙ ap (λ (v : Vote). memberDecides (record { nodes = n }) q v (ballotsOf numbers sets bases views present)) e
 
-    pub halts : (u w : Bool) → u ≡ quorum m (own .group .base) → u ≡ false → w ≡ any n (rivalAt numbers sets bases views n d (own .group))
+    pub halts : (s d : ℕ) (u w : Bool) → s ≡ single q → d ≡ present ∖ s → u ≡ quorum m (own .group .base) → u ≡ false → w ≡ any n (rivalAt numbers sets bases views n d (own .group))
         → cond w (Out Outvoted) (Out NoQuorum) ≡ memberDecides (record { nodes = n }) q (voteAt numbers sets bases views q) (ballotsOf numbers sets bases views present)
-    halts u w k f g =
+    halts s d u w es ed k f g =
         sym (decides-out (record { nodes = n }) q own (ballotsOf numbers sets bases views present) m mine w (sym k ∙ f) (g ∙ ap (λ (b : Ballots). any n (λ p. rival n b (own .group) (b p))) others))
         ∙ ap (λ (v : Vote). memberDecides (record { nodes = n }) q v (ballotsOf numbers sets bases views present)) e
       where

@@ -1,6 +1,6 @@
 -- One whole cycle: the masks after rule 1 and the grouped votes against the rules of a row. Assumes nothing.
 use mathlib.Core.Path.{_≡_, refl, sym, ap, ap₂, _∙_}
-use mathlib.Core.Bool.{Bool, true, false, not, _&&_, _||_, cond}
+use mathlib.Core.Bool.{Bool, true, false, not, _&&_, _||_, cond, false≢true}
 use mathlib.Core.List.{List, _∷_}
 use mathlib.Core.Option.{Option, none, some}
 use Prim.Native.Nat.{ℕ, zero, suc, _<_}
@@ -24,7 +24,7 @@ use Rattle.rules.proofs.Rows.{get-tabulate, get-tabulate-out}
 use Rattle.cluster.specs.declared.Roles.{Roles}
 use Rattle.cluster.specs.declared.States.{States}
 use Rattle.cluster.specs.States.{groupAt, stateAt, rowOf}
-use Rattle.cluster.specs.Grouped.{rolesAfter, viewAt, outAt, decidedAt}
+use Rattle.cluster.specs.Grouped.{rolesAfter, viewAt, Below, outAt, decidedAt}
 
 -- equal entries, equal rows
 pub tabulate-ext {ℓ} : {A : Type ℓ} (n : ℕ) (f g : ℕ → A) → ((q : ℕ) → q < n → f q ≡ g q) → tabulate n f ≡ tabulate n g
@@ -240,6 +240,14 @@ module _ (n : ℕ) (s : States) (f : Faults) where
     pub whole : (r : States) → ((q : ℕ) → q < n → stateAt r q ≡ decidedAt (s .numbers) (s .sets) (s .bases) views n after (presentAt q) q) → rowOf n r ≡ cycle config f (rowOf n s)
     unfolding rowOf cycle decisions
     whole r e = tabulate-ext n (stateAt r) (λ q. decides config f row q (at row q) (arrivedAt f (votes config f row) q)) (λ q h. e q h ∙ sym (decided q h))
+
+-- the masks w after rule 1 hold nodes alone
+pub members-below : (n : ℕ) (s : States) (f : Faults) (w : Roles) → w ≡ after n s f → Below n (w .members)
+members-below n s f w e q h = go (ltb q n) refl
+  where
+    go : (b : Bool) → ltb q n ≡ b → q < n
+    go true l = ltb-lt l
+    go false l = absurd (false≢true (sym (members-high n s f q l) ∙ ap (λ (x : Roles). has q (x .members)) (sym e) ∙ h))
 
 -- the same from the values that the code has on its way: the masks w after rule 1, the heartbeats and the votes that go out
 pub run-cycle : (n : ℕ) (s : States) (f : Faults) (w : Roles) (h0 h1 t : ℕ) (views : List ℕ) (r : States)

@@ -1,11 +1,12 @@
 -- Votes grouped by their value, and what each node makes of them.
 -- Assumes nothing.
 use mathlib.Core.Path.{_≡_}
-use mathlib.Core.Bool.{Bool, true, false, cond}
+use mathlib.Core.Bool.{Bool, true, false, _&&_, cond}
 use mathlib.Core.List.{List}
 use Prim.Native.Nat.{ℕ, _<_}
+use lib.Dec.{eqb}
 use lib.ListN.{getD}
-use Rattle.sets.specs.Sets.{has, single, _∪_, _∖_, those, below}
+use Rattle.sets.specs.Sets.{has, single, _∪_, _∩_, _∖_, those, below}
 use Rattle.state.specs.declared.Reason.the-variants.{Stopped, NoQuorum, Outvoted}
 use Rattle.state.specs.declared.Group.{Group}
 use Rattle.state.specs.declared.State.{State}
@@ -14,6 +15,7 @@ use Rattle.rules.specs.declared.Vote.{Vote}
 use Rattle.rules.specs.OneCycle.{sendsMember, sendsJoin, is, viewOf, rival, groupWith, memberDecides, joinerDecides}
 use Rattle.rules.specs.Ballots.{voteAt, ballotsOf}
 use Rattle.cluster.specs.declared.Roles.{Roles}
+use Rattle.cluster.specs.declared.Kept.{Kept}
 
 -- rule 1 of all nodes: a stopped node leaves every set, and then a started one that is no member is joining
 unfoldable pub rolesAfter : ℕ → Roles → ℕ → ℕ → Roles
@@ -35,17 +37,25 @@ viewAt n sets members joining missed p =
 unfoldable pub equalTo : List ℕ → List ℕ → List ℕ → List ℕ → ℕ → ℕ → Vote → ℕ
 equalTo numbers sets bases views n members v = those n (λ x. is v (ballotsOf numbers sets bases views members x))
 
--- `same` holds for each member the members whose vote is equal to its own
-abbrev pub Grouped : List ℕ → List ℕ → List ℕ → List ℕ → ℕ → ℕ → List ℕ → Type 0
-Grouped numbers sets bases views n members same =
-    (p : ℕ) → p < n → has p members ≡ true → getD same p 0 ≡ equalTo numbers sets bases views n members (voteAt numbers sets bases views p)
-
 -- element j of `same` where m is stored for each of its nodes
 abbrev pub spreadAt : ℕ → List ℕ → ℕ → ℕ
 spreadAt m same j = cond (has j m) m (getD same j 0)
 
+-- m holds the members whose vote is equal to that of any of its own
+abbrev pub Alike : List ℕ → List ℕ → List ℕ → List ℕ → ℕ → ℕ → ℕ → Type 0
+Alike numbers sets bases views n members m =
+    (p : ℕ) → has p members ≡ true → has p m ≡ true → m ≡ equalTo numbers sets bases views n members (voteAt numbers sets bases views p)
+
+-- `lead` for its own nodes, and `same` for the others, hold for each member the members whose vote is equal to its own
+abbrev pub Grouped : List ℕ → List ℕ → List ℕ → List ℕ → ℕ → ℕ → ℕ → List ℕ → Type 0
+Grouped numbers sets bases views n members lead same =
+    (p : ℕ) → p < n → has p members ≡ true → spreadAt lead same p ≡ equalTo numbers sets bases views n members (voteAt numbers sets bases views p)
+
 abbrev pub Within : ℕ → ℕ → Type 0
 Within a b = (p : ℕ) → has p a ≡ true → has p b ≡ true
+
+abbrev pub Below : ℕ → ℕ → Type 0
+Below n m = (p : ℕ) → has p m ≡ true → p < n
 
 -- whether the vote in slot p is one with the group g that has a quorum
 abbrev pub rivalAt : List ℕ → List ℕ → List ℕ → List ℕ → ℕ → ℕ → Group → ℕ → Bool
@@ -62,6 +72,19 @@ decidedAt numbers sets bases views n w present q =
     cond (has q (w .members)) (memberDecides (record { nodes = n }) q (voteAt numbers sets bases views q) (ballotsOf numbers sets bases views present))
     (cond (has q (w .joining)) (joinerDecides (record { nodes = n }) q (ballotsOf numbers sets bases views present))
     (outAt w q))
+
+-- of those with the vote of q, the ones that q counts: those in the set whose vote arrived, and its own whatever arrived of it
+abbrev pub ownTally : ℕ → ℕ → ℕ → ℕ → ℕ
+ownTally votes set present q = votes ∩ (present ∪ single q) ∩ set
+
+-- whether q cast the vote of the member that is kept and counts the same votes
+abbrev pub follows : Kept → ℕ → ℕ → Bool
+follows k present q = has q (k .votes) && eqb (ownTally (k .votes) (k .set) present q) (k .counted)
+
+-- what is kept is worth: whoever follows decides the same
+abbrev pub Worth : List ℕ → List ℕ → List ℕ → List ℕ → ℕ → Roles → Kept → Type 0
+Worth numbers sets bases views n w k =
+    (q present : ℕ) → q < n → Within present (w .members) → follows k present q ≡ true → decidedAt numbers sets bases views n w present q ≡ Member (k .group)
 
 -- the group that a state holds, zeros if it holds none; and whether it is out for want of a quorum, or outvoted
 abbrev pub heldBy : State → Group
@@ -92,6 +115,11 @@ withState w q d =
       «no_quorum» = cond (isNoQuorum d) (single q ∪ w .«no_quorum») (w .«no_quorum»);
       outvoted = cond (isOutvoted d) (single q ∪ w .outvoted) (w .outvoted);
     }
+
+-- the masks with node q added as a member
+abbrev pub withMember : Roles → ℕ → Roles
+withMember w q =
+    record { members = single q ∪ w .members; joining = w .joining; «no_quorum» = w .«no_quorum»; outvoted = w .outvoted }
 
 -- a member of the group that a vote with these voters gives
 abbrev pub memberWith : Vote → ℕ → State

@@ -2,7 +2,7 @@
 ghost use mathlib.Core.Path.{_≡_};
 ghost use mathlib.Core.Bool.{true, cond};
 ghost use Prim.Native.Nat.{ℕ, _<_, _≤_};
-ghost use lib.ListN.{getD};
+ghost use lib.ListN.{length, getD};
 ghost use Rattle.sets.specs.Sets.{has, _∩_, _∖_, those, any};
 ghost use Rattle.rules.specs.OneCycle.{memberDecides, joinerDecides};
 ghost use Rattle.rules.specs.Ballots.{voteAt, ballotsOf, fitsAt};
@@ -12,16 +12,22 @@ ghost use Rattle.cluster.specs.Grouped.{
   rolesAfter,
   viewAt,
   equalTo,
+  Alike,
   Grouped,
   spreadAt,
   Within,
+  Below,
   rivalAt,
   outAt,
   decidedAt,
+  ownTally,
+  follows as doesFollow,
+  Worth,
   heldBy,
   isNoQuorum,
   isOutvoted,
   withState,
+  withMember,
 };
 use rules::Faults;
 use rules::Vote;
@@ -81,11 +87,17 @@ pub fn rule_one(n: usize, w: Roles, stop: u64, start: u64) -> Roles
 }
 
 // Rule 3 of all nodes, of the members and the joining nodes whose heartbeats go out. Views of nodes that are no members are made too, and not used.
-fn views_of(n: usize, sets: &[u64; 64], members: u64, joining: u64, missed: &[u64; 64]) -> [u64; 64]
-    requires { ⌜ n ≤ 64 ⌝ }
-    ensures { λ r. ⌜ ((p : ℕ) → p < n → getD r p 0 ≡ viewAt n (now (sets .entry)) members joining (now (missed .entry)) p) ⌝ }
+fn views_of(
+    n: usize,
+    sets: &[u64; 64],
+    members: u64,
+    joining: u64,
+    missed: &[u64; 64],
+    views: &mut [u64; 64],
+)
+    requires { ⌜ (n ≤ 64) × (length (now views) ≡ 64) ⌝ }
+    ensures { λ _. ⌜ ((p : ℕ) → p < n → getD (now (views .exit)) p 0 ≡ viewAt n (now (sets .entry)) members joining (now (missed .entry)) p) ⌝ }
 {
-    let mut views = [0u64; 64];
     let mut p: usize = 0;
     while p < n {
         let heard0 = sets::difference(members, missed[p]);
@@ -93,7 +105,6 @@ fn views_of(n: usize, sets: &[u64; 64], members: u64, joining: u64, missed: &[u6
         views[p] = rules::view(n, p, sets[p], heard0, heard1);
         p += 1;
     }
-    views
 }
 
 // The members whose vote is v.
@@ -128,45 +139,73 @@ fn pick(yes: bool, a: u64, b: u64) -> u64
     if yes { a } else { b }
 }
 
-// The array with m stored for each of its nodes.
-fn spread(n: usize, m: u64, same: &[u64; 64]) -> [u64; 64]
-    requires { ⌜ n ≤ 64 ⌝ }
-    ensures { λ r. ⌜ ((j : ℕ) → j < n → getD r j 0 ≡ spreadAt m (now (same .entry)) j) ⌝ }
+// Stores m for each of its nodes.
+fn spread(n: usize, m: u64, same: &mut [u64; 64])
+    requires { ⌜ (n ≤ 64) × (length (now same) ≡ 64) ⌝ }
+    ensures { λ _. ⌜ length (now (same .exit)) ≡ 64 ⌝ }
+    ensures { λ _. ⌜ ((j : ℕ) → j < n → getD (now (same .exit)) j 0 ≡ spreadAt m (now (same .entry)) j) ⌝ }
 {
-    let mut all = [0u64; 64];
     let mut j: usize = 0;
     while j < n {
-        all[j] = pick(sets::contains(m, j), m, same[j]);
+        same[j] = pick(sets::contains(m, j), m, same[j]);
         j += 1;
     }
-    all
 }
 
-// For each member the members with an equal vote. A vote is looked for once, for the lowest member that cast it.
-fn groups_of(
+// The members with the vote of the lowest of them: in most cycles all.
+fn leading(
     n: usize,
     numbers: &[u32; 64],
     sets: &[u64; 64],
     bases: &[u64; 64],
     views: &[u64; 64],
     members: u64,
-) -> [u64; 64]
+) -> u64
     requires { ⌜ n ≤ 64 ⌝ }
-    ensures { λ r. ⌜ Grouped (now (numbers .entry)) (now (sets .entry)) (now (bases .entry)) (now (views .entry)) n members r ⌝ }
+    requires { ⌜ Below n members ⌝ }
+    ensures { λ r. ⌜ Alike (now (numbers .entry)) (now (sets .entry)) (now (bases .entry)) (now (views .entry)) n members r ⌝ }
 {
-    let mut same = [0u64; 64];
-    let mut left = members;
-    let mut p: usize = 0;
-    while p < n {
-        if sets::contains(left, p) {
-            let v = rules::vote_at(numbers, sets, bases, views, p);
-            let m = equal_votes(n, numbers, sets, bases, views, members, v);
-            same = spread(n, m, &same);
-            left = sets::difference(left, m);
-        }
-        p += 1;
+    if members == 0 {
+        return 0;
     }
-    same
+    let p = sets::lowest(members) as usize;
+    let v = rules::vote_at(numbers, sets, bases, views, p);
+    equal_votes(n, numbers, sets, bases, views, members, v)
+}
+
+// For each member the members with an equal vote: the result for its own nodes, `same` for the others. A vote is looked for once, for the lowest member
+// that cast it.
+fn groups_of<'a>(
+    n: usize,
+    numbers: &'a [u32; 64],
+    sets: &'a [u64; 64],
+    bases: &'a [u64; 64],
+    views: &[u64; 64],
+    members: u64,
+    same: &mut [u64; 64],
+) -> u64
+    requires { ⌜ (n ≤ 64) × (length (now same) ≡ 64) ⌝ }
+    requires { ⌜ Below n members ⌝ }
+    ensures { λ r. ⌜ Grouped (now (numbers .entry)) (now (sets .entry)) (now (bases .entry)) (now (views .entry)) n members r (now (same .exit)) ⌝ }
+{
+    let lead = leading(n, numbers, sets, bases, views, members);
+    let mut left = sets::difference(members, lead);
+    while left != 0 {
+        let p = sets::lowest(left) as usize;
+        let v = rules::vote_at(numbers, sets, bases, views, p);
+        let m = equal_votes(n, numbers, sets, bases, views, members, v);
+        spread(n, m, same);
+        left = sets::difference(left, m);
+    }
+    lead
+}
+
+// The members with the vote of member p.
+fn votes_like(lead: u64, same: &[u64; 64], p: usize) -> u64
+    requires { ⌜ p < 64 ⌝ }
+    ensures { λ r. ⌜ r ≡ spreadAt lead (now (same .entry)) p ⌝ }
+{
+    pick(sets::contains(lead, p), lead, same[p])
 }
 
 // Of those with equal votes, the ones that arrived from nodes of the set.
@@ -176,6 +215,14 @@ fn tally(votes: u64, present: u64, set: u64) -> u64
     sets::intersection(sets::intersection(votes, present), set)
 }
 
+// Of those with the vote of q, the ones that q counts: its own counts whatever arrived of it.
+fn own_tally(votes: u64, set: u64, present: u64, q: usize) -> u64
+    requires { ⌜ q < 64 ⌝ }
+    ensures { λ r. ⌜ r ≡ ownTally votes set present q ⌝ }
+{
+    tally(votes, sets::union(present, sets::single(q)), set)
+}
+
 // Whether the vote in slot p has the group g and a quorum.
 fn rival_at(
     n: usize,
@@ -183,6 +230,7 @@ fn rival_at(
     sets: &[u64; 64],
     bases: &[u64; 64],
     views: &[u64; 64],
+    lead: u64,
     same: &[u64; 64],
     members: u64,
     present: u64,
@@ -190,13 +238,13 @@ fn rival_at(
     p: usize,
 ) -> bool
     requires { ⌜ (n ≤ 64) × (p < n) ⌝ }
-    requires { ⌜ Grouped (now numbers) (now sets) (now bases) (now views) n members (now same) ⌝ }
+    requires { ⌜ Grouped (now numbers) (now sets) (now bases) (now views) n members lead (now same) ⌝ }
     requires { ⌜ Within present members ⌝ }
     ensures { λ r. ⌜ r ≡ rivalAt (now (numbers .entry)) (now (sets .entry)) (now (bases .entry)) (now (views .entry)) n present g p ⌝ }
 {
     let v = rules::vote_at(numbers, sets, bases, views, p);
     let h = v.group;
-    let votes = same[p];
+    let votes = votes_like(lead, same, p);
     if !sets::contains(present, p) {
         return false;
     }
@@ -213,19 +261,32 @@ fn any_rival(
     sets: &[u64; 64],
     bases: &[u64; 64],
     views: &[u64; 64],
+    lead: u64,
     same: &[u64; 64],
     members: u64,
     present: u64,
     g: Group,
 ) -> bool
     requires { ⌜ n ≤ 64 ⌝ }
-    requires { ⌜ Grouped (now numbers) (now sets) (now bases) (now views) n members (now same) ⌝ }
+    requires { ⌜ Grouped (now numbers) (now sets) (now bases) (now views) n members lead (now same) ⌝ }
     requires { ⌜ Within present members ⌝ }
     ensures { λ r. ⌜ r ≡ any n (rivalAt (now (numbers .entry)) (now (sets .entry)) (now (bases .entry)) (now (views .entry)) n present g) ⌝ }
 {
     let mut p: usize = 0;
     while p < n {
-        if rival_at(n, numbers, sets, bases, views, same, members, present, g, p) {
+        if rival_at(
+            n,
+            numbers,
+            sets,
+            bases,
+            views,
+            lead,
+            same,
+            members,
+            present,
+            g,
+            p,
+        ) {
             return true;
         }
         p += 1;
@@ -233,7 +294,7 @@ fn any_rival(
     false
 }
 
-// Rule 5. The own vote counts whatever arrived of it, and for no view but its own.
+// Rule 5. The own vote counts for no view but its own.
 fn member_decides(
     n: usize,
     q: usize,
@@ -241,23 +302,35 @@ fn member_decides(
     sets: &[u64; 64],
     bases: &[u64; 64],
     views: &[u64; 64],
+    lead: u64,
     same: &[u64; 64],
     members: u64,
     present: u64,
 ) -> State
     requires { ⌜ (n ≤ 64) × (q < n) × (has q members ≡ true) ⌝ }
-    requires { ⌜ Grouped (now numbers) (now sets) (now bases) (now views) n members (now same) ⌝ }
+    requires { ⌜ Grouped (now numbers) (now sets) (now bases) (now views) n members lead (now same) ⌝ }
     requires { ⌜ Within present members ⌝ }
     ensures { λ r. ⌜ r ≡ memberDecides (record { nodes = n }) q (voteAt (now (numbers .entry)) (now (sets .entry)) (now (bases .entry)) (now (views .entry)) q) (ballotsOf (now (numbers .entry)) (now (sets .entry)) (now (bases .entry)) (now (views .entry)) present) ⌝ }
 {
     let own = rules::vote_at(numbers, sets, bases, views, q);
     let g = own.group;
-    let votes = same[q];
+    let votes = votes_like(lead, same, q);
+    let mine = own_tally(votes, g.set, present, q);
     let others = sets::difference(present, sets::single(q));
-    let mine = sets::include(tally(votes, others, g.set), q, sets::contains(g.set, q));
     if sets::is_quorum(mine, g.base) {
         rules::member_on(own, mine)
-    } else if any_rival(n, numbers, sets, bases, views, same, members, others, g) {
+    } else if any_rival(
+        n,
+        numbers,
+        sets,
+        bases,
+        views,
+        lead,
+        same,
+        members,
+        others,
+        g,
+    ) {
         State::Out(Reason::Outvoted)
     } else {
         State::Out(Reason::NoQuorum)
@@ -272,19 +345,20 @@ fn fits_at(
     sets: &[u64; 64],
     bases: &[u64; 64],
     views: &[u64; 64],
+    lead: u64,
     same: &[u64; 64],
     members: u64,
     present: u64,
     p: usize,
 ) -> bool
     requires { ⌜ (n ≤ 64) × (q < 64) × (p < n) ⌝ }
-    requires { ⌜ Grouped (now numbers) (now sets) (now bases) (now views) n members (now same) ⌝ }
+    requires { ⌜ Grouped (now numbers) (now sets) (now bases) (now views) n members lead (now same) ⌝ }
     requires { ⌜ Within present members ⌝ }
     ensures { λ r. ⌜ r ≡ fitsAt n q (ballotsOf (now (numbers .entry)) (now (sets .entry)) (now (bases .entry)) (now (views .entry)) present) p ⌝ }
 {
     let v = rules::vote_at(numbers, sets, bases, views, p);
     let g = v.group;
-    let votes = same[p];
+    let votes = votes_like(lead, same, p);
     if !sets::contains(present, p) {
         return false;
     }
@@ -302,19 +376,32 @@ fn fitting(
     sets: &[u64; 64],
     bases: &[u64; 64],
     views: &[u64; 64],
+    lead: u64,
     same: &[u64; 64],
     members: u64,
     present: u64,
 ) -> u64
     requires { ⌜ (n ≤ 64) × (q < 64) ⌝ }
-    requires { ⌜ Grouped (now numbers) (now sets) (now bases) (now views) n members (now same) ⌝ }
+    requires { ⌜ Grouped (now numbers) (now sets) (now bases) (now views) n members lead (now same) ⌝ }
     requires { ⌜ Within present members ⌝ }
     ensures { λ r. ⌜ r ≡ those n (fitsAt n q (ballotsOf (now (numbers .entry)) (now (sets .entry)) (now (bases .entry)) (now (views .entry)) present)) ⌝ }
 {
     let mut m: u64 = 0;
     let mut p: usize = 0;
     while p < n {
-        let yes = fits_at(n, q, numbers, sets, bases, views, same, members, present, p);
+        let yes = fits_at(
+            n,
+            q,
+            numbers,
+            sets,
+            bases,
+            views,
+            lead,
+            same,
+            members,
+            present,
+            p,
+        );
         m = sets::include(m, p, yes);
         p += 1;
     }
@@ -329,23 +416,35 @@ fn joiner_decides(
     sets: &[u64; 64],
     bases: &[u64; 64],
     views: &[u64; 64],
+    lead: u64,
     same: &[u64; 64],
     members: u64,
     present: u64,
 ) -> State
     requires { ⌜ (n ≤ 64) × (q < n) ⌝ }
-    requires { ⌜ Grouped (now numbers) (now sets) (now bases) (now views) n members (now same) ⌝ }
+    requires { ⌜ Grouped (now numbers) (now sets) (now bases) (now views) n members lead (now same) ⌝ }
     requires { ⌜ Within present members ⌝ }
     ensures { λ r. ⌜ r ≡ joinerDecides (record { nodes = n }) q (ballotsOf (now (numbers .entry)) (now (sets .entry)) (now (bases .entry)) (now (views .entry)) present) ⌝ }
 {
-    let fit = fitting(n, q, numbers, sets, bases, views, same, members, present);
+    let fit = fitting(
+        n,
+        q,
+        numbers,
+        sets,
+        bases,
+        views,
+        lead,
+        same,
+        members,
+        present,
+    );
     if fit == 0 {
         return State::Joining;
     }
     let first = sets::lowest(fit) as usize;
     let v = rules::vote_at(numbers, sets, bases, views, first);
     let g = v.group;
-    let votes = same[first];
+    let votes = votes_like(lead, same, first);
     if sets::subset(fit, votes) {
         rules::member_on(v, tally(votes, present, g.set))
     } else {
@@ -374,19 +473,42 @@ fn decide(
     sets: &[u64; 64],
     bases: &[u64; 64],
     views: &[u64; 64],
+    lead: u64,
     same: &[u64; 64],
     w: Roles,
     present: u64,
 ) -> State
     requires { ⌜ (n ≤ 64) × (q < n) ⌝ }
-    requires { ⌜ Grouped (now numbers) (now sets) (now bases) (now views) n (w .members) (now same) ⌝ }
+    requires { ⌜ Grouped (now numbers) (now sets) (now bases) (now views) n (w .members) lead (now same) ⌝ }
     requires { ⌜ Within present (w .members) ⌝ }
     ensures { λ r. ⌜ r ≡ decidedAt (now (numbers .entry)) (now (sets .entry)) (now (bases .entry)) (now (views .entry)) n w present q ⌝ }
 {
     if sets::contains(w.members, q) {
-        member_decides(n, q, numbers, sets, bases, views, same, w.members, present)
+        member_decides(
+            n,
+            q,
+            numbers,
+            sets,
+            bases,
+            views,
+            lead,
+            same,
+            w.members,
+            present,
+        )
     } else if sets::contains(w.joining, q) {
-        joiner_decides(n, q, numbers, sets, bases, views, same, w.members, present)
+        joiner_decides(
+            n,
+            q,
+            numbers,
+            sets,
+            bases,
+            views,
+            lead,
+            same,
+            w.members,
+            present,
+        )
     } else {
         out_at(w, q)
     }
@@ -451,20 +573,107 @@ pub fn with_state(w: Roles, q: usize, d: State) -> Roles
     }
 }
 
-// Rules 5 and 6 of all nodes, on the votes that go out.
-fn decisions(
+// The masks with node q added as a member.
+fn with_member(w: Roles, q: usize) -> Roles
+    requires { ⌜ q < 64 ⌝ }
+    ensures { λ r. ⌜ r ≡ withMember w q ⌝ }
+{
+    Roles {
+        members: sets::union(sets::single(q), w.members),
+        joining: w.joining,
+        no_quorum: w.no_quorum,
+        outvoted: w.outvoted,
+    }
+}
+
+// A member that stays, for those that decide the same: the members that cast its vote, the set of its group, the votes that it counts, and its new group.
+struct Kept {
+    votes: u64,
+    set: u64,
+    counted: u64,
+    group: Group,
+}
+
+fn nobody() -> Kept
+    ensures { λ r. ⌜ r .votes ≡ 0 ⌝ }
+{
+    Kept {
+        votes: 0,
+        set: 0,
+        counted: 0,
+        group: Group {
+            number: 0,
+            set: 0,
+            base: 0,
+        },
+    }
+}
+
+// Whether q cast that member's vote and counts the same votes.
+fn follows(k: Kept, present: u64, q: usize) -> bool
+    requires { ⌜ q < 64 ⌝ }
+    ensures { λ r. ⌜ r ≡ doesFollow k present q ⌝ }
+{
+    if sets::contains(k.votes, q) {
+        own_tally(k.votes, k.set, present, q) == k.counted
+    } else {
+        false
+    }
+}
+
+// What is kept once node q has decided d: the last member that stays.
+fn keep(
     n: usize,
+    q: usize,
     numbers: &[u32; 64],
     sets: &[u64; 64],
     bases: &[u64; 64],
     views: &[u64; 64],
+    lead: u64,
+    same: &[u64; 64],
+    w: Roles,
+    present: u64,
+    d: State,
+    k: Kept,
+) -> Kept
+    requires { ⌜ (n ≤ 64) × (q < n) ⌝ }
+    requires { ⌜ Grouped (now numbers) (now sets) (now bases) (now views) n (w .members) lead (now same) ⌝ }
+    requires { ⌜ Within present (w .members) ⌝ }
+    requires { ⌜ d ≡ decidedAt (now numbers) (now sets) (now bases) (now views) n w present q ⌝ }
+    requires { ⌜ Worth (now numbers) (now sets) (now bases) (now views) n w k ⌝ }
+    ensures { λ r. ⌜ Worth (now (numbers .entry)) (now (sets .entry)) (now (bases .entry)) (now (views .entry)) n w r ⌝ }
+{
+    let votes = votes_like(lead, same, q);
+    let set = sets[q];
+    if !sets::contains(w.members, q) {
+        return k;
+    }
+    if !rules::sends_member(d) {
+        return k;
+    }
+    Kept {
+        votes,
+        set,
+        counted: own_tally(votes, set, present, q),
+        group: held_by(d),
+    }
+}
+
+// Rules 5 and 6 of all nodes, on the votes that go out.
+fn decisions<'a>(
+    n: usize,
+    numbers: &'a [u32; 64],
+    sets: &'a [u64; 64],
+    bases: &'a [u64; 64],
+    views: &[u64; 64],
+    lead: u64,
     same: &[u64; 64],
     w: Roles,
     sent: u64,
     missed: &[u64; 64],
 ) -> States
     requires { ⌜ n ≤ 64 ⌝ }
-    requires { ⌜ Grouped (now numbers) (now sets) (now bases) (now views) n (w .members) (now same) ⌝ }
+    requires { ⌜ Grouped (now numbers) (now sets) (now bases) (now views) n (w .members) lead (now same) ⌝ }
     requires { ⌜ Within sent (w .members) ⌝ }
     ensures { λ r. ⌜ ((q : ℕ) → q < n → stateAt r q ≡ decidedAt (now (numbers .entry)) (now (sets .entry)) (now (bases .entry)) (now (views .entry)) n w (sent ∖ getD (now (missed .entry)) q 0) q) ⌝ }
 {
@@ -474,15 +683,22 @@ fn decisions(
         no_quorum: 0,
         outvoted: 0,
     };
+    let mut k = nobody();
     let mut new_numbers = [0u32; 64];
     let mut new_sets = [0u64; 64];
     let mut new_bases = [0u64; 64];
     let mut q: usize = 0;
     while q < n {
-        let present = sets::difference(sent, missed[q]);
-        let d = decide(n, q, numbers, sets, bases, views, same, w, present);
-        let g = held_by(d);
-        next = with_state(next, q, d);
+        let came = sets::difference(sent, missed[q]);
+        let mut g = k.group;
+        if follows(k, came, q) {
+            next = with_member(next, q);
+        } else {
+            let d = decide(n, q, numbers, sets, bases, views, lead, same, w, came);
+            k = keep(n, q, numbers, sets, bases, views, lead, same, w, came, d, k);
+            g = held_by(d);
+            next = with_state(next, q, d);
+        }
         new_numbers[q] = g.number;
         new_sets[q] = g.set;
         new_bases[q] = g.base;
@@ -504,40 +720,43 @@ pub fn cycle(n: usize, s: States, f: Faults) -> States
     requires { ⌜ n ≤ 64 ⌝ }
     ensures { λ r. ⌜ rowOf n r ≡ theCycle (record { nodes = n }) f (rowOf n s) ⌝ }
 {
-    let w = rule_one(
+    let before = Roles {
+        members: s.members,
+        joining: s.joining,
+        no_quorum: s.no_quorum,
+        outvoted: s.outvoted,
+    };
+    let w = rule_one(n, before, f.stop, f.start);
+    let mut views = [0u64; 64];
+    views_of(
         n,
-        Roles {
-            members: s.members,
-            joining: s.joining,
-            no_quorum: s.no_quorum,
-            outvoted: s.outvoted,
-        },
-        f.stop,
-        f.start,
-    );
-    let numbers = s.numbers;
-    let sets = s.sets;
-    let bases = s.bases;
-    let unheard = f.heartbeat_missed;
-    let missed = f.vote_missed;
-    let views = views_of(
-        n,
-        &sets,
+        &s.sets,
         sets::difference(w.members, f.heartbeat_lost),
         sets::difference(w.joining, f.heartbeat_lost),
-        &unheard,
+        &f.heartbeat_missed,
+        &mut views,
     );
-    let same = groups_of(n, &numbers, &sets, &bases, &views, w.members);
+    let mut same = [0u64; 64];
+    let lead = groups_of(
+        n,
+        &s.numbers,
+        &s.sets,
+        &s.bases,
+        &views,
+        w.members,
+        &mut same,
+    );
     let after = decisions(
         n,
-        &numbers,
-        &sets,
-        &bases,
+        &s.numbers,
+        &s.sets,
+        &s.bases,
         &views,
+        lead,
         &same,
         w,
         sets::difference(w.members, f.vote_lost),
-        &missed,
+        &f.vote_missed,
     );
     after
 }

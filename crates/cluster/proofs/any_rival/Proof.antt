@@ -10,10 +10,10 @@ use Rattle.cluster.proofs.any_rival.Statement.{statement}
 use Rattle.cluster.proofs.any_rival.Tie as tie
 
 abbrev Inv-loop : tie.InvT-loop
-Inv-loop n numbers sets bases views same members present g p₀ p = (p ≤ n) × ((j : ℕ) → j < p → rivalAt numbers sets bases views n present g j ≡ false)
+Inv-loop n numbers sets bases views lead same members present g p₀ p = (p ≤ n) × ((j : ℕ) → j < p → rivalAt numbers sets bases views n present g j ≡ false)
 
 abbrev μ-loop : tie.MeasureT-loop
-μ-loop n numbers sets bases views same members present g p₀ p = n - p
+μ-loop n numbers sets bases views lead same members present g p₀ p = n - p
 
 loop-holds : tie.Need-loop-holds Inv-loop μ-loop
 loop-holds c = (omega arith, below-none _)

@@ -1,11 +1,18 @@
 use Rattle.cluster.proofs.Tallies.{inside-less}
-use Rattle.cluster.proofs.Whole.{run-cycle}
+use Rattle.cluster.proofs.Whole.{members-below, run-cycle}
 use borrow.Author.Needs.{needs}
 use Rattle.cluster.proofs.cycle.Statement.{statement}
 use Rattle.cluster.proofs.cycle.Tie as tie
 
-abbrev ruled : tie.After-missed2 → tie.After-rule-one
-ruled c = c .before .before .before .before .before .before .before .before .before .before .before .before .before .before .before .before .before .before .before .before .before .before
+-- the masks after rule 1, the views, and the votes in groups
+abbrev ruled : tie.After-same → tie.After-rule-one
+ruled c = c .before .before .before .before .before .before .before .before .before .before .before .before .before .before
+
+abbrev seen : tie.After-groups-of → tie.After-views-of
+seen c = c .before .before .before .before .before .before .before
+
+abbrev grouped : tie.After-decisions-arg4 → tie.After-groups-of
+grouped c = c .before .before .before .before .before .before .before .before .before
 
 rule-one-requires : tie.Need-rule-one-requires
 rule-one-requires c κs = search needs
@@ -20,22 +27,28 @@ views-of-requires : tie.Need-views-of-requires
 views-of-requires c κs = search needs
 
 groups-of-requires : tie.Need-groups-of-requires
-groups-of-requires c κs = search needs
+groups-of-requires c κs =
+    let r = ruled c in
+    let a = r .before .args in
+    (search needs, members-below (a .n) (a .t2) (a .t3) (r .rule-one .result) (r .rule-one .ensures))
 
 difference-requires-3 : tie.Need-difference-requires-3
 difference-requires-3 c κs = search needs
 
 decisions-requires : tie.Need-decisions-requires
 decisions-requires c κs =
-    let w = ruled c .rule-one .result in
-    (ruled c .before .pre, (c .before .before .before .before .before .before .before .groups-of .ensures, inside-less (w .members) _ _ (w .members) (λ p h. h) (c .before .difference3 .ensures)))
+    let g = grouped c in
+    let r = ruled (g .before) in
+    let w = r .rule-one .result in
+    (r .before .pre, (g .groups-of .ensures, inside-less (w .members) _ _ (w .members) (λ p h. h) (c .before .before .difference3 .ensures)))
 
 returns : tie.Need-returns
 returns c =
-    let d = c .before in
-    let a = ruled d .before .args in
-    run-cycle (a .n) (a .s) (a .f) (ruled d .rule-one .result) _ _ _ (d .before .before .before .before .before .before .before .before .before .before .before .before .views-of .result) (c .decisions .result) (ruled d .rule-one .ensures) (d .before .before .before .before .before .before .before .before .before .before .before .before .before .before .before .difference .ensures) (d .before .before .before .before .before .before .before .before .before .before .before .before .before .before .difference2 .ensures) (d .before .difference3 .ensures)
-    (d .before .before .before .before .before .before .before .before .before .before .before .before .views-of .ensures) (c .decisions .ensures)
+    let g = grouped (c .before) in
+    let v = seen g in
+    let r = ruled (g .before) in
+    let a = r .before .args in
+    run-cycle (a .n) (a .t2) (a .t3) (r .rule-one .result) _ _ _ _ (c .decisions .result) (r .rule-one .ensures) (v .before .before .before .before .before .difference .ensures) (v .before .before .before .before .difference2 .ensures) (c .before .before .before .difference3 .ensures) (v .views-of .ensures) (c .decisions .ensures)
 
 pub cycle-spec : {M : Type 1} → statement M
 cycle-spec =

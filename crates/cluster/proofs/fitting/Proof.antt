@@ -8,10 +8,10 @@ use Rattle.cluster.proofs.fitting.Statement.{statement}
 use Rattle.cluster.proofs.fitting.Tie as tie
 
 abbrev Inv-loop : tie.InvT-loop
-Inv-loop n q numbers sets bases views same members present m₀ p₀ m p = (p ≤ n) × (m ≡ those p (fitsAt n q (ballotsOf numbers sets bases views present)))
+Inv-loop n q numbers sets bases views lead same members present m₀ p₀ m p = (p ≤ n) × (m ≡ those p (fitsAt n q (ballotsOf numbers sets bases views present)))
 
 abbrev μ-loop : tie.MeasureT-loop
-μ-loop n q numbers sets bases views same members present m₀ p₀ m p = n - p
+μ-loop n q numbers sets bases views lead same members present m₀ p₀ m p = n - p
 
 loop-holds : tie.Need-loop-holds Inv-loop μ-loop
 loop-holds c = (omega arith, those-none _)

@@ -25,7 +25,7 @@ returns : tie.Need-returns
 returns c =
     let s = c .before .before in
     let a = s .args in
-    sym (enters-nowhere (a .numbers .now) (a .sets .now) (a .bases .now) (a .views .now) (a .n) (a .members) (a .present) (s .pre .1 .1) (a .same .now) (s .pre .1 .0) (a .q) _ (c .before .fitting .ensures) (c .if1 .taken))
+    sym (enters-nowhere (a .numbers .now) (a .sets .now) (a .bases .now) (a .views .now) (a .n) (a .members) (a .present) (s .pre .1 .1) (a .lead) (a .same .now) (s .pre .1 .0) (a .q) _ (c .before .fitting .ensures) (c .if1 .taken))
 
 lowest-requires : tie.Need-lowest-requires
 lowest-requires c κs = search needs
@@ -37,18 +37,15 @@ cast-first c = search needs
 first-in : (c : tie.After-lowest) → (c .lowest .result < start c .args .n) × (has (c .lowest .result) (start c .args .present) ≡ true)
 first-in c =
     let a = start c .args in (
-      first-fits (a .numbers .now) (a .sets .now) (a .bases .now) (a .views .now) (a .n) (a .members) (a .present) (start c .pre .1 .1) (a .same .now) (start c .pre .1 .0) (a .q) _ (c .before .before .fitting .ensures) (c .lowest .result) (c .before .if1 .left) (c .lowest .ensures) (start c .pre .0 .0) .0,
-      first-present (a .numbers .now) (a .sets .now) (a .bases .now) (a .views .now) (a .n) (a .members) (a .present) (start c .pre .1 .1) (a .same .now) (start c .pre .1 .0) (a .q) _ (c .before .before .fitting .ensures) (c .lowest .result) (c .before .if1 .left) (c .lowest .ensures) (start c .pre .0 .0),
+      first-fits (a .numbers .now) (a .sets .now) (a .bases .now) (a .views .now) (a .n) (a .members) (a .present) (start c .pre .1 .1) (a .lead) (a .same .now) (start c .pre .1 .0) (a .q) _ (c .before .before .fitting .ensures) (c .lowest .result) (c .before .if1 .left) (c .lowest .ensures) (start c .pre .0 .0) .0,
+      first-present (a .numbers .now) (a .sets .now) (a .bases .now) (a .views .now) (a .n) (a .members) (a .present) (start c .pre .1 .1) (a .lead) (a .same .now) (start c .pre .1 .0) (a .q) _ (c .before .before .fitting .ensures) (c .lowest .result) (c .before .if1 .left) (c .lowest .ensures) (start c .pre .0 .0),
     )
 
 vote-at-requires : tie.Need-vote-at-requires
 vote-at-requires c κs = omega (arith, first-in c .0, start c .pre .0 .0)
 
-mul-votes : tie.Need-mul-votes
-mul-votes c = search needs
-
-element-copy-out-votes : tie.Need-element-copy-out-votes
-element-copy-out-votes c = omega (arith, first-in (c .before .before) .0, start (c .before .before) .pre .0 .0)
+votes-like-requires : tie.Need-votes-like-requires
+votes-like-requires c κs = omega (arith, first-in (c .before .before) .0, start (c .before .before) .pre .0 .0)
 
 subset-requires : tie.Need-subset-requires
 subset-requires c κs = search needs
@@ -66,7 +63,7 @@ entered : (c : tie.After-subset)
 entered c =
     let d = c .before .before .before .before in
     let a = start d .args in
-    enters-with (a .numbers .now) (a .sets .now) (a .bases .now) (a .views .now) (a .n) (a .members) (a .present) (start d .pre .1 .1) (a .same .now) (start d .pre .1 .0) (a .q) _ (d .before .before .fitting .ensures) (d .lowest .result) (d .before .if1 .left) (d .lowest .ensures) (start d .pre .0 .0) _ _ (c .before .before .before .vote-at .ensures) (c .subset .ensures)
+    enters-with (a .numbers .now) (a .sets .now) (a .bases .now) (a .views .now) (a .n) (a .members) (a .present) (start d .pre .1 .1) (a .lead) (a .same .now) (start d .pre .1 .0) (a .q) _ (d .before .before .fitting .ensures) (d .lowest .result) (d .before .if1 .left) (d .lowest .ensures) (start d .pre .0 .0) _ _ _ (c .before .before .before .vote-at .ensures) (c .before .votes-like .ensures) (c .subset .ensures)
 
 returns-2 : tie.Need-returns-2
 returns-2 c =
@@ -74,7 +71,7 @@ returns-2 c =
     let d = e .before .before .before .before in
     let a = start d .args in
     c .member-on .ensures
-    ∙ member-with (a .numbers .now) (a .sets .now) (a .bases .now) (a .views .now) (a .n) (a .members) (a .present) (start d .pre .1 .1) (a .same .now) (start d .pre .1 .0) (d .lowest .result) _ _ (first-in d .0) (start d .pre .1 .1 (d .lowest .result) (first-in d .1)) (e .before .before .before .vote-at .ensures) (c .before .tally .ensures)
+    ∙ member-with (a .numbers .now) (a .sets .now) (a .bases .now) (a .views .now) (a .n) (a .members) (a .present) (start d .pre .1 .1) (a .lead) (a .same .now) (start d .pre .1 .0) (d .lowest .result) _ _ _ (first-in d .0) (start d .pre .1 .1 (d .lowest .result) (first-in d .1)) (e .before .before .before .vote-at .ensures) (e .before .votes-like .ensures) (c .before .tally .ensures)
     ∙ sym (entered e ∙ cond-taken _ _ _ (c .before .before .if2 .taken))
 
 returns-3 : tie.Need-returns-3
@@ -89,8 +86,7 @@ joiner-decides-spec =
     lowest-requires
     cast-first
     vote-at-requires
-    mul-votes
-    element-copy-out-votes
+    votes-like-requires
     subset-requires
     tally-requires
     member-on-requires

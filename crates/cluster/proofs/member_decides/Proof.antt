@@ -10,32 +10,23 @@ use borrow.Author.Needs.{needs}
 use Rattle.cluster.proofs.member_decides.Statement.{statement}
 use Rattle.cluster.proofs.member_decides.Tie as tie
 
-abbrev start : tie.After-include → tie.Start
-start c = c .before .before .before .before .before .before .before .before
+abbrev start : tie.After-difference → tie.Start
+start d = d .before .before .before .before .before .before
 
 vote-at-requires : tie.Need-vote-at-requires
 vote-at-requires c κs = search needs
 
-mul-votes : tie.Need-mul-votes
-mul-votes c = search needs
+votes-like-requires : tie.Need-votes-like-requires
+votes-like-requires c κs = search needs
 
-element-copy-out-votes : tie.Need-element-copy-out-votes
-element-copy-out-votes c = search needs
+own-tally-requires : tie.Need-own-tally-requires
+own-tally-requires c κs = search needs
 
 single-requires : tie.Need-single-requires
 single-requires c κs = search needs
 
 difference-requires : tie.Need-difference-requires
 difference-requires c κs = search needs
-
-tally-requires : tie.Need-tally-requires
-tally-requires c κs = search needs
-
-contains-requires : tie.Need-contains-requires
-contains-requires c κs = search needs
-
-include-requires : tie.Need-include-requires
-include-requires c κs = search needs
 
 is-quorum-requires : tie.Need-is-quorum-requires
 is-quorum-requires c κs = search needs
@@ -47,14 +38,14 @@ any-rival-requires : tie.Need-any-rival-requires
 any-rival-requires c κs =
     let d = c .before .before in
     let a = start d .args in
-    (search needs, (start d .pre .1 .0, inside-less (a .present) (d .before .before .before .before .single .result) _ (a .members) (start d .pre .1 .1) (d .before .before .before .difference .ensures)))
+    (search needs, (start d .pre .1 .0, inside-less (a .present) (d .before .single .result) _ (a .members) (start d .pre .1 .1) (d .difference .ensures)))
 
 returns : tie.Need-returns
 returns c =
     let d = c .before .before .before in
     let a = start d .args in
     c .member-on .ensures
-    ∙ goes-on (a .numbers .now) (a .sets .now) (a .bases .now) (a .views .now) (a .n) (a .members) (a .present) (start d .pre .1 .1) (a .same .now) (start d .pre .1 .0) (a .q) (d .before .before .before .before .before .before .before .vote-at .result) _ _ _ _ _ (start d .pre .0 .1) (start d .pre .0 .2) (d .before .before .before .before .before .before .before .vote-at .ensures) (d .before .before .before .before .single .ensures) (d .before .before .before .difference .ensures) (d .before .before .tally .ensures) (d .before .contains .ensures) (d .include .ensures) _ (c .before .before .is-quorum .ensures) (c .before .if1 .taken)
+    ∙ goes-on (a .numbers .now) (a .sets .now) (a .bases .now) (a .views .now) (a .n) (a .members) (a .present) (start d .pre .1 .1) (a .lead) (a .same .now) (start d .pre .1 .0) (a .q) _ _ (d .before .before .before .before .before .vote-at .result) (start d .pre .0 .1) (start d .pre .0 .2) (d .before .before .before .before .before .vote-at .ensures) (d .before .before .before .votes-like .ensures) (d .before .before .own-tally .ensures) _ (c .before .before .is-quorum .ensures) (c .before .if1 .taken)
 
 -- without a quorum for the own vote, the others' votes decide
 halted : (c : tie.After-any-rival)
@@ -65,7 +56,7 @@ halted : (c : tie.After-any-rival)
 halted c =
     let d = c .before .before .before in
     let a = start d .args in
-    halts (a .numbers .now) (a .sets .now) (a .bases .now) (a .views .now) (a .n) (a .members) (a .present) (start d .pre .1 .1) (a .same .now) (start d .pre .1 .0) (a .q) (d .before .before .before .before .before .before .before .vote-at .result) _ _ _ _ _ (start d .pre .0 .1) (start d .pre .0 .2) (d .before .before .before .before .before .before .before .vote-at .ensures) (d .before .before .before .before .single .ensures) (d .before .before .before .difference .ensures) (d .before .before .tally .ensures) (d .before .contains .ensures) (d .include .ensures) _ _ (c .before .before .is-quorum .ensures) (c .before .if1 .left) (c .any-rival .ensures)
+    halts (a .numbers .now) (a .sets .now) (a .bases .now) (a .views .now) (a .n) (a .members) (a .present) (start d .pre .1 .1) (a .lead) (a .same .now) (start d .pre .1 .0) (a .q) _ _ (d .before .before .before .before .before .vote-at .result) (start d .pre .0 .1) (start d .pre .0 .2) (d .before .before .before .before .before .vote-at .ensures) (d .before .before .before .votes-like .ensures) (d .before .before .own-tally .ensures) _ _ _ _ (d .before .single .ensures) (d .difference .ensures) (c .before .before .is-quorum .ensures) (c .before .if1 .left) (c .any-rival .ensures)
 
 returns-2 : tie.Need-returns-2
 returns-2 c = sym (cond-taken _ _ _ (c .if2 .taken)) ∙ halted (c .before)
@@ -78,13 +69,10 @@ member-decides-spec =
     tie.close
     (tie.spec
     vote-at-requires
-    mul-votes
-    element-copy-out-votes
+    votes-like-requires
+    own-tally-requires
     single-requires
     difference-requires
-    tally-requires
-    contains-requires
-    include-requires
     is-quorum-requires
     member-on-requires
     any-rival-requires

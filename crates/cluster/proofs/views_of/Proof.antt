@@ -1,4 +1,4 @@
-use mathlib.Core.Path.{_≡_, refl, ap₂, _∙_}
+use mathlib.Core.Path.{_≡_, ap₂, _∙_}
 use Prim.Native.Nat.{ℕ, _≤_, _<_, _-_}
 use native.Mathlib.Omega.{arith}
 use lib.ListN.{length, getD, length-set}
@@ -17,7 +17,7 @@ abbrev μ-loop : tie.MeasureT-loop
 μ-loop n sets members joining missed views₀ p₀ views p = n - p
 
 loop-holds : tie.Need-loop-holds Inv-loop μ-loop
-loop-holds c = (omega arith, refl, below-none _)
+loop-holds c = (omega arith, c .pre .1, below-none _)
 
 mul-difference : tie.Need-mul-difference Inv-loop μ-loop
 mul-difference c = omega arith
@@ -49,8 +49,8 @@ view-requires c κs = omega arith
 mul-views : tie.Need-mul-views Inv-loop μ-loop
 mul-views c = omega arith
 
-array-write-views : tie.Need-array-write-views Inv-loop μ-loop
-array-write-views c = omega arith
+element-write-views : tie.Need-element-write-views Inv-loop μ-loop
+element-write-views c = omega arith
 
 add-p : tie.Need-add-p Inv-loop μ-loop
 add-p c = omega arith
@@ -86,7 +86,7 @@ views-of-spec =
     element-copy-out-view
     view-requires
     mul-views
-    array-write-views
+    element-write-views
     add-p
     loop-less
     loop-again
