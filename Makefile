@@ -67,12 +67,14 @@ badinput-test: $(GROUPRUN) $(PLAIN) $(TABLEGEN) $(TABLETEXT)
 text-test: $(TABLETEXT)
 	@tests/text.sh $(TABLETEXT) $(BUILD)
 
-# the cost of a decision and of reading a frame, and of a table's run, beside plain C at -O3
+# the cost of a decision, of reading a frame and of a table's run beside plain C at -O3, and of runs on a row of images
 bench: archive $(GROUPRUN) $(PLAIN) $(TABLEGEN)
 	@mkdir -p $(BUILD)
 	@gcc -std=gnu99 -O3 -c -Ibench bench/plain.c -o $(BUILD)/plain.o
 	@gcc -std=gnu99 -O3 -Iinclude -Ibench bench/node.c $(BUILD)/plain.o $(ARCHIVE) -o $(BUILD)/bench
 	@$(BUILD)/bench
+	@gcc -std=gnu99 -O3 -Iinclude bench/rows.c $(ARCHIVE) -o $(BUILD)/rows
+	@$(BUILD)/rows
 	@bench/grouprun.sh $(GROUPRUN) $(PLAIN) $(TABLEGEN) $(BUILD)
 
 # the deepest stack use of an entry, in bytes
