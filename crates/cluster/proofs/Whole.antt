@@ -20,20 +20,11 @@ use Rattle.rules.specs.declared.Faults.{Faults}
 use Rattle.rules.specs.OneCycle.{Config, Ballots, stopped, stopIf, startIf, stopAndStart, sendsMember, sendsJoin, viewOf, memberDecides, joinerDecides}
 use Rattle.rules.specs.Faults.{Row, at, tabulate, heartbeatsMissed, votesMissed, reaches, ruleOne, heard, ownVote, voteOf, votes, arriveIf, arrivedAt, decides, decisions, cycle}
 use Rattle.rules.specs.Ballots.{voteAt, ballotsOf}
-use Rattle.rules.proofs.Rows.{get-tabulate, get-tabulate-out}
+use Rattle.rules.proofs.Rows.{get-tabulate, get-tabulate-out, tabulate-ext}
 use Rattle.cluster.specs.declared.Roles.{Roles}
 use Rattle.cluster.specs.declared.States.{States}
 use Rattle.cluster.specs.States.{groupAt, stateAt, rowOf}
 use Rattle.cluster.specs.Grouped.{rolesAfter, viewAt, Below, outAt, decidedAt}
-
--- equal entries, equal rows
-pub tabulate-ext {ℓ} : {A : Type ℓ} (n : ℕ) (f g : ℕ → A) → ((q : ℕ) → q < n → f q ≡ g q) → tabulate n f ≡ tabulate n g
-unfolding tabulate
-tabulate-ext zero f g e = refl
-tabulate-ext {A = A} (suc n) f g e = ap₂ (λ (x : A) (l : List A). x ∷ l) (e 0 (omega arith)) (tabulate-ext n (λ q. f (suc q)) (λ q. g (suc q)) (λ q h. e (suc q) (up q h)))
-  where
-    up : (q : ℕ) → q < n → suc q < suc n
-    up q h = omega arith
 
 -- the masks of the states
 abbrev pub rolesOf : States → Roles

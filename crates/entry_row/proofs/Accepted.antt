@@ -14,7 +14,7 @@ use Rattle.state.specs.declared.Node.{Node}
 use Rattle.table.specs.Records.{countAt, startRefusal, cycleLength, cycleRefusal}
 use Rattle.table.specs.Table.{cyclesIn, tableOf}
 use Rattle.table.proofs.Laws.{begins}
-use Rattle.formed.proofs.Formed.{length-tabulate}
+use Rattle.rules.proofs.Rows.{length-tabulate}
 use Rattle.cluster.specs.declared.States.{States}
 use Rattle.cluster.specs.States.{rowOf}
 use Rattle.row.specs.declared.Gathered.{Gathered}

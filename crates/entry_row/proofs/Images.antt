@@ -15,7 +15,7 @@ use Rattle.state.specs.State.{formed}
 use Rattle.state.specs.Image.{imageOf, decoded}
 use Rattle.state.proofs.RoundTrip.{image-length, round-trip}
 use Rattle.rules.specs.Faults.{tabulate}
-use Rattle.cluster.proofs.Whole.{tabulate-ext}
+use Rattle.rules.proofs.Rows.{tabulate-ext}
 use Rattle.row.specs.Row.{inPlace, inOrder}
 use Rattle.entry_row.specs.Images.{nodeOr, nodeIn, entriesIn, nodesIn, imagesOf}
 

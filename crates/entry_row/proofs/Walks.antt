@@ -16,8 +16,7 @@ use Rattle.state.specs.declared.Decoded.{Decoded}
 use Rattle.state.specs.Image.{imageOf, decoded}
 use Rattle.rules.specs.OneCycle.{stopped}
 use Rattle.rules.specs.Faults.{at, tabulate}
-use Rattle.rules.proofs.Rows.{get-tabulate}
-use Rattle.formed.proofs.Formed.{length-tabulate}
+use Rattle.rules.proofs.Rows.{get-tabulate, length-tabulate}
 use Rattle.cluster.specs.declared.States.{States}
 use Rattle.cluster.specs.States.{stateAt, rowOf}
 use Rattle.row.specs.declared.Gathered.{Gathered}

@@ -24,7 +24,7 @@ use Rattle.rules.specs.declared.Faults.{Faults}
 use Rattle.rules.specs.OneCycle.{Config, Ballots, stopped, stopAndStart, sendsMember, sendsJoin, viewOf, is, voters, wins, newSet, groupWith, newGroup, memberOn, withOwn, rival, memberDecides, fits, enterOn, joinerDecides}
 use Rattle.rules.specs.Faults.{Row, at, tabulate, founding, voteReaches, heard, ownVote, voteOf, votes, arriveIf, arrivedAt, decides, decisions, ruleOne, cycle}
 use Rattle.rules.specs.Reference.{Cluster, step, after}
-use Rattle.rules.proofs.Rows.{get-tabulate}
+use Rattle.rules.proofs.Rows.{get-tabulate, length-tabulate}
 use Rattle.rules.proofs.Votes.{has-view, in-voters, base-is, new-inside, new-in}
 use Rattle.rules.proofs.States.{none-some, some-inj, which, idle, rule1-back, own-group, vote-group, vote-decides, member-votes, idle-decides}
 
@@ -267,11 +267,6 @@ after-formed n k [] w = w
 after-formed n k (c ∷ cs) w = after-formed n (step (sized n) k c) cs (cycle-formed n c (k .row) w)
 
 -- ---- and has an entry for each node
-
-pub length-tabulate {ℓ} : {A : Type ℓ} (n : ℕ) (f : ℕ → A) → length (tabulate n f) ≡ n
-unfolding tabulate
-length-tabulate zero f = refl
-length-tabulate (suc n) f = ap suc (length-tabulate n (λ q. f (suc q)))
 
 pub length-founding : (n G F : ℕ) → length (founding n G F) ≡ n
 unfolding founding

@@ -14,11 +14,10 @@ use Rattle.state.specs.declared.Node.{Node}
 use Rattle.state.specs.State.{formed}
 use Rattle.rules.specs.OneCycle.{stopped}
 use Rattle.rules.specs.Faults.{Row, at, tabulate}
-use Rattle.rules.proofs.Rows.{get-tabulate}
+use Rattle.rules.proofs.Rows.{get-tabulate, length-tabulate, tabulate-ext}
 use Rattle.cluster.specs.declared.States.{States}
 use Rattle.cluster.specs.States.{stateAt, rowOf}
 use Rattle.cluster.proofs.Deciding.{Holds, holds-none, holds-next, holds-state}
-use Rattle.cluster.proofs.Whole.{tabulate-ext}
 use Rattle.row.specs.declared.Gathered.{Gathered}
 use Rattle.row.specs.Row.{statesOf, nodesOf, inPlace, inOrder}
 use Rattle.row.specs.Gathered.{rolesOf, withNode, nothingOf, pushOf, gathered, nodeOf, each}
@@ -29,11 +28,6 @@ abbrev node : ℕ → ℕ → State → Node
 node n q d = record { state = d; id = q; nodes = n }
 
 -- ---- rows of states and rows of nodes
-length-tabulate : {A : Type 0} (n : ℕ) (f : ℕ → A) → length (tabulate n f) ≡ n
-unfolding tabulate
-length-tabulate zero f = refl
-length-tabulate (suc n) f = ap suc (length-tabulate n (λ q. f (suc q)))
-
 pub length-nodes : (n : ℕ) (row : Row) → length (nodesOf n row) ≡ n
 unfolding nodesOf
 length-nodes n row = length-tabulate n (λ q. node n q (at row q))

@@ -15,11 +15,10 @@ use Rattle.bigendian.specs.BigEndian.{numberAt}
 use Rattle.refusal.specs.Refusal.{first}
 use Rattle.rules.specs.declared.Faults.{Faults}
 use Rattle.rules.specs.Faults.{tabulate}
-use Rattle.rules.proofs.Rows.{get-tabulate, get-tabulate-out}
+use Rattle.rules.proofs.Rows.{get-tabulate, get-tabulate-out, length-tabulate}
 use Rattle.table.specs.Records.{isKind, beyond, countAt, foundingAt, wrongRow, startRefusal}
 use Rattle.table.specs.Records.{entriesAt, cycleLength, placeAt, missedAt, receiverAt, goodEntry, masksBeyond, wrongCycle, cycleRefusal, missedOf, faultsAt}
 use Rattle.table.specs.Table.{Cycles, withCycle, cyclesIn, tableOf}
-use Rattle.table.proofs.Missed.{length-tabulate}
 
 -- no bit of m at n or above
 abbrev pub Within : ℕ → ℕ → Type 0

@@ -12,14 +12,9 @@ use lib.Seq.{ext-getD, getD-set-same, getD-set-other}
 use borrow.Author.Tests.{eq-eqb, ne-eqb, eqb-true, eqb-false}
 use Rattle.sets.proofs.Booleans.{bool}
 use Rattle.rules.specs.Faults.{tabulate}
-use Rattle.rules.proofs.Rows.{get-tabulate}
+use Rattle.rules.proofs.Rows.{get-tabulate, length-tabulate}
 use Rattle.bigendian.specs.BigEndian.{numberAt}
 use Rattle.table.specs.Records.{entriesAt, placeAt, missedAt, missedOf, faultsAt}
-
-pub length-tabulate : (n : ℕ) (f : ℕ → ℕ) → length (tabulate n f) ≡ n
-unfolding tabulate
-length-tabulate zero f = refl
-length-tabulate (suc n) f = ap suc (length-tabulate n (λ q. f (suc q)))
 
 -- storing x at j in a row, or nothing
 row-set : (f g : ℕ → ℕ) (j x : ℕ) → j < 64 → g j ≡ x → ((q : ℕ) → q < 64 → (q ≡ j → ⊥) → g q ≡ f q) → tabulate 64 g ≡ set (tabulate 64 f) j x

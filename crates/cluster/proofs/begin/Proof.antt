@@ -5,9 +5,9 @@ use lib.ListN.{replicate, getD-replicate}
 use Rattle.sets.proofs.Membership.{has-none}
 use Rattle.state.specs.State.{initial}
 use Rattle.rules.specs.Faults.{founding}
+use Rattle.rules.proofs.Rows.{tabulate-ext}
 use Rattle.cluster.specs.declared.States.{States}
 use Rattle.cluster.specs.States.{stateAt, rowOf}
-use Rattle.cluster.proofs.Whole.{tabulate-ext}
 use Rattle.cluster.proofs.begin.Statement.{statement}
 use Rattle.cluster.proofs.begin.Tie as tie
 

@@ -1,0 +1,3 @@
+mod Counts
+pub mod Images
+pub mod Rows
