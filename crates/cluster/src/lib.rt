@@ -7,7 +7,7 @@ ghost use Rattle.sets.specs.Sets.{has, _∩_, _∖_, those, any};
 ghost use Rattle.rules.specs.OneCycle.{memberDecides, joinerDecides};
 ghost use Rattle.rules.specs.Ballots.{voteAt, ballotsOf, fitsAt};
 ghost use Rattle.rules.specs.Faults.{founding as theFounding, cycle as theCycle};
-ghost use Rattle.cluster.specs.States.{stateAt, rowOf};
+ghost use Rattle.cluster.specs.States.{statesOf, faultsOf, stateAt, rowOf};
 ghost use Rattle.cluster.specs.Grouped.{
   rolesAfter,
   viewAt,
@@ -175,11 +175,11 @@ fn leading(
 
 // For each member the members with an equal vote: the result for its own nodes, `same` for the others. A vote is looked for once, for the lowest member
 // that cast it.
-fn groups_of<'a>(
+fn groups_of(
     n: usize,
-    numbers: &'a [u32; 64],
-    sets: &'a [u64; 64],
-    bases: &'a [u64; 64],
+    numbers: &[u32; 64],
+    sets: &[u64; 64],
+    bases: &[u64; 64],
     views: &[u64; 64],
     members: u64,
     same: &mut [u64; 64],
@@ -659,23 +659,26 @@ fn keep(
     }
 }
 
-// Rules 5 and 6 of all nodes, on the votes that go out.
-fn decisions<'a>(
+// Rules 5 and 6 of all nodes, on the votes that go out: the masks, and into the new arrays the groups.
+fn decisions(
     n: usize,
-    numbers: &'a [u32; 64],
-    sets: &'a [u64; 64],
-    bases: &'a [u64; 64],
+    numbers: &[u32; 64],
+    sets: &[u64; 64],
+    bases: &[u64; 64],
     views: &[u64; 64],
     lead: u64,
     same: &[u64; 64],
     w: Roles,
     sent: u64,
     missed: &[u64; 64],
-) -> States
-    requires { ⌜ n ≤ 64 ⌝ }
+    new_numbers: &mut [u32; 64],
+    new_sets: &mut [u64; 64],
+    new_bases: &mut [u64; 64],
+) -> Roles
+    requires { ⌜ (n ≤ 64) × (length (now «new_numbers») ≡ 64) × (length (now «new_sets») ≡ 64) × (length (now «new_bases») ≡ 64) ⌝ }
     requires { ⌜ Grouped (now numbers) (now sets) (now bases) (now views) n (w .members) lead (now same) ⌝ }
     requires { ⌜ Within sent (w .members) ⌝ }
-    ensures { λ r. ⌜ ((q : ℕ) → q < n → stateAt r q ≡ decidedAt (now (numbers .entry)) (now (sets .entry)) (now (bases .entry)) (now (views .entry)) n w (sent ∖ getD (now (missed .entry)) q 0) q) ⌝ }
+    ensures { λ r. ⌜ ((q : ℕ) → q < n → stateAt (statesOf r (now («new_numbers» .exit)) (now («new_sets» .exit)) (now («new_bases» .exit))) q ≡ decidedAt (now (numbers .entry)) (now (sets .entry)) (now (bases .entry)) (now (views .entry)) n w (sent ∖ getD (now (missed .entry)) q 0) q) ⌝ }
 {
     let mut next = Roles {
         members: 0,
@@ -684,9 +687,6 @@ fn decisions<'a>(
         outvoted: 0,
     };
     let mut k = nobody();
-    let mut new_numbers = [0u32; 64];
-    let mut new_sets = [0u64; 64];
-    let mut new_bases = [0u64; 64];
     let mut q: usize = 0;
     while q < n {
         let came = sets::difference(sent, missed[q]);
@@ -704,59 +704,102 @@ fn decisions<'a>(
         new_bases[q] = g.base;
         q += 1;
     }
-    States {
-        members: next.members,
-        joining: next.joining,
-        no_quorum: next.no_quorum,
-        outvoted: next.outvoted,
-        numbers: new_numbers,
-        sets: new_sets,
-        bases: new_bases,
-    }
+    next
 }
 
-// One cycle under the faults f.
+// What befalls a cycle apart from what each node misses: the nodes that stop and start, and those whose frames are lost in sending.
+pub struct Marks {
+    pub stop: u64,
+    pub start: u64,
+    pub heartbeat_lost: u64,
+    pub vote_lost: u64,
+}
+
+// One cycle of nodes with the roles w: the roles after it, and in place their groups. What node q misses is in the elements q of `unheard` and `missed`.
+pub fn advance<'a>(
+    n: usize,
+    w: Roles,
+    numbers: &mut [u32; 64],
+    sets: &mut [u64; 64],
+    bases: &mut [u64; 64],
+    m: Marks,
+    unheard: &'a [u64; 64],
+    missed: &'a [u64; 64],
+) -> Roles
+    requires { ⌜ n ≤ 64 ⌝ }
+    ensures { λ r. ⌜ rowOf n (statesOf r (now (numbers .exit)) (now (sets .exit)) (now (bases .exit))) ≡ theCycle (record { nodes = n }) (faultsOf m (now (unheard .entry)) (now (missed .entry))) (rowOf n (statesOf w (now (numbers .entry)) (now (sets .entry)) (now (bases .entry)))) ⌝ }
+{
+    let v = rule_one(n, w, m.stop, m.start);
+    let mut views = [0u64; 64];
+    views_of(
+        n,
+        sets,
+        sets::difference(v.members, m.heartbeat_lost),
+        sets::difference(v.joining, m.heartbeat_lost),
+        unheard,
+        &mut views,
+    );
+    let mut same = [0u64; 64];
+    let lead = groups_of(n, numbers, sets, bases, &views, v.members, &mut same);
+    let mut new_numbers = [0u32; 64];
+    let mut new_sets = [0u64; 64];
+    let mut new_bases = [0u64; 64];
+    let after = decisions(
+        n,
+        numbers,
+        sets,
+        bases,
+        &views,
+        lead,
+        &same,
+        v,
+        sets::difference(v.members, m.vote_lost),
+        missed,
+        &mut new_numbers,
+        &mut new_sets,
+        &mut new_bases,
+    );
+    *numbers = new_numbers;
+    *sets = new_sets;
+    *bases = new_bases;
+    after
+}
+
+// The same of states and faults by value.
 pub fn cycle(n: usize, s: States, f: Faults) -> States
     requires { ⌜ n ≤ 64 ⌝ }
     ensures { λ r. ⌜ rowOf n r ≡ theCycle (record { nodes = n }) f (rowOf n s) ⌝ }
 {
-    let before = Roles {
-        members: s.members,
-        joining: s.joining,
-        no_quorum: s.no_quorum,
-        outvoted: s.outvoted,
-    };
-    let w = rule_one(n, before, f.stop, f.start);
-    let mut views = [0u64; 64];
-    views_of(
+    let mut numbers = s.numbers;
+    let mut sets = s.sets;
+    let mut bases = s.bases;
+    let w = advance(
         n,
-        &s.sets,
-        sets::difference(w.members, f.heartbeat_lost),
-        sets::difference(w.joining, f.heartbeat_lost),
+        Roles {
+            members: s.members,
+            joining: s.joining,
+            no_quorum: s.no_quorum,
+            outvoted: s.outvoted,
+        },
+        &mut numbers,
+        &mut sets,
+        &mut bases,
+        Marks {
+            stop: f.stop,
+            start: f.start,
+            heartbeat_lost: f.heartbeat_lost,
+            vote_lost: f.vote_lost,
+        },
         &f.heartbeat_missed,
-        &mut views,
-    );
-    let mut same = [0u64; 64];
-    let lead = groups_of(
-        n,
-        &s.numbers,
-        &s.sets,
-        &s.bases,
-        &views,
-        w.members,
-        &mut same,
-    );
-    let after = decisions(
-        n,
-        &s.numbers,
-        &s.sets,
-        &s.bases,
-        &views,
-        lead,
-        &same,
-        w,
-        sets::difference(w.members, f.vote_lost),
         &f.vote_missed,
     );
-    after
+    States {
+        members: w.members,
+        joining: w.joining,
+        no_quorum: w.no_quorum,
+        outvoted: w.outvoted,
+        numbers,
+        sets,
+        bases,
+    }
 }

@@ -88,7 +88,13 @@ fn make_room(out: &[u8], used: usize) -> Room
 }
 
 // The header line, and the first record.
-fn begin(input: &mut [u8], out: &mut [u8]) -> Run
+fn begin(
+    input: &mut [u8],
+    out: &mut [u8],
+    numbers: &mut [u32; 64],
+    sets: &mut [u64; 64],
+    bases: &mut [u64; 64],
+) -> Run
     requires { ⌜ 128 ≤ length (now out) ⌝ }
     ensures { λ r. ⌜ Fits (now (input .exit)) (now (out .exit)) r ⌝ }
 {
@@ -101,7 +107,7 @@ fn begin(input: &mut [u8], out: &mut [u8]) -> Run
         },
     );
     let end = window.end;
-    let piece = report::open(&input[..end], out, 0);
+    let piece = report::open(&input[..end], out, 0, numbers, sets, bases);
     let session = piece.session;
     Run {
         session,
@@ -116,7 +122,14 @@ fn begin(input: &mut [u8], out: &mut [u8]) -> Run
 }
 
 // One record more: its line, or its refusal, or the end of the file.
-fn next(input: &mut [u8], out: &mut [u8], r: Run) -> Run
+fn next(
+    input: &mut [u8],
+    out: &mut [u8],
+    r: Run,
+    numbers: &mut [u32; 64],
+    sets: &mut [u64; 64],
+    bases: &mut [u64; 64],
+) -> Run
     requires { ⌜ Fits (now input) (now out) r ⌝ }
     requires { ⌜ 128 ≤ length (now out) ⌝ }
     ensures { λ q. ⌜ Fits (now (input .exit)) (now (out .exit)) q ⌝ }
@@ -136,7 +149,7 @@ fn next(input: &mut [u8], out: &mut [u8], r: Run) -> Run
     let window = refill(input, before);
     let at = window.at;
     let end = window.end;
-    let piece = report::turn(session, &input[at..end], out, used);
+    let piece = report::turn(session, &input[at..end], out, used, numbers, sets, bases);
     let after = piece.session;
     Run {
         session: after,
@@ -154,13 +167,16 @@ fn next(input: &mut [u8], out: &mut [u8], r: Run) -> Run
 fn print(input: &mut [u8], out: &mut [u8])
     requires { ⌜ 128 ≤ length (now out) ⌝ }
 {
-    let mut run = begin(input, out);
+    let mut numbers = [0u32; 64];
+    let mut sets = [0u64; 64];
+    let mut bases = [0u64; 64];
+    let mut run = begin(input, out, &mut numbers, &mut sets, &mut bases);
     let mut turns = u64::MAX;
     while turns > 0 {
         if run.over {
             break;
         }
-        run = next(input, out, run);
+        run = next(input, out, run, &mut numbers, &mut sets, &mut bases);
         turns -= 1;
     }
     let used = run.used;

@@ -7,11 +7,10 @@ ghost use Rattle.sets.specs.Quorum.{quorum};
 ghost use Rattle.rules.specs.Faults.{founding as theFounding, missesOther};
 ghost use Rattle.rules.specs.Reference.{beginning, keeps as theKeeps, step as theStep};
 ghost use Rattle.cluster.specs.declared.States.{States as TheStates};
-ghost use Rattle.cluster.specs.States.{rowOf};
+ghost use Rattle.cluster.specs.States.{statesOf, faultsOf, rowOf};
 ghost use Rattle.reference.specs.Watched.{missesAt, clusterOf, haltedIn, enteredIn};
+use cluster::Marks;
 use cluster::Roles;
-use cluster::States;
-use rules::Faults;
 use state::Group;
 
 // The reference group, if it is defined, and the nodes that were disturbed in the last cycle.
@@ -21,9 +20,9 @@ pub struct Watch {
     pub lately: u64,
 }
 
-// What a cycle did: the states and what is watched after it, whether it kept the fault hypothesis, and who halted and entered in it.
+// What a cycle did: the roles and what is watched after it, whether it kept the fault hypothesis, and who halted and entered in it.
 pub struct Turn {
-    pub states: States,
+    pub roles: Roles,
     pub watch: Watch,
     pub kept: bool,
     pub halted: u64,
@@ -120,39 +119,39 @@ fn is_defined(kept: bool, members: u64, q: usize) -> bool
     }
 }
 
-// One cycle under the faults f, watched.
-pub fn step(n: usize, s: States, w: Watch, f: Faults) -> Turn
+// One cycle, watched: the groups of the nodes are changed in place. What node q misses is in the elements q of `unheard` and `missed`.
+pub fn step<'a>(
+    n: usize,
+    z: Roles,
+    numbers: &mut [u32; 64],
+    sets: &mut [u64; 64],
+    bases: &mut [u64; 64],
+    w: Watch,
+    m: Marks,
+    unheard: &'a [u64; 64],
+    missed: &'a [u64; 64],
+) -> Turn
     requires { ⌜ n ≤ 64 ⌝ }
-    ensures { λ r. ⌜ clusterOf n (r .states) (r .watch) ≡ theStep (record { nodes = n }) (clusterOf n s w) f ⌝ }
-    ensures { λ r. ⌜ r .kept ≡ theKeeps (record { nodes = n }) (clusterOf n s w) f ⌝ }
-    ensures { λ r. ⌜ r .halted ≡ haltedIn (record { nodes = n }) f (rowOf n s) ⌝ }
-    ensures { λ r. ⌜ r .entered ≡ enteredIn (record { nodes = n }) f (rowOf n s) ⌝ }
+    ensures { λ r. ⌜ clusterOf n (statesOf (r .roles) (now (numbers .exit)) (now (sets .exit)) (now (bases .exit))) (r .watch) ≡ theStep (record { nodes = n }) (clusterOf n (statesOf z (now (numbers .entry)) (now (sets .entry)) (now (bases .entry))) w) (faultsOf m (now (unheard .entry)) (now (missed .entry))) ⌝ }
+    ensures { λ r. ⌜ r .kept ≡ theKeeps (record { nodes = n }) (clusterOf n (statesOf z (now (numbers .entry)) (now (sets .entry)) (now (bases .entry))) w) (faultsOf m (now (unheard .entry)) (now (missed .entry))) ⌝ }
+    ensures { λ r. ⌜ r .halted ≡ haltedIn (record { nodes = n }) (faultsOf m (now (unheard .entry)) (now (missed .entry))) (rowOf n (statesOf z (now (numbers .entry)) (now (sets .entry)) (now (bases .entry)))) ⌝ }
+    ensures { λ r. ⌜ r .entered ≡ enteredIn (record { nodes = n }) (faultsOf m (now (unheard .entry)) (now (missed .entry))) (rowOf n (statesOf z (now (numbers .entry)) (now (sets .entry)) (now (bases .entry)))) ⌝ }
 {
-    let marked = sets::union(sets::union(f.stop, f.heartbeat_lost), f.vote_lost);
-    let disturbed = disturbed_nodes(n, marked, &f.heartbeat_missed, &f.vote_missed);
+    let marked = sets::union(sets::union(m.stop, m.heartbeat_lost), m.vote_lost);
+    let disturbed = disturbed_nodes(n, marked, unheard, missed);
     let steady = steady_nodes(n, w, disturbed);
     let kept = keeps(w, steady);
-    let before = cluster::rule_one(
-        n,
-        Roles {
-            members: s.members,
-            joining: s.joining,
-            no_quorum: s.no_quorum,
-            outvoted: s.outvoted,
-        },
-        f.stop,
-        f.start,
-    );
-    let after = cluster::cycle(n, s, f);
+    let before = cluster::rule_one(n, z, m.stop, m.start);
+    let after = cluster::advance(n, z, numbers, sets, bases, m, unheard, missed);
     let first = lowest_steady(kept, steady);
     let defined = is_defined(kept, after.members, first);
-    let number = after.numbers[first];
-    let set = after.sets[first];
-    let base = after.bases[first];
+    let number = numbers[first];
+    let set = sets[first];
+    let base = bases[first];
     let halted = sets::difference(before.members, after.members);
     let entered = sets::intersection(before.joining, after.members);
     Turn {
-        states: after,
+        roles: after,
         watch: Watch {
             defined,
             group: Group { number, set, base },

@@ -14,15 +14,16 @@ use Rattle.rules.specs.declared.Faults.{Faults}
 use Rattle.rules.specs.Reference.{Cluster, beginning, keeps, step}
 use Rattle.table.specs.Records.{countAt, foundingAt, startRefusal, cycleLength, cycleRefusal, faultsAt}
 use Rattle.table.proofs.Laws.{accepted, begins}
-use Rattle.cluster.specs.declared.States.{States}
-use Rattle.cluster.specs.States.{rowOf}
+use Rattle.cluster.specs.declared.Marks.{Marks}
+use Rattle.cluster.specs.declared.Roles.{Roles}
+use Rattle.cluster.specs.States.{statesOf, faultsOf, rowOf}
 use Rattle.reference.specs.declared.Watch.{Watch}
 use Rattle.reference.specs.Watched.{referenceOf, clusterOf, haltedIn, enteredIn}
 use Rattle.report.specs.declared.Session.{Session}
 use Rattle.report.specs.declared.Piece.{Piece}
 use Rattle.report.specs.Printed.{headerLine, fields, line, refusedLine, ofNodes, printed}
 use Rattle.report.specs.Seen.{Sees}
-use Rattle.report.specs.Pieces.{following, remaining, Sound, Begun, Gives}
+use Rattle.report.specs.Pieces.{marksAt, Groups, nodesOf, standing, following, remaining, Sound, Begun, Gives}
 use Rattle.report.proofs.Windows.{seen-shorter, seen-end, seen-length, seen-faults, seen-refusal, seen-count, seen-founding, seen-start}
 use Rattle.report.proofs.Following.{following-end, following-refused, following-next, printed-refused, printed-goes}
 
@@ -33,14 +34,19 @@ lastAt z end = record { session = z; taken = 0; at = end; over = true }
 abbrev goingAt : Session → ℕ → ℕ → Piece
 goingAt z taken end = record { session = z; taken = taken; at = end; over = false }
 
-module _ (z : Session) (left : List ℕ) (sound : Sound z) where
+-- the faults of a record that is read in parts
+pub faults-read : (left : List ℕ) (m : Marks) (unheard missed : List ℕ) → m ≡ marksAt left → unheard ≡ faultsAt left .«heartbeat_missed» → missed ≡ faultsAt left .«vote_missed»
+    → faultsOf m unheard missed ≡ faultsAt left
+faults-read left m unheard missed em eu ev = λ i. faultsOf (em i) (eu i) (ev i)
+
+module _ (z : Session) (g : Groups) (left : List ℕ) (sound : Sound z) where
   -- at the end of the file
-  pub gives-end : (out : List ℕ) (at : ℕ) → length left ≡ 0 → Gives (remaining z) 36 left out at out (lastAt z at)
+  pub gives-end : (out : List ℕ) (at : ℕ) → length left ≡ 0 → Gives (remaining z g) 36 left out at out (lastAt z at) g
   gives-end out at e =
       record {
         text = [];
         appended = none out at at refl;
-        all = λ rest sees. following-end (z .nodes) (z .cycle) (clusterOf (z .nodes) (z .states) (z .watch)) rest (seen-end left rest sees e);
+        all = λ rest sees. following-end (z .nodes) (z .cycle) (standing z g) rest (seen-end left rest sees e);
         within = omega arith;
         moves = λ h. absurd (false≢true (sym h));
         sound = sound;
@@ -49,13 +55,13 @@ module _ (z : Session) (left : List ℕ) (sound : Sound z) where
   -- at a refusal
   pub gives-refused : (out : List ℕ) (at : ℕ) (out' : List ℕ) (end r : ℕ) → (length left ≡ 0 → ⊥) → getD left 35 0 < 256
       → r ≡ cycleRefusal (z .nodes) (z .cycle) left → (r ≡ 0 → ⊥) → Appended out at (refusedLine r) out' end
-      → Gives (remaining z) 36 left out at out' (lastAt z end)
+      → Gives (remaining z g) 36 left out at out' (lastAt z end) g
   gives-refused out at out' end r some byte kr refused a =
       record {
         text = refusedLine r;
         appended = a;
         all =
-            λ rest sees. following-refused (z .nodes) (z .cycle) (clusterOf (z .nodes) (z .states) (z .watch)) rest r
+            λ rest sees. following-refused (z .nodes) (z .cycle) (standing z g) rest r
             (kr ∙ seen-refusal left rest sees (z .nodes) (z .cycle) byte) (λ e. some (none-left rest sees e)) refused
             ∙ sym (append-nil (refusedLine r));
         within = omega arith;
@@ -66,18 +72,18 @@ module _ (z : Session) (left : List ℕ) (sound : Sound z) where
       none-left : (rest : List ℕ) → Sees left rest → length rest ≡ 0 → length left ≡ 0
       none-left rest sees e = omega (arith, seen-shorter left rest sees)
 
-  -- at a cycle, of whose record `taken` is the length, f the faults, and s, w, kept, halted and entered what one cycle under them gives
+  -- at a cycle, of whose record `taken` is the length, f the faults, and y, h, w, kept, halted and entered what one cycle under them gives
   module _ (accept : cycleRefusal (z .nodes) (z .cycle) left ≡ 0) (byte : getD left 35 0 < 256) (taken : ℕ) (kt : taken ≡ cycleLength left) (f : Faults)
-      (kf : f ≡ faultsAt left) (s : States) (w : Watch) (kept : Bool) (halted entered : ℕ)
-      (ks : clusterOf (z .nodes) s w ≡ step (ofNodes (z .nodes)) (clusterOf (z .nodes) (z .states) (z .watch)) f)
-      (kk : kept ≡ keeps (ofNodes (z .nodes)) (clusterOf (z .nodes) (z .states) (z .watch)) f)
-      (kh : halted ≡ haltedIn (ofNodes (z .nodes)) f (rowOf (z .nodes) (z .states)))
-      (ke : entered ≡ enteredIn (ofNodes (z .nodes)) f (rowOf (z .nodes) (z .states))) where
-    line-is : line (ofNodes (z .nodes)) (z .cycle) (clusterOf (z .nodes) (z .states) (z .watch)) f ≡ fields (z .cycle) kept (referenceOf w) halted entered
+      (kf : f ≡ faultsAt left) (y : Roles) (h : Groups) (w : Watch) (kept : Bool) (halted entered : ℕ)
+      (ks : clusterOf (z .nodes) (statesOf y (h .numbers) (h .sets) (h .bases)) w ≡ step (ofNodes (z .nodes)) (standing z g) f)
+      (kk : kept ≡ keeps (ofNodes (z .nodes)) (standing z g) f)
+      (kh : halted ≡ haltedIn (ofNodes (z .nodes)) f (rowOf (z .nodes) (nodesOf z g)))
+      (ke : entered ≡ enteredIn (ofNodes (z .nodes)) f (rowOf (z .nodes) (nodesOf z g))) where
+    line-is : line (ofNodes (z .nodes)) (z .cycle) (standing z g) f ≡ fields (z .cycle) kept (referenceOf w) halted entered
     unfolding line
     line-is =
-        ap₂ (λ (b : Bool) (g : Option Group).
-        fields (z .cycle) b g (haltedIn (ofNodes (z .nodes)) f (rowOf (z .nodes) (z .states))) (enteredIn (ofNodes (z .nodes)) f (rowOf (z .nodes) (z .states))))
+        ap₂ (λ (b : Bool) (e : Option Group).
+        fields (z .cycle) b e (haltedIn (ofNodes (z .nodes)) f (rowOf (z .nodes) (nodesOf z g))) (enteredIn (ofNodes (z .nodes)) f (rowOf (z .nodes) (nodesOf z g))))
         (sym kk) (ap (λ (b : Cluster). b .reference) (sym ks))
         ∙ ap₂ (λ (x y : ℕ). fields (z .cycle) kept (referenceOf w) x y) (sym kh) (sym ke)
 
@@ -88,24 +94,24 @@ module _ (z : Session) (left : List ℕ) (sound : Sound z) where
       length-is : cycleLength rest ≡ taken
       length-is = let t = accepted (z .nodes) (z .cycle) left accept in sym (kt ∙ seen-length left rest sees (t .head))
 
-      rest-is : following (z .nodes) (suc (z .cycle)) (step (ofNodes (z .nodes)) (clusterOf (z .nodes) (z .states) (z .watch)) f) (drop taken rest)
-          ≡ following (z .nodes) (z .cycle + 1) (clusterOf (z .nodes) s w) (drop taken rest)
+      rest-is : following (z .nodes) (suc (z .cycle)) (step (ofNodes (z .nodes)) (standing z g) f) (drop taken rest)
+          ≡ following (z .nodes) (z .cycle + 1) (clusterOf (z .nodes) (statesOf y (h .numbers) (h .sets) (h .bases)) w) (drop taken rest)
       rest-is = ap₂ (λ (k : ℕ) (b : Cluster). following (z .nodes) k b (drop taken rest)) (sym (add-one (z .cycle))) (sym ks)
 
-      all-is : remaining z rest
+      all-is : remaining z g rest
           ≡ fields (z .cycle) kept (referenceOf w) halted entered
-          ++ following (z .nodes) (z .cycle + 1) (clusterOf (z .nodes) s w) (drop taken rest)
+          ++ following (z .nodes) (z .cycle + 1) (clusterOf (z .nodes) (statesOf y (h .numbers) (h .sets) (h .bases)) w) (drop taken rest)
       all-is =
-          following-next (z .nodes) (z .cycle) (clusterOf (z .nodes) (z .states) (z .watch)) rest
+          following-next (z .nodes) (z .cycle) (standing z g) rest
           (sym (seen-refusal left rest sees (z .nodes) (z .cycle) byte) ∙ accept)
           ∙ ap₂ (λ (c : Faults) (l : ℕ).
-          line (ofNodes (z .nodes)) (z .cycle) (clusterOf (z .nodes) (z .states) (z .watch)) c
-          ++ following (z .nodes) (suc (z .cycle)) (step (ofNodes (z .nodes)) (clusterOf (z .nodes) (z .states) (z .watch)) c) (drop l rest))
+          line (ofNodes (z .nodes)) (z .cycle) (standing z g) c
+          ++ following (z .nodes) (suc (z .cycle)) (step (ofNodes (z .nodes)) (standing z g) c) (drop l rest))
           faults-are length-is
           ∙ ap₂ (λ (t u : List ℕ). t ++ u) line-is rest-is
 
     pub gives-cycle : (out : List ℕ) (at : ℕ) (out' : List ℕ) (end : ℕ) → Appended out at (fields (z .cycle) kept (referenceOf w) halted entered) out' end
-        → Gives (remaining z) 36 left out at out' (goingAt (record { nodes = z .nodes; cycle = z .cycle + 1; states = s; watch = w }) taken end)
+        → Gives (remaining z g) 36 left out at out' (goingAt (record { nodes = z .nodes; cycle = z .cycle + 1; roles = y; watch = w }) taken end) h
     gives-cycle out at out' end a =
         let t = accepted (z .nodes) (z .cycle) left accept in
         record {
@@ -120,10 +126,10 @@ module _ (z : Session) (left : List ℕ) (sound : Sound z) where
 -- ---- the beginning
 
 -- a first record that is refused
-pub opens-refused : (z : Session) (left out : List ℕ) (at : ℕ) (mid : List ℕ) (header : ℕ) (out' : List ℕ) (end r : ℕ) → Sound z
+pub opens-refused : (z : Session) (g : Groups) (left out : List ℕ) (at : ℕ) (mid : List ℕ) (header : ℕ) (out' : List ℕ) (end r : ℕ) → Sound z
     → r ≡ startRefusal false 0 left → (r ≡ 0 → ⊥) → Appended out at headerLine mid header → Appended mid header (refusedLine r) out' end
-    → Gives printed 12 left out at out' (lastAt z end)
-opens-refused z left out at mid header out' end r sound kr refused a b =
+    → Gives printed 12 left out at out' (lastAt z end) g
+opens-refused z g left out at mid header out' end r sound kr refused a b =
     record {
       text = headerLine ++ refusedLine r;
       appended = then a b;
@@ -134,14 +140,14 @@ opens-refused z left out at mid header out' end r sound kr refused a b =
     }
 
 module _ (left : List ℕ) (accept : startRefusal false 0 left ≡ 0) (n founding : ℕ) (kn : n ≡ countAt left) (kf : founding ≡ foundingAt left) (z : Session)
-    (begun : Begun n founding z) where
-  begins-as : (rest : List ℕ) → following n 1 (beginning (ofNodes n) 0 founding) rest ≡ remaining z rest
+    (g : Groups) (begun : Begun n founding z g) where
+  begins-as : (rest : List ℕ) → following n 1 (beginning (ofNodes n) 0 founding) rest ≡ remaining z g rest
   begins-as rest =
       ap (λ (b : Cluster). following n 1 b rest) (sym (begun .cluster))
-      ∙ ap₂ (λ (m k : ℕ). following m k (clusterOf m (z .states) (z .watch)) rest) (sym (begun .nodes)) (sym (begun .first))
+      ∙ ap₂ (λ (m k : ℕ). following m k (clusterOf m (nodesOf z g) (z .watch)) rest) (sym (begun .nodes)) (sym (begun .first))
 
   -- one that is not
-  pub opens : (out : List ℕ) (at : ℕ) (out' : List ℕ) (header : ℕ) → Appended out at headerLine out' header → Gives printed 12 left out at out' (goingAt z 12 header)
+  pub opens : (out : List ℕ) (at : ℕ) (out' : List ℕ) (header : ℕ) → Appended out at headerLine out' header → Gives printed 12 left out at out' (goingAt z 12 header) g
   opens out at out' header a =
       let t = begins false 0 left accept in
       record {

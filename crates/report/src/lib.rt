@@ -6,15 +6,17 @@ ghost use Rattle.text.specs.Text.{Appended};
 ghost use Rattle.table.specs.Records.{cycleRefusal};
 ghost use Rattle.reference.specs.Watched.{referenceOf};
 ghost use Rattle.report.specs.Printed.{headerLine, promiseText, groupText, masksText, fields, refusedLine, printed};
-ghost use Rattle.report.specs.Pieces.{remaining, Sound, Begun, Gives};
-use cluster::States;
+ghost use Rattle.report.specs.Pieces.{marksAt, held, remaining, Sound, Begun, Gives};
+use cluster::Marks;
+use cluster::Roles;
 use reference::Watch;
 
-// A table's run between two cycles: the number of nodes, the number of the next cycle, and the cluster as it stands.
+// A table's run between two cycles: the number of nodes, the number of the next cycle, who is what, and what is watched. The caller holds the
+// groups of the nodes, in three arrays.
 pub struct Session {
     pub nodes: usize,
     pub cycle: u64,
-    pub states: States,
+    pub roles: Roles,
     pub watch: Watch,
 }
 
@@ -102,32 +104,56 @@ fn put_header(out: &mut [u8], at: usize) -> usize
     text::put(out, half, b"set halted entered\n")
 }
 
-// A session before cycle 1.
-fn begin(nodes: usize, founding: u64) -> Session
+// A session before cycle 1, and into the arrays the groups of its nodes.
+fn begin(
+    nodes: usize,
+    founding: u64,
+    numbers: &mut [u32; 64],
+    sets: &mut [u64; 64],
+    bases: &mut [u64; 64],
+) -> Session
     requires { ⌜ nodes ≤ 64 ⌝ }
-    ensures { λ r. ⌜ Begun nodes founding r ⌝ }
+    ensures { λ r. ⌜ Begun nodes founding r (held (now (numbers .exit)) (now (sets .exit)) (now (bases .exit))) ⌝ }
 {
     let states = cluster::begin(nodes, founding);
     let watch = reference::begin(founding);
+    let first_numbers = states.numbers;
+    let first_sets = states.sets;
+    let first_bases = states.bases;
+    *numbers = first_numbers;
+    *sets = first_sets;
+    *bases = first_bases;
     Session {
         nodes,
         cycle: 1,
-        states,
+        roles: Roles {
+            members: states.members,
+            joining: states.joining,
+            no_quorum: states.no_quorum,
+            outvoted: states.outvoted,
+        },
         watch,
     }
 }
 
 // Begins a table's print: the header line, and the refusal of its first record if there is one. `left` is what is seen of the table.
-pub fn open(left: &[u8], out: &mut [u8], at: usize) -> Piece
+pub fn open(
+    left: &[u8],
+    out: &mut [u8],
+    at: usize,
+    numbers: &mut [u32; 64],
+    sets: &mut [u64; 64],
+    bases: &mut [u64; 64],
+) -> Piece
     requires { ⌜ at + 128 ≤ length (now out) ⌝ }
-    ensures { λ r. ⌜ Gives printed 12 (now (left .entry)) (now (out .entry)) at (now (out .exit)) r ⌝ }
+    ensures { λ r. ⌜ Gives printed 12 (now (left .entry)) (now (out .entry)) at (now (out .exit)) r (held (now (numbers .exit)) (now (sets .exit)) (now (bases .exit))) ⌝ }
 {
     let header = put_header(out, at);
     let refusal = table::start_refusal(false, 0, left);
     if refusal != 0 {
         let end = put_refusal(out, header, refusal);
         return Piece {
-            session: begin(0, 0),
+            session: begin(0, 0, numbers, sets, bases),
             taken: 0,
             at: end,
             over: true,
@@ -135,33 +161,68 @@ pub fn open(left: &[u8], out: &mut [u8], at: usize) -> Piece
     }
     let nodes = table::start_count(left) as usize;
     Piece {
-        session: begin(nodes, table::start_founding(left)),
+        session: begin(nodes, table::start_founding(left), numbers, sets, bases),
         taken: 12,
         at: header,
         over: false,
     }
 }
 
+// The four masks of a cycle's record.
+fn marks_at(left: &[u8]) -> Marks
+    requires { ⌜ 36 ≤ length (now left) ⌝ }
+    ensures { λ r. ⌜ r ≡ marksAt (now (left .entry)) ⌝ }
+{
+    Marks {
+        stop: bigendian::read8(left, 3),
+        start: bigendian::read8(left, 11),
+        heartbeat_lost: bigendian::read8(left, 19),
+        vote_lost: bigendian::read8(left, 27),
+    }
+}
+
 // One cycle, from a record that is not refused.
-fn run_cycle(z: Session, left: &[u8], out: &mut [u8], at: usize) -> Piece
+fn run_cycle(
+    z: Session,
+    left: &[u8],
+    out: &mut [u8],
+    at: usize,
+    numbers: &mut [u32; 64],
+    sets: &mut [u64; 64],
+    bases: &mut [u64; 64],
+) -> Piece
     requires { ⌜ Sound z ⌝ }
     requires { ⌜ cycleRefusal (z .nodes) (z .cycle) (now left) ≡ 0 ⌝ }
     requires { ⌜ at + 100 ≤ length (now out) ⌝ }
-    ensures { λ r. ⌜ Gives (remaining z) 36 (now (left .entry)) (now (out .entry)) at (now (out .exit)) r ⌝ }
+    ensures { λ r. ⌜ Gives (remaining z (held (now (numbers .entry)) (now (sets .entry)) (now (bases .entry)))) 36 (now (left .entry)) (now (out .entry)) at (now (out .exit)) r (held (now (numbers .exit)) (now (sets .exit)) (now (bases .exit))) ⌝ }
 {
     let nodes = z.nodes;
     let cycle = z.cycle;
-    let states = z.states;
+    let roles = z.roles;
     let watch = z.watch;
-    let turn = reference::step(nodes, states, watch, table::cycle_faults(left));
+    let mut unheard = [0u64; 64];
+    let mut missed = [0u64; 64];
+    table::cycle_missed(left, &mut unheard, &mut missed);
+    let marks = marks_at(left);
+    let turn = reference::step(
+        nodes,
+        roles,
+        numbers,
+        sets,
+        bases,
+        watch,
+        marks,
+        &unheard,
+        &missed,
+    );
     let next = turn.watch;
     let end = put_line(out, at, cycle, turn.kept, next, turn.halted, turn.entered);
-    let after = turn.states;
+    let after = turn.roles;
     Piece {
         session: Session {
             nodes,
             cycle: cycle + 1,
-            states: after,
+            roles: after,
             watch: next,
         },
         taken: table::cycle_length(left),
@@ -170,11 +231,20 @@ fn run_cycle(z: Session, left: &[u8], out: &mut [u8], at: usize) -> Piece
     }
 }
 
-// Goes on with a table's print by one record: the line of its cycle, or of its refusal, or nothing at the end of the file. `left` is what is seen of the rest.
-pub fn turn(z: Session, left: &[u8], out: &mut [u8], at: usize) -> Piece
+// Goes on with a table's print by one record: the line of its cycle, or of its refusal, or nothing at the end of the file. `left` is what is seen of the rest;
+// the arrays hold the groups of the nodes.
+pub fn turn(
+    z: Session,
+    left: &[u8],
+    out: &mut [u8],
+    at: usize,
+    numbers: &mut [u32; 64],
+    sets: &mut [u64; 64],
+    bases: &mut [u64; 64],
+) -> Piece
     requires { ⌜ Sound z ⌝ }
     requires { ⌜ at + 128 ≤ length (now out) ⌝ }
-    ensures { λ r. ⌜ Gives (remaining z) 36 (now (left .entry)) (now (out .entry)) at (now (out .exit)) r ⌝ }
+    ensures { λ r. ⌜ Gives (remaining z (held (now (numbers .entry)) (now (sets .entry)) (now (bases .entry)))) 36 (now (left .entry)) (now (out .entry)) at (now (out .exit)) r (held (now (numbers .exit)) (now (sets .exit)) (now (bases .exit))) ⌝ }
 {
     if left.len() == 0 {
         return Piece {
@@ -194,5 +264,5 @@ pub fn turn(z: Session, left: &[u8], out: &mut [u8], at: usize) -> Piece
             over: true,
         };
     }
-    run_cycle(z, left, out, at)
+    run_cycle(z, left, out, at, numbers, sets, bases)
 }

@@ -105,10 +105,18 @@ pub vote-turn : (s l t : List ℕ) (i b m : ℕ) → l ≡ tabulate 64 (λ q. mi
     → t ≡ cond (eqb (b / 64) 2) (set l (b % 64) m) l → t ≡ tabulate 64 (λ q. missedOf s (i + 1) (128 + q))
 vote-turn s l t i b m = turn (λ q. 128 + q) 2 s l t i b m (λ q h. (omega arith, omega arith)) (λ b h. omega arith)
 
--- after the last entry it is the fault record
-pub faults-end : (s : List ℕ) (i a b c d : ℕ) (h v : List ℕ) → i ≤ entriesAt s → entriesAt s ≤ i
-    → a ≡ numberAt s 3 8 → b ≡ numberAt s 11 8 → c ≡ numberAt s 19 8 → d ≡ numberAt s 27 8
+-- after the last entry they are those of the fault record
+pub missed-end : (s : List ℕ) (i : ℕ) (h v : List ℕ) → i ≤ entriesAt s → entriesAt s ≤ i
     → h ≡ tabulate 64 (λ q. missedOf s i q) → v ≡ tabulate 64 (λ q. missedOf s i (128 + q))
+    → (h ≡ faultsAt s .«heartbeat_missed») × (v ≡ faultsAt s .«vote_missed»)
+unfolding faultsAt
+missed-end s i h v l m kh kv =
+    let same : i ≡ entriesAt s = omega arith in
+    (kh ∙ ap (λ (x : ℕ). tabulate 64 (λ q. missedOf s x q)) same, kv ∙ ap (λ (x : ℕ). tabulate 64 (λ q. missedOf s x (128 + q))) same)
+
+-- and with the four masks it is that record
+pub faults-are : (s : List ℕ) (a b c d : ℕ) (h v : List ℕ) → a ≡ numberAt s 3 8 → b ≡ numberAt s 11 8 → c ≡ numberAt s 19 8 → d ≡ numberAt s 27 8
+    → h ≡ faultsAt s .«heartbeat_missed» → v ≡ faultsAt s .«vote_missed»
     → record { stop = a; start = b; «heartbeat_lost» = c; «vote_lost» = d; «heartbeat_missed» = h; «vote_missed» = v } ≡ faultsAt s
 unfolding faultsAt
-faults-end s i a b c d h v l m ka kb kc kd kh kv = let same : i ≡ entriesAt s = omega arith in rw (ka, kb, kc, kd, kh, kv, same)
+faults-are s a b c d h v ka kb kc kd kh kv = rw (ka, kb, kc, kd, kh, kv)

@@ -3,7 +3,7 @@ ghost use mathlib.Core.Path.{_≡_};
 ghost use mathlib.Core.Bool.{true, not, _&&_, _||_, cond};
 ghost use Prim.Native.Nat.{_+_, _-_, _*_, _/_, _%_, _≤_, _<_};
 ghost use lib.Dec.{eqb, ltb};
-ghost use lib.ListN.{length, set};
+ghost use lib.ListN.{length, set, replicate};
 ghost use Rattle.sets.specs.Sets.{has, every};
 ghost use Rattle.table.specs.Records.{marked, isKind, beyond, countAt, foundingAt, wrongRow, startRefusal};
 ghost use Rattle.table.specs.Records.{
@@ -302,22 +302,32 @@ fn note(missed: &mut [u64; 64], phase: u8, first: u8, mask: u64)
     }
 }
 
-// The faults of a cycle, from its record, in one pass over the entries.
+// What each node misses in a cycle, from its record, in one pass over the entries, into arrays of zeros.
+pub fn cycle_missed(s: &[u8], heartbeats: &mut [u64; 64], votes: &mut [u64; 64])
+    requires { ⌜ (36 ≤ length (now s)) × (cycleLength (now s) ≤ length (now s)) ⌝ }
+    requires { ⌜ (now heartbeats ≡ replicate 64 0) × (now votes ≡ replicate 64 0) ⌝ }
+    ensures { λ _. ⌜ now (heartbeats .exit) ≡ faultsAt (now (s .entry)) .«heartbeat_missed» ⌝ }
+    ensures { λ _. ⌜ now (votes .exit) ≡ faultsAt (now (s .entry)) .«vote_missed» ⌝ }
+{
+    let count = s[35] as usize;
+    let mut i: usize = 0;
+    while i < count {
+        let first = s[36 + 9 * i];
+        let mask = bigendian::read8(s, 37 + 9 * i);
+        note(heartbeats, 0, first, mask);
+        note(votes, 2, first, mask);
+        i += 1;
+    }
+}
+
+// The faults of a cycle, from its record.
 pub fn cycle_faults(s: &[u8]) -> Faults
     requires { ⌜ (36 ≤ length (now s)) × (cycleLength (now s) ≤ length (now s)) ⌝ }
     ensures { λ r. ⌜ r ≡ faultsAt (now (s .entry)) ⌝ }
 {
     let mut heartbeats = [0u64; 64];
     let mut votes = [0u64; 64];
-    let count = s[35] as usize;
-    let mut i: usize = 0;
-    while i < count {
-        let first = s[36 + 9 * i];
-        let mask = bigendian::read8(s, 37 + 9 * i);
-        note(&mut heartbeats, 0, first, mask);
-        note(&mut votes, 2, first, mask);
-        i += 1;
-    }
+    cycle_missed(s, &mut heartbeats, &mut votes);
     Faults {
         stop: bigendian::read8(s, 3),
         start: bigendian::read8(s, 11),

@@ -1,6 +1,6 @@
 use mathlib.Core.Logic.{⊎-elim}
 use mathlib.Core.Path.{_≡_, refl, sym, ap, subst, _∙_}
-use Prim.Native.Nat.{ℕ, _≤_, _-_}
+use Prim.Native.Nat.{ℕ, _<_, _≤_, _-_}
 use native.Mathlib.Omega.{arith}
 use lib.ListN.{getD}
 use borrow.Author.Needs.{needs}
@@ -15,11 +15,11 @@ use Rattle.cluster.proofs.decisions.Statement.{statement}
 use Rattle.cluster.proofs.decisions.Tie as tie
 
 abbrev Inv-loop : tie.InvT-loop
-Inv-loop n numbers sets bases views lead same w sent missed next₀ k₀ new-numbers₀ new-sets₀ new-bases₀ q₀ next k new-numbers new-sets new-bases q =
+Inv-loop n numbers sets bases views lead same w sent missed new-numbers₀ new-sets₀ new-bases₀ next₀ k₀ q₀ new-numbers new-sets new-bases next k q =
     (Holds (λ j. decidedAt numbers sets bases views n w (sent ∖ getD missed j 0) j) q next new-numbers new-sets new-bases × Worth numbers sets bases views n w k) × (q ≤ n)
 
 abbrev μ-loop : tie.MeasureT-loop
-μ-loop n numbers sets bases views lead same w sent missed next₀ k₀ new-numbers₀ new-sets₀ new-bases₀ q₀ next k new-numbers new-sets new-bases q =
+μ-loop n numbers sets bases views lead same w sent missed new-numbers₀ new-sets₀ new-bases₀ next₀ k₀ q₀ new-numbers new-sets new-bases next k q =
     n - q
 
 -- what node q decides
@@ -34,7 +34,7 @@ nobody-requires c κs = search needs
 loop-holds : tie.Need-loop-holds Inv-loop μ-loop
 loop-holds c =
     let a = c .before .args in
-    ((holds-none _ _ _ _ refl refl refl, worth-none (a .numbers .now) (a .sets .now) (a .bases .now) (a .views .now) (a .n) (a .w) (c .nobody .result) (c .nobody .ensures)), omega arith)
+    ((holds-none _ _ _ _ (c .before .pre .0 .1) (c .before .pre .0 .2) (c .before .pre .0 .3), worth-none (a .numbers .now) (a .sets .now) (a .bases .now) (a .views .now) (a .n) (a .w) (c .nobody .result) (c .nobody .ensures)), omega arith)
 
 mul-difference : tie.Need-mul-difference Inv-loop μ-loop
 mul-difference c = omega arith
@@ -70,25 +70,25 @@ held-by-requires : tie.Need-held-by-requires Inv-loop μ-loop
 held-by-requires c κs = search needs
 
 with-state-requires : tie.Need-with-state-requires Inv-loop μ-loop
-with-state-requires c κs = omega arith
+with-state-requires c κs = omega (arith, c .before .before .before .before .before .before .before .before .before .before .before .pre .0 .0)
 
 mul-new-numbers : tie.Need-mul-new-numbers Inv-loop μ-loop
 mul-new-numbers c = omega arith
 
-array-write-new-numbers : tie.Need-array-write-new-numbers Inv-loop μ-loop
-array-write-new-numbers c = omega arith
+element-write-new-numbers : tie.Need-element-write-new-numbers Inv-loop μ-loop
+element-write-new-numbers c = omega arith
 
 mul-new-sets : tie.Need-mul-new-sets Inv-loop μ-loop
 mul-new-sets c = omega arith
 
-array-write-new-sets : tie.Need-array-write-new-sets Inv-loop μ-loop
-array-write-new-sets c = omega arith
+element-write-new-sets : tie.Need-element-write-new-sets Inv-loop μ-loop
+element-write-new-sets c = omega arith
 
 mul-new-bases : tie.Need-mul-new-bases Inv-loop μ-loop
 mul-new-bases c = omega arith
 
-array-write-new-bases : tie.Need-array-write-new-bases Inv-loop μ-loop
-array-write-new-bases c = omega arith
+element-write-new-bases : tie.Need-element-write-new-bases Inv-loop μ-loop
+element-write-new-bases c = omega arith
 
 add-q : tie.Need-add-q Inv-loop μ-loop
 add-q c = omega arith
@@ -101,15 +101,16 @@ loop-again c =
     let d = c .before .before .before in
     let l = d .before .before .before in
     let a = l .before .before .args in
+    let below64 : l .loop .q < 64 = omega (arith, d .before .before .loop-test .taken, l .before .before .pre .0 .0) in
     let arrived = ap (λ (x : ℕ). decidedAt (a .numbers .now) (a .sets .now) (a .bases .now) (a .views .now) (a .n) (a .w) x (l .loop .q)) (d .difference .ensures) in (
       ⊎-elim
           (λ w. (
-            holds-next (decided (l .before .before)) (l .loop .q) (l .loop .next) (c .if1 .next) _ _ _ (Member (l .loop .k .group)) (c .if1 .g) (omega arith) (l .loop .inv .0 .0)
+            holds-next (decided (l .before .before)) (l .loop .q) (l .loop .next) (c .if1 .next) _ _ _ (Member (l .loop .k .group)) (c .if1 .g) below64 (l .loop .inv .0 .0)
                 (sym (l .loop .inv .0 .1 (l .loop .q) (d .difference .result) (d .before .before .loop-test .taken) (inside d) (sym (c .before .follows .ensures) ∙ w .0 .taken)) ∙ arrived) (w .4) (w .2 ∙ w .1 .ensures),
             subst (Worth (a .numbers .now) (a .sets .now) (a .bases .now) (a .views .now) (a .n) (a .w)) (sym (w .3)) (l .loop .inv .0 .1),
           ))
           (λ w. (
-            holds-next (decided (l .before .before)) (l .loop .q) (l .loop .next) (c .if1 .next) _ _ _ (w .1 .result) (c .if1 .g) (omega arith) (l .loop .inv .0 .0) (w .1 .ensures ∙ arrived) (w .7 ∙ w .3 .ensures) (w .5 ∙ w .4 .ensures),
+            holds-next (decided (l .before .before)) (l .loop .q) (l .loop .next) (c .if1 .next) _ _ _ (w .1 .result) (c .if1 .g) below64 (l .loop .inv .0 .0) (w .1 .ensures ∙ arrived) (w .7 ∙ w .3 .ensures) (w .5 ∙ w .4 .ensures),
             subst (Worth (a .numbers .now) (a .sets .now) (a .bases .now) (a .views .now) (a .n) (a .w)) (sym (w .6)) (w .2 .ensures),
           ))
           (c .if1 .came),
@@ -141,11 +142,11 @@ decisions-spec =
     held-by-requires
     with-state-requires
     mul-new-numbers
-    array-write-new-numbers
+    element-write-new-numbers
     mul-new-sets
-    array-write-new-sets
+    element-write-new-sets
     mul-new-bases
-    array-write-new-bases
+    element-write-new-bases
     add-q
     loop-less
     loop-again

@@ -35,7 +35,7 @@ same-length-2 c = omega arith
 returns : tie.Need-returns
 returns c =
     let o = c .before .before .before in
-    let r = o .before .before .before .before .before in
+    let r = o .before .before .before .before .before .before .before .before in
     let g = o .«open» .ensures in
     record {
       shows = record { ordered = omega (arith, g .within, length-take (r .refill .result .end) (r .refill .last .0)); within = r .refill .ensures .within };

@@ -40,10 +40,10 @@ turn-requires : tie.Need-turn-requires
 turn-requires c κs = omega arith
 
 -- src/main.rt:143:17
-add-t19 : tie.Need-add-t19
-add-t19 c =
+add-t22 : tie.Need-add-t22
+add-t22 c =
     let t = c .before .before .before .before in
-    let r = t .before .before .before .before .before .before in
+    let r = t .before .before .before .before .before .before .before .before .before in
     let w = r .refill .result in
     omega
     (arith, t .turn .ensures .within, r .refill .ensures .ordered, r .refill .ensures .within, length-take (w .end - w .at) (drop (w .at) (r .refill .last .0)))
@@ -60,7 +60,7 @@ same-length-3 c = omega arith
 returns-2 : tie.Need-returns-2
 returns-2 c =
     let t = c .before .before .before .before in
-    let r = t .before .before .before .before .before .before in
+    let r = t .before .before .before .before .before .before .before .before .before in
     let w = r .refill .result in
     let g = t .turn .ensures in
     record {
@@ -85,7 +85,7 @@ next-spec =
     part-turn-start
     part-turn-end
     turn-requires
-    add-t19
+    add-t22
     same-length-2
     same-length-3
     returns-2)

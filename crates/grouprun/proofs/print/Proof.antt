@@ -9,22 +9,22 @@ use Rattle.grouprun.proofs.print.Statement.{statement}
 use Rattle.grouprun.proofs.print.Tie as tie
 
 abbrev Inv-loop : tie.InvT-loop
-Inv-loop input₀ out₀ run₀ turns₀ input out run turns = Fits input out run × (128 ≤ length out) × (length input ≡ length input₀) × (length out ≡ length out₀)
+Inv-loop input₀ out₀ numbers₀ sets₀ bases₀ run₀ turns₀ input out numbers sets bases run turns = Fits input out run × (128 ≤ length out) × (length input ≡ length input₀) × (length out ≡ length out₀)
 
 abbrev μ-loop : tie.MeasureT-loop
-μ-loop input₀ out₀ run₀ turns₀ input out run turns = turns
+μ-loop input₀ out₀ numbers₀ sets₀ bases₀ run₀ turns₀ input out numbers sets bases run turns = turns
 
 -- src/main.rt:155:9
 begin-requires : tie.Need-begin-requires Inv-loop μ-loop
-begin-requires c κs = c .before .before .before .before .pre
+begin-requires c κs = c .before .before .before .before .before .before .before .pre
 
 -- src/main.rt:157:5
 loop-holds : tie.Need-loop-holds Inv-loop μ-loop
-loop-holds c = let b = c .before .before .before .before in (b .begin .ensures, omega (arith, b .before .before .before .before .before .pre, b .begin .kept .1 .0), refl, refl)
+loop-holds c = let b = c .before .before .before .before in (b .begin .ensures, omega (arith, b .before .before .before .before .before .before .before .before .pre, b .begin .kept .1 .0), refl, refl)
 
 -- src/main.rt:161:9
 next-requires : tie.Need-next-requires Inv-loop μ-loop
-next-requires c κs = let l = c .before .before .before .before .loop .inv in (l .0, l .1)
+next-requires c κs = let l = c .before .before .before .before .before .before .before .loop .inv in (l .0, l .1)
 
 -- src/main.rt:162:9
 sub-turns : tie.Need-sub-turns Inv-loop μ-loop
@@ -38,7 +38,7 @@ loop-less c = omega arith
 loop-again : tie.Need-loop-again Inv-loop μ-loop
 loop-again c =
     let n = c .before .before .before .before in
-    let l = n .before .before .before .before .before .loop .inv in
+    let l = n .before .before .before .before .before .before .before .before .loop .inv in
     (n .next .ensures, omega (arith, l .1, n .next .kept .1 .0), n .next .kept .0 ∙ l .2, n .next .kept .1 .0 ∙ l .3)
 
 -- src/main.rt:165:34

@@ -2,8 +2,11 @@ use mathlib.Core.Path.{_≡_, ap, _∙_}
 use Prim.Native.Nat.{ℕ, _<_}
 use native.Mathlib.Omega.{arith}
 use Rattle.sets.specs.Sets.{_∪_, those}
+use Rattle.rules.specs.declared.Faults.{Faults}
 use Rattle.rules.specs.Faults.{disturbed}
 use Rattle.rules.specs.Reference.{steady}
+use Rattle.cluster.specs.declared.States.{States}
+use Rattle.cluster.specs.States.{statesOf, faultsOf}
 use Rattle.reference.specs.Watched.{clusterOf}
 use Rattle.reference.proofs.Watching.{disturbed-are, steady-are, kept-is, first-in, stepped, halted-are, entered-are}
 use borrow.Author.Needs.{needs}
@@ -11,30 +14,36 @@ use Rattle.reference.proofs.step.Statement.{statement}
 use Rattle.reference.proofs.step.Tie as tie
 
 abbrev kept : tie.After-lowest-steady → tie.After-keeps
-kept c = c .before .before .before
+kept c = c .before .before .before .before .before .before
 
 abbrev marked : tie.After-lowest-steady → tie.After-union2
-marked c = kept c .before .before .before .before .before .before
+marked c = kept c .before .before .before
 
 abbrev start : tie.After-lowest-steady → tie.Start
 start c = marked c .before .before
 
-disturbed-now : (c : tie.After-lowest-steady) → kept c .before .before .disturbed-nodes .result ≡ those (start c .args .n) (disturbed (start c .args .t4))
+-- the states and the faults that it begins with, and the states that it ends with
+abbrev states : tie.After-lowest-steady → States
+states c = statesOf (start c .args .z) (start c .args .numbers .now) (start c .args .sets .now) (start c .args .bases .now)
+
+abbrev faults : tie.After-lowest-steady → Faults
+faults c = faultsOf (start c .args .m) (start c .args .unheard .now) (start c .args .missed .now)
+
+disturbed-now : (c : tie.After-lowest-steady) → kept c .before .before .disturbed-nodes .result ≡ those (start c .args .n) (disturbed (faults c))
 disturbed-now c =
-    let f = start c .args .t4 in
-    disturbed-are (start c .args .n) (marked c .union2 .result) (kept c .before .before .disturbed-nodes .result) f
-    (marked c .union2 .ensures ∙ ap (λ (x : ℕ). x ∪ f .«vote_lost») (marked c .before .union .ensures)) (kept c .before .before .disturbed-nodes .ensures)
+    disturbed-are (start c .args .n) (marked c .union2 .result) (kept c .before .before .disturbed-nodes .result) (faults c)
+    (marked c .union2 .ensures ∙ ap (λ (x : ℕ). x ∪ faults c .«vote_lost») (marked c .before .union .ensures)) (kept c .before .before .disturbed-nodes .ensures)
 
 steady-now : (c : tie.After-lowest-steady)
-    → kept c .before .steady-nodes .result ≡ steady (record { nodes = start c .args .n }) (clusterOf (start c .args .n) (start c .args .s) (start c .args .w)) (start c .args .t4) (start c .args .w .group)
+    → kept c .before .steady-nodes .result ≡ steady (record { nodes = start c .args .n }) (clusterOf (start c .args .n) (states c) (start c .args .w)) (faults c) (start c .args .w .group)
 steady-now c =
     let a = start c .args in
-    steady-are (a .n) (a .s) (a .w) (a .t4) (kept c .before .before .disturbed-nodes .result) (kept c .before .steady-nodes .result) (disturbed-now c) (kept c .before .steady-nodes .ensures)
+    steady-are (a .n) (states c) (a .w) (faults c) (kept c .before .before .disturbed-nodes .result) (kept c .before .steady-nodes .result) (disturbed-now c) (kept c .before .steady-nodes .ensures)
 
 first-below : (c : tie.After-lowest-steady) → c .lowest-steady .result < 64
 first-below c =
     let a = start c .args in
-    first-in (a .n) (a .s) (a .w) (a .t4) (kept c .before .steady-nodes .result) (kept c .keeps .result) (steady-now c) (kept c .keeps .ensures) (c .lowest-steady .result) (start c .pre) (c .lowest-steady .ensures)
+    first-in (a .n) (states c) (a .w) (faults c) (kept c .before .steady-nodes .result) (kept c .keeps .result) (steady-now c) (kept c .keeps .ensures) (c .lowest-steady .result) (start c .pre) (c .lowest-steady .ensures)
 
 union-requires : tie.Need-union-requires
 union-requires c κs = search needs
@@ -54,8 +63,8 @@ keeps-requires c κs = search needs
 rule-one-requires : tie.Need-rule-one-requires
 rule-one-requires c κs = search needs
 
-cycle-requires : tie.Need-cycle-requires
-cycle-requires c κs = search needs
+advance-requires : tie.Need-advance-requires
+advance-requires c κs = search needs
 
 lowest-steady-requires : tie.Need-lowest-steady-requires
 lowest-steady-requires c κs = search needs
@@ -93,14 +102,14 @@ returns c =
     let l = d .before in
     let k = kept l in
     let a = start l .args in
-    let cycled = l .before .cycle in
-    let ruled = l .before .before .rule-one in (
-      stepped (a .n) (a .s) (a .w) (a .t4) (k .before .steady-nodes .result) (k .keeps .result) (steady-now l) (k .keeps .ensures) (start l .pre) (cycled .result) (l .lowest-steady .result) (d .is-defined .result) (cycled .ensures) (l .lowest-steady .ensures) (d .is-defined .ensures) (k .before .before .disturbed-nodes .result) (disturbed-now l),
+    let cycled = l .before .advance in
+    let ruled = l .before .before .before .before .before .rule-one in (
+      stepped (a .n) (states l) (a .w) (faults l) (k .before .steady-nodes .result) (k .keeps .result) (steady-now l) (k .keeps .ensures) (start l .pre) _ (l .lowest-steady .result) (d .is-defined .result) (cycled .ensures) (l .lowest-steady .ensures) (d .is-defined .ensures) (k .before .before .disturbed-nodes .result) (disturbed-now l),
       (
-        kept-is (a .n) (a .s) (a .w) (a .t4) (k .before .steady-nodes .result) (k .keeps .result) (steady-now l) (k .keeps .ensures),
+        kept-is (a .n) (states l) (a .w) (faults l) (k .before .steady-nodes .result) (k .keeps .result) (steady-now l) (k .keeps .ensures),
         (
-          halted-are (a .n) (a .s) (a .t4) (ruled .result) (cycled .result) (ruled .ensures) (cycled .ensures) (c .before .difference .result) (c .before .difference .ensures),
-          entered-are (a .n) (a .s) (a .t4) (ruled .result) (cycled .result) (ruled .ensures) (cycled .ensures) (c .intersection .result) (c .intersection .ensures),
+          halted-are (a .n) (states l) (faults l) (ruled .result) _ (ruled .ensures) (cycled .ensures) (c .before .difference .result) (c .before .difference .ensures),
+          entered-are (a .n) (states l) (faults l) (ruled .result) _ (ruled .ensures) (cycled .ensures) (c .intersection .result) (c .intersection .ensures),
         ),
       ),
     )
@@ -115,7 +124,7 @@ step-spec =
     steady-nodes-requires
     keeps-requires
     rule-one-requires
-    cycle-requires
+    advance-requires
     lowest-steady-requires
     is-defined-requires
     mul-number

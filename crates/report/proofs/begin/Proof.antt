@@ -3,7 +3,6 @@ use mathlib.Core.Path.{refl}
 use native.Mathlib.Omega.{arith}
 use Rattle.report.proofs.begin.Statement.{statement}
 use Rattle.report.proofs.begin.Tie as tie
-use Rattle.reference.proofs.begin.Reads as begin-reads′
 
 begin-requires : tie.Need-begin-requires
 begin-requires c κs = omega arith
@@ -12,7 +11,9 @@ begin-requires-2 : tie.Need-begin-requires-2
 begin-requires-2 c κs = omega arith
 
 returns : tie.Need-returns
-returns c = record { nodes = refl; first = refl; cluster = c .begin2 .ensures (c .before .before .args .nodes) (c .before .begin .result) (c .before .begin .ensures) }
+returns c =
+    let b = c .before .before .before in
+    record { nodes = refl; first = refl; cluster = b .begin2 .ensures (b .before .before .args .nodes) (b .before .begin .result) (b .before .begin .ensures) }
 
 pub begin-spec : {M : Type 1} → statement M
 begin-spec = tie.close (tie.spec begin-requires begin-requires-2 returns)

@@ -30,11 +30,11 @@ same-length c = omega arith
 
 returns : tie.Need-returns
 returns c =
-    let s = c .before .before .before .before .before .before .before .before .before .before .before .before .before in
-    let p = c .before .before .before in
+    let p = c .before .before .before .before .before .before in
     let r = p .before .before .before in
     let h = r .before .before .before in
-    opens-refused (c .begin .result) (now (s .args .left)) (now (s .args .out)) (s .args .at) (h .put-header .last .0) (h .put-header .result)
+    let s = h .before .before .before .before in
+    opens-refused (c .begin .result) _ (now (s .args .left)) (now (s .args .out)) (s .args .at) (h .put-header .last .0) (h .put-header .result)
     (p .put-refusal .last .0) (p .put-refusal .result) (r .start-refusal .result)
     (record { few = omega (arith, c .begin .ensures .nodes); counted = omega (arith, c .begin .ensures .first) })
     (r .start-refusal .ensures) (p .before .before .if1 .taken) (h .put-header .ensures) (p .put-refusal .ensures)
@@ -54,21 +54,22 @@ start-founding-requires c κs =
 
 begin-requires-2 : tie.Need-begin-requires-2
 begin-requires-2 c κs =
-    let e = c .before .before in
+    let e = c .before .before .before .before .before in
     let r = e .before in
     let t = begins false 0 (now (r .before .before .before .before .before .before .before .args .left)) (sym (r .start-refusal .ensures) ∙ e .if1 .left) in
-    omega (arith, t .most, c .before .start-count .ensures)
+    omega (arith, t .most, c .before .before .before .before .start-count .ensures)
 
 same-length-2 : tie.Need-same-length-2
 same-length-2 c = omega arith
 
 returns-2 : tie.Need-returns-2
 returns-2 c =
-    let s = c .before .before .before .before .before .before .before .before .before .before .before in
-    let e = c .before .before .before in
-    let h = c .before .before .before .before .before .before .before in
-    opens (now (s .args .left)) (sym (e .before .start-refusal .ensures) ∙ e .if1 .left) (c .before .before .start-count .result)
-    (c .before .start-founding .result) (c .before .before .start-count .ensures) (c .before .start-founding .ensures) (c .begin2 .result) (c .begin2 .ensures)
+    let f = c .before .before .before .before in
+    let e = f .before .before in
+    let h = e .before .before .before .before in
+    let s = h .before .before .before .before in
+    opens (now (s .args .left)) (sym (e .before .start-refusal .ensures) ∙ e .if1 .left) (f .before .start-count .result) (f .start-founding .result)
+    (f .before .start-count .ensures) (f .start-founding .ensures) (c .begin2 .result) _ (c .begin2 .ensures)
     (now (s .args .out)) (s .args .at) (h .put-header .last .0) (h .put-header .result) (h .put-header .ensures)
 
 pub open-spec : {M : Type 1} → statement M

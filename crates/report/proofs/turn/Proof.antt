@@ -6,7 +6,7 @@ use Rattle.report.proofs.turn.Statement.{statement}
 use Rattle.report.proofs.turn.Tie as tie
 
 returns : tie.Need-returns
-returns c = let s = c .before .before .before in gives-end (s .args .z) (now (s .args .left)) (s .pre .0) (now (s .args .out)) (s .args .at) (c .if1 .taken)
+returns c = let s = c .before .before .before in gives-end (s .args .z) _ (now (s .args .left)) (s .pre .0) (now (s .args .out)) (s .args .at) (c .if1 .taken)
 
 cycle-refusal-requires : tie.Need-cycle-refusal-requires
 cycle-refusal-requires c κs = omega arith
@@ -22,7 +22,7 @@ returns-2 c =
     let p = c .before .before in
     let r = p .before .before .before in
     let s = r .before .before .before .before in
-    gives-refused (s .args .z) (now (s .args .left)) (s .pre .0) (now (s .args .out)) (s .args .at) (p .put-refusal .last .0) (p .put-refusal .result)
+    gives-refused (s .args .z) _ (now (s .args .left)) (s .pre .0) (now (s .args .out)) (s .args .at) (p .put-refusal .last .0) (p .put-refusal .result)
     (r .cycle-refusal .result) (r .before .if1 .left) (r .before .before .before .shared-slice-known .given 35 .fits) (r .cycle-refusal .ensures)
     (p .before .before .if2 .taken) (p .put-refusal .ensures)
 

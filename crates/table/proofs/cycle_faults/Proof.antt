@@ -1,107 +1,36 @@
--- The invariant: after i entries each place of the two rows holds what `missedOf` says. Assumes nothing.
-use mathlib.Core.Path.{_≡_, refl}
-use Prim.Native.Nat.{_+_, _≤_, _-_}
-use native.Mathlib.Omega.{arith}
-use Rattle.rules.specs.Faults.{tabulate}
-use Rattle.table.specs.Records.{missedOf}
-use Rattle.table.proofs.Missed.{row-none, heartbeat-turn, vote-turn, faults-end}
+-- `table::cycle_faults` meets its contract. Assumes nothing.
+use borrow.Author.Needs.{needs}
+use Rattle.table.proofs.Missed.{faults-are}
 use Rattle.table.proofs.cycle_faults.Statement.{statement}
 use Rattle.table.proofs.cycle_faults.Tie as tie
 
-abbrev Inv-loop : tie.InvT-loop
-Inv-loop s heartbeats₀ votes₀ count i₀ heartbeats votes i =
-    (i ≤ count) × (heartbeats ≡ tabulate 64 (λ q. missedOf s i q)) × (votes ≡ tabulate 64 (λ q. missedOf s i (128 + q)))
+cycle-missed-requires : tie.Need-cycle-missed-requires
+cycle-missed-requires c κs = search needs
 
-abbrev μ-loop : tie.MeasureT-loop
-μ-loop s heartbeats₀ votes₀ count i₀ heartbeats votes i = count - i
+read8-requires : tie.Need-read8-requires
+read8-requires c κs = search needs
 
-shared-slice-read-count : tie.Need-shared-slice-read-count Inv-loop μ-loop
-shared-slice-read-count c = omega arith
+read8-requires-2 : tie.Need-read8-requires-2
+read8-requires-2 c κs = search needs
 
-cast-count : tie.Need-cast-count Inv-loop μ-loop
-cast-count c = omega (arith, c .shared-slice-known2 .given 35)
+read8-requires-3 : tie.Need-read8-requires-3
+read8-requires-3 c κs = search needs
 
-loop-holds : tie.Need-loop-holds Inv-loop μ-loop
-loop-holds c = (omega arith, row-none (λ q. q) _, row-none (λ q. 128 + q) _)
+read8-requires-4 : tie.Need-read8-requires-4
+read8-requires-4 c κs = search needs
 
-mul-first : tie.Need-mul-first Inv-loop μ-loop
-mul-first c = omega arith
-
-add-first : tie.Need-add-first Inv-loop μ-loop
-add-first c = omega arith
-
-shared-slice-read-first : tie.Need-shared-slice-read-first Inv-loop μ-loop
-shared-slice-read-first c = omega arith
-
-mul-read8 : tie.Need-mul-read8 Inv-loop μ-loop
-mul-read8 c = omega arith
-
-add-read8 : tie.Need-add-read8 Inv-loop μ-loop
-add-read8 c = omega arith
-
-read8-requires : tie.Need-read8-requires Inv-loop μ-loop
-read8-requires c κs = omega arith
-
-note-requires : tie.Need-note-requires Inv-loop μ-loop
-note-requires c κs = tt
-
-note-requires-2 : tie.Need-note-requires-2 Inv-loop μ-loop
-note-requires-2 c κs = tt
-
-add-i : tie.Need-add-i Inv-loop μ-loop
-add-i c = omega arith
-
-loop-less : tie.Need-loop-less Inv-loop μ-loop
-loop-less c = omega arith
-
-loop-again : tie.Need-loop-again Inv-loop μ-loop
-loop-again c =
-    let turn = c .before .before .before .before .before .before .before .loop in (
-      omega arith,
-      heartbeat-turn _ _ _ (turn .i) _ _ (turn .inv .1) refl (c .before .before .before .before .read8 .ensures) (c .before .before .note .ensures),
-      vote-turn _ _ _ (turn .i) _ _ (turn .inv .2) refl (c .before .before .before .before .read8 .ensures) (c .note2 .ensures),
-    )
-
-read8-requires-2 : tie.Need-read8-requires-2 Inv-loop μ-loop
-read8-requires-2 c κs = omega arith
-
-read8-requires-3 : tie.Need-read8-requires-3 Inv-loop μ-loop
-read8-requires-3 c κs = omega arith
-
-read8-requires-4 : tie.Need-read8-requires-4 Inv-loop μ-loop
-read8-requires-4 c κs = omega arith
-
-read8-requires-5 : tie.Need-read8-requires-5 Inv-loop μ-loop
-read8-requires-5 c κs = omega arith
-
-returns : tie.Need-returns Inv-loop μ-loop
+returns : tie.Need-returns
 returns c =
-    let end = c .before .before .before .before .before in
-    faults-end _ (end .loop .i) _ _ _ _ _ _ (end .loop .inv .0) (c .before .before .before .before .loop-test .left) (c .before .before .before .read82 .ensures)
-    (c .before .before .read83 .ensures) (c .before .read84 .ensures) (c .read85 .ensures) (end .loop .inv .1) (end .loop .inv .2)
+    let m = c .before .before .before .before .cycle-missed .ensures in
+    faults-are _ _ _ _ _ _ _ (c .before .before .before .read8 .ensures) (c .before .before .read82 .ensures) (c .before .read83 .ensures) (c .read84 .ensures) (m .0) (m .1)
 
 pub cycle-faults-spec : {M : Type 1} → statement M
 cycle-faults-spec =
     tie.close
     (tie.spec
-    Inv-loop
-    μ-loop
-    shared-slice-read-count
-    cast-count
-    loop-holds
-    mul-first
-    add-first
-    shared-slice-read-first
-    mul-read8
-    add-read8
+    cycle-missed-requires
     read8-requires
-    note-requires
-    note-requires-2
-    add-i
-    loop-less
-    loop-again
     read8-requires-2
     read8-requires-3
     read8-requires-4
-    read8-requires-5
     returns)
