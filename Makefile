@@ -9,7 +9,7 @@ C99 = gcc -std=c99 -Wall -Wextra -Werror -pedantic -O2 -Iinclude
 
 SOURCES = crates.txt $(shell find crates -name '*.rt' -o -name '*.antt')
 
-.PHONY: run test host archive archive-test vectors-test badinput-test text-test bench stack format
+.PHONY: run test host archive archive-test vectors-test badinput-test text-test compare bench stack format
 
 # the run that the product paper prints: its table is made from a text, and its lines must be those of the paper
 run: $(GROUPRUN) $(TABLETEXT)
@@ -66,6 +66,10 @@ badinput-test: $(GROUPRUN) $(PLAIN) $(TABLEGEN) $(TABLETEXT)
 # texts and tables turn into each other and back
 text-test: $(TABLETEXT)
 	@tests/text.sh $(TABLETEXT) $(BUILD)
+
+# every entry, the printed run and demand 3 itself, beside an implementation of the product paper in plain Rust; needs cargo
+compare: archive $(GROUPRUN)
+	@tests/host.sh
 
 # the cost of a decision, of reading a frame and of a table's run beside plain C at -O3, and of runs on a row of images
 bench: archive $(GROUPRUN) $(PLAIN) $(TABLEGEN)

@@ -1,0 +1,890 @@
+//! Compares the sixteen entries of the archive with the paper's implementation: first every length, number and place of damage in turn, then random calls.
+//! SEED (or the first argument) chooses the calls, CALLS the number of random ones.
+use host::archive::Archive;
+use host::claims::{each_kept_record, Standing};
+use host::generate::{self as make, Press};
+use host::paper::checks::frame_check;
+use host::paper::entries::Paper;
+use host::paper::faults::Faults;
+use host::paper::frames::{arrived_votes, frame, header_of, heartbeat, vote_frame, HEARTBEAT_BYTES, VOTES_BYTES, VOTE_BYTES, VOTE_FRAME_BYTES};
+use host::paper::rules::{fits, rule3, Heard, Vote};
+use host::paper::sets::{all, has, only, size};
+use host::paper::state::{beginning_from, image, row_image, Group, Reason, State, Unit};
+use host::paper::table::{write_cycle, write_first};
+use host::random::Random;
+use host::NodeEnd;
+use std::collections::{BTreeMap, BTreeSet, HashSet};
+
+const ENTRIES: [&str; 16] = [
+    "begin",
+    "stop",
+    "start",
+    "write_heartbeat",
+    "send_heartbeat",
+    "read_heartbeat",
+    "receive_heartbeat",
+    "view",
+    "write_vote",
+    "send_vote",
+    "read_vote",
+    "receive_vote",
+    "decide",
+    "cycle",
+    "run",
+    "run_frames",
+];
+const GUARD: usize = 16;
+
+/// a buffer to be lent, at any address, with bytes around it that nobody may write
+#[derive(Clone, PartialEq)]
+struct Lent {
+    bytes: Vec<u8>,
+    start: usize,
+}
+
+impl Lent {
+    fn new(bytes: &[u8], shift: usize) -> Lent {
+        let start = GUARD + shift % 8;
+        let mut all = vec![0xa5; start];
+        all.extend_from_slice(bytes);
+        all.extend([0x5a; GUARD]);
+        Lent { bytes: all, start }
+    }
+
+    fn get(&self) -> &[u8] {
+        &self.bytes[self.start..self.bytes.len() - GUARD]
+    }
+
+    fn lend(&mut self) -> &mut [u8] {
+        let end = self.bytes.len() - GUARD;
+        &mut self.bytes[self.start..end]
+    }
+}
+
+/// what a call answered: status, results beside it, and the buffers afterwards
+#[derive(PartialEq)]
+struct Outcome {
+    status: u32,
+    results: Vec<u64>,
+    buffers: Vec<Lent>,
+}
+
+fn hex(bytes: &[u8]) -> String {
+    bytes.iter().map(|byte| format!("{byte:02x}")).collect()
+}
+
+struct Compare {
+    random: Random,
+    /// per entry and status
+    counts: [[u64; 16]; 16],
+    /// moves the buffers of a call to other addresses
+    shift: usize,
+    /// what accepted calls gave, in words
+    given: BTreeMap<String, u64>,
+}
+
+impl Compare {
+    /// makes one call of both, and ends the program if they differ
+    fn both(
+        &mut self,
+        entry: &str,
+        numbers: &[u64],
+        results: &[u64],
+        buffers: &[&[u8]],
+        call: impl Fn(&dyn NodeEnd, &mut [u64], &mut [Lent]) -> u32,
+    ) -> (u32, Vec<u64>, Vec<u8>) {
+        let lent: Vec<Lent> = buffers.iter().enumerate().map(|(k, bytes)| Lent::new(bytes, self.shift + 3 * k)).collect();
+        self.shift += 1;
+        let outcome = |by: &dyn NodeEnd| {
+            let (mut results, mut buffers) = (results.to_vec(), lent.clone());
+            let status = call(by, &mut results, &mut buffers);
+            Outcome { status, results, buffers }
+        };
+        let (paper, archive) = (outcome(&Paper), outcome(&Archive));
+        let unchanged = |outcome: &Outcome| outcome.results == results && outcome.buffers == lent;
+        if paper != archive || archive.status != 0 && !unchanged(&archive) {
+            println!("compare: gm_{entry} differs");
+            println!("  numbers {numbers:x?} (hex)");
+            println!("  results before {results:x?}");
+            buffers.iter().for_each(|bytes| println!("  buffer of {}: {}", bytes.len(), hex(bytes)));
+            for (name, outcome) in [("paper", &paper), ("archive", &archive)] {
+                println!("  {name}: status {}, results {:x?}", outcome.status, outcome.results);
+                outcome
+                    .buffers
+                    .iter()
+                    .zip(&lent)
+                    .filter(|(after, before)| after != before)
+                    .for_each(|(after, _)| println!("    left {}", hex(&after.bytes)));
+            }
+            std::process::exit(1);
+        }
+        let index = ENTRIES.iter().position(|name| *name == entry).expect("a known entry");
+        self.counts[index][paper.status as usize] += 1;
+        let last = paper.buffers.last().map_or(Vec::new(), |buffer| buffer.get().to_vec());
+        if paper.status == 0 {
+            self.note(entry, buffers.last().unwrap_or(&&[][..]), &paper.results, results, &last);
+        }
+        (paper.status, paper.results, last)
+    }
+
+    /// counts what an accepted call gave: kinds of states before and after a decision, what was heard, whether a frame was sent or a vote arrived
+    fn note(&mut self, entry: &str, before: &[u8], results: &[u64], results_before: &[u64], after: &[u8]) {
+        let kind = |state: &[u8]| ["out", "joining", "member"][usize::from(state[0])];
+        let text = match entry {
+            "decide" => match (kind(before), kind(after)) {
+                ("member", "out") => format!("member to out with reason {}", after[1]),
+                ("member", _) if before[4..8] == after[4..8] => "member with the same G".to_string(),
+                ("member", _) if after[4..8] == [0; 4] => "member with G from 4294967295 to 0".to_string(),
+                ("member", _) => "member with the next G".to_string(),
+                (before, after) => format!("{before} to {after}"),
+            },
+            "receive_heartbeat" => ["missed", "join 0", "join 1"][results[0] as usize].to_string(),
+            "send_heartbeat" | "send_vote" => ["nothing sent", "sent"][results[0] as usize].to_string(),
+            "receive_vote" if before != after => "arrived".to_string(),
+            "receive_vote" if results != results_before => "missed, the bit cleared".to_string(),
+            "cycle" | "run" | "run_frames" => {
+                let mut groups: Vec<&[u8]> = after.chunks(24).filter(|state| state[0] == 2).map(|state| &state[4..]).collect();
+                groups.sort();
+                groups.dedup();
+                format!("{} groups held at the end", groups.len().min(3)).replace('3', "3 or more")
+            }
+            _ => return,
+        };
+        *self.given.entry(format!("gm_{entry}: {text}")).or_default() += 1;
+    }
+
+    fn begin(&mut self, n: u32, node: u32, founding: u64, state: &[u8]) {
+        self.both("begin", &[n.into(), node.into(), founding], &[], &[state], |by, _, b| by.begin(n, node, founding, b[0].lend()));
+    }
+
+    fn stop(&mut self, state: &[u8]) {
+        self.both("stop", &[], &[], &[state], |by, _, b| by.stop(b[0].lend()));
+    }
+
+    fn start(&mut self, state: &[u8]) {
+        self.both("start", &[], &[], &[state], |by, _, b| by.start(b[0].lend()));
+    }
+
+    fn write_heartbeat(&mut self, [n, node, join, sync, startup, cycle, channel]: [u32; 7], frame: &[u8]) {
+        let numbers = [n, node, join, sync, startup, cycle, channel].map(u64::from);
+        self.both("write_heartbeat", &numbers, &[], &[frame], |by, _, b| {
+            by.write_heartbeat(n, node, join, sync, startup, cycle, channel, b[0].lend())
+        });
+    }
+
+    fn send_heartbeat(&mut self, state: &[u8], [sync, startup, cycle, channel]: [u32; 4], frame: &[u8], sent: u32) {
+        let numbers = [sync, startup, cycle, channel].map(u64::from);
+        self.both("send_heartbeat", &numbers, &[sent.into()], &[state, frame], |by, r, b| {
+            let [state, frame] = b else { unreachable!() };
+            let mut sent = r[0] as u32;
+            let status = by.send_heartbeat(state.get(), sync, startup, cycle, channel, frame.lend(), &mut sent);
+            r[0] = sent.into();
+            status
+        });
+    }
+
+    fn read_heartbeat(&mut self, [n, node, cycle, channel]: [u32; 4], frame: &[u8], join: u32) {
+        let numbers = [n, node, cycle, channel].map(u64::from);
+        self.both("read_heartbeat", &numbers, &[join.into()], &[frame], |by, r, b| {
+            let mut join = r[0] as u32;
+            let status = by.read_heartbeat(n, node, cycle, channel, b[0].get(), &mut join);
+            r[0] = join.into();
+            status
+        });
+    }
+
+    fn receive_heartbeat(&mut self, [n, node, cycle]: [u32; 3], a: &[u8], b: &[u8], heard: u32) {
+        let numbers = [n, node, cycle].map(u64::from);
+        self.both("receive_heartbeat", &numbers, &[heard.into()], &[a, b], |by, r, b| {
+            let mut heard = r[0] as u32;
+            let status = by.receive_heartbeat(n, node, cycle, b[0].get(), b[1].get(), &mut heard);
+            r[0] = heard.into();
+            status
+        });
+    }
+
+    fn view(&mut self, state: &[u8], heard: Heard, view: u64) {
+        self.both("view", &[heard.join0, heard.join1], &[view], &[state], |by, r, b| by.view(b[0].get(), heard.join0, heard.join1, &mut r[0]));
+    }
+
+    fn write_vote(&mut self, [n, node, cycle, channel]: [u32; 4], vote: &Vote, frame: &[u8]) {
+        let (number, set, base, view) = (vote.group.number, vote.group.set, vote.group.base, vote.view);
+        let numbers = [n.into(), node.into(), number.into(), set, base, view, cycle.into(), channel.into()];
+        self.both("write_vote", &numbers, &[], &[frame], |by, _, b| by.write_vote(n, node, number, set, base, view, cycle, channel, b[0].lend()));
+    }
+
+    fn send_vote(&mut self, state: &[u8], heard: Heard, [cycle, channel]: [u32; 2], frame: &[u8], sent: u32) {
+        let numbers = [heard.join0, heard.join1, cycle.into(), channel.into()];
+        self.both("send_vote", &numbers, &[sent.into()], &[state, frame], |by, r, b| {
+            let [state, frame] = b else { unreachable!() };
+            let mut sent = r[0] as u32;
+            let status = by.send_vote(state.get(), heard.join0, heard.join1, cycle, channel, frame.lend(), &mut sent);
+            r[0] = sent.into();
+            status
+        });
+    }
+
+    fn read_vote(&mut self, [n, node, cycle, channel]: [u32; 4], frame: &[u8], vote: &[u8]) {
+        let numbers = [n, node, cycle, channel].map(u64::from);
+        self.both("read_vote", &numbers, &[], &[frame, vote], |by, _, b| {
+            let [frame, vote] = b else { unreachable!() };
+            by.read_vote(n, node, cycle, channel, frame.get(), vote.lend())
+        });
+    }
+
+    fn receive_vote(&mut self, [n, node, cycle]: [u32; 3], a: &[u8], b: &[u8], votes: &[u8], arrived: u64) -> (u64, Vec<u8>) {
+        let numbers = [n, node, cycle].map(u64::from);
+        let (_, results, votes) = self.both("receive_vote", &numbers, &[arrived], &[a, b, votes], |by, r, buffers| {
+            let [a, b, votes] = buffers else { unreachable!() };
+            by.receive_vote(n, node, cycle, a.get(), b.get(), votes.lend(), &mut r[0])
+        });
+        (results[0], votes)
+    }
+
+    fn decide(&mut self, state: &[u8], heard: Heard, votes: &[u8], arrived: u64) {
+        self.both("decide", &[heard.join0, heard.join1, arrived], &[], &[votes, state], |by, _, b| {
+            let [votes, state] = b else { unreachable!() };
+            by.decide(state.lend(), heard.join0, heard.join1, votes.get(), arrived)
+        });
+    }
+
+    fn cycle(&mut self, n: u32, row: &[u8], record: &[u8]) -> (u32, Vec<u8>) {
+        let (status, _, row) = self.both("cycle", &[n.into()], &[], &[record, row], |by, _, b| {
+            let [record, row] = b else { unreachable!() };
+            by.cycle(n, row.lend(), record.get())
+        });
+        (status, row)
+    }
+
+    fn run(&mut self, row: &[u8], table: &[u8]) -> (u32, Vec<u8>) {
+        let (status, _, row) = self.both("run", &[], &[], &[table, row], |by, _, b| {
+            let [table, row] = b else { unreachable!() };
+            by.run(row.lend(), table.get())
+        });
+        (status, row)
+    }
+
+    fn run_frames(&mut self, row: &[u8], table: &[u8]) -> (u32, Vec<u8>) {
+        let (status, _, row) = self.both("run_frames", &[], &[], &[table, row], |by, _, b| {
+            let [table, row] = b else { unreachable!() };
+            by.run_frames(row.lend(), table.get())
+        });
+        (status, row)
+    }
+
+    fn total(&self) -> u64 {
+        self.counts.iter().flatten().sum()
+    }
+}
+
+/// a number of nodes as a caller gives it, now and then outside 2 to 64
+fn lent_count(random: &mut Random, n: usize) -> u32 {
+    match random.below(24) {
+        0 => random.pick(&[0, 1, 65, 66, 127, 128, 255, 256, 258, 1 << 16, 1 << 31, u32::MAX]),
+        1 => random.below(256) as u32,
+        _ => n as u32,
+    }
+}
+
+/// a number with a limit, now and then at or beyond it
+fn lent_number(random: &mut Random, value: u32, limit: u32) -> u32 {
+    match random.below(24) {
+        0 => limit,
+        1 => random.pick(&[limit.wrapping_add(1), value.wrapping_add(64), value.wrapping_add(256), 255, 1 << 31, u32::MAX]),
+        2 => random.below(limit as usize + 1) as u32,
+        _ => value,
+    }
+}
+
+/// a buffer of a length, now and then of another one, with anything in it
+fn lent_buffer(random: &mut Random, len: usize) -> Vec<u8> {
+    let len = match random.below(20) {
+        0 => random.below(2 * len + 2),
+        1 => random.pick(&[0, len - 1, len + 1, len * 2]),
+        _ => len,
+    };
+    random.bytes(len)
+}
+
+/// masks heard, often those that a press gives
+fn heard(random: &mut Random, given: Heard) -> Heard {
+    match random.below(6) {
+        0 => Heard { join0: random.bits(), join1: random.bits() },
+        1 => Heard { join0: given.join0 ^ random.mask(), join1: given.join1 ^ random.mask() },
+        2 => Heard { join0: random.mask(), join1: random.mask() },
+        _ => given,
+    }
+}
+
+// every value of one input in turn, the others being right
+
+fn counts_and_numbers(compare: &mut Compare) {
+    let wide = (0..=300).chain([511, 512, 1 << 16, (1 << 16) + 5, 1 << 31, u32::MAX - 1, u32::MAX]);
+    for x in wide {
+        for node in [0, 1, 4, 63, 64, x.wrapping_sub(1), x, x.wrapping_add(1)] {
+            compare.begin(x, node, 1, &[7; 24]);
+            compare.write_heartbeat([x, node, 0, 0, 0, 0, 0], &[7; 10]);
+            let set = if node < 64 { only(node as usize) } else { 1 };
+            let vote = Vote { group: Group { number: 1, set, base: set }, view: set };
+            compare.write_vote([x, node, 0, 0], &vote, &[7; 36]);
+            let beat = heartbeat(node.min(63) as usize, true, false, false, 0, 0);
+            let sent = vote_frame(node.min(63) as usize, &vote, 0, 0);
+            compare.read_heartbeat([x, node, 0, 0], &beat, 9);
+            compare.receive_heartbeat([x, node, 0], &beat, &[], 9);
+            compare.read_vote([x, node, 0, 0], &sent, &[7; 28]);
+            compare.receive_vote([x, node, 0], &sent, &[], &[7; VOTES_BYTES], 0);
+            compare.cycle(x, &row_image(&beginning_from(5, 0x1f, 0)), &write_cycle(&Faults::none()));
+        }
+        let five = image(&Unit { n: 5, node: 1, state: beginning_from(5, 0x1f, 3)[1] });
+        for channel in [0, 1, 2, x] {
+            compare.write_heartbeat([5, 1, 0, 0, 0, x, channel], &[7; 10]);
+            compare.send_heartbeat(&five, [0, 0, x, channel], &[7; 10], 9);
+            compare.send_vote(&five, Heard { join0: 0x1f, join1: 0 }, [x, channel], &[7; 36], 9);
+            let beat = heartbeat(1, true, false, false, x & 63, channel & 1);
+            compare.read_heartbeat([5, 1, x, channel], &beat, 9);
+            compare.receive_heartbeat([5, 1, x], &beat, &beat, 9);
+            let vote = Vote { group: Group { number: 1, set: 0x1f, base: 0x1f }, view: 3 };
+            let sent = vote_frame(1, &vote, x & 63, channel & 1);
+            compare.write_vote([5, 1, x, channel], &vote, &[7; 36]);
+            compare.read_vote([5, 1, x, channel], &sent, &[7; 28]);
+            compare.receive_vote([5, 1, x], &sent, &sent, &[7; VOTES_BYTES], u64::MAX);
+        }
+        for (sync, startup) in [(0, 0), (0, 1), (1, 0), (1, 1), (x, 0), (x, 1), (1, x), (x, x), (0, x)] {
+            compare.write_heartbeat([5, 1, x, sync, startup, 0, 0], &[7; 10]);
+            compare.write_heartbeat([5, 1, 1, sync, startup, 0, 1], &[7; 10]);
+            compare.send_heartbeat(&five, [sync, startup, 63, 1], &[7; 10], 9);
+        }
+    }
+}
+
+fn lengths(compare: &mut Compare) {
+    let right = image(&Unit { n: 5, node: 1, state: beginning_from(5, 0x1f, u32::MAX)[1] });
+    let everyone = Heard { join0: 0x1f, join1: 0 };
+    let mut votes = vec![0; VOTES_BYTES];
+    let vote = Vote { group: Group { number: u32::MAX, set: 0x1f, base: 0x1f }, view: 0x1f };
+    (0..5).for_each(|q| make::put_vote(&mut votes, q, &vote));
+    let frame = vote_frame(1, &vote, 9, 0);
+    let beat = heartbeat(1, false, true, true, 9, 0);
+    for len in 0..=200 {
+        let mut bytes = right.to_vec();
+        bytes.resize(len, 0);
+        let filled = vec![7; len];
+        compare.begin(5, 1, 0x1f, &filled);
+        compare.stop(&bytes);
+        compare.start(&bytes);
+        compare.view(&bytes, everyone, 7);
+        compare.decide(&bytes, everyone, &votes, 0x1f);
+        compare.send_heartbeat(&bytes, [1, 1, 5, 0], &[7; 10], 9);
+        compare.send_heartbeat(&right, [1, 1, 5, 0], &filled, 9);
+        compare.send_heartbeat(&bytes, [1, 1, 5, 0], &filled, 9);
+        compare.send_vote(&bytes, everyone, [5, 0], &[7; 36], 9);
+        compare.send_vote(&right, everyone, [5, 0], &filled, 9);
+        compare.write_heartbeat([5, 1, 0, 1, 1, 3, 0], &filled);
+        compare.write_vote([5, 1, 9, 0], &vote, &filled);
+        compare.read_vote([5, 1, 9, 0], &frame, &filled);
+        let mut long = frame.clone();
+        long.resize(len, 0);
+        compare.read_vote([5, 1, 9, 0], &long, &[7; 28]);
+        compare.receive_vote([5, 1, 9], &long, &[], &votes, 0);
+        compare.receive_vote([5, 1, 9], &frame, &long, &votes, 0);
+        let mut long = beat.clone();
+        long.resize(len, 0);
+        compare.read_heartbeat([5, 1, 9, 0], &long, 7);
+        compare.receive_heartbeat([5, 1, 9], &long, &beat, 7);
+        compare.cycle(5, &filled, &write_cycle(&Faults::none()));
+        compare.run(&filled, &write_first(5, 0x1f));
+        compare.run_frames(&filled, &write_first(5, 0x1f));
+    }
+    for len in (0..=VOTES_BYTES + 40).filter(|len| len % 17 == 0 || len.abs_diff(VOTES_BYTES) < 30) {
+        let mut slots = votes.clone();
+        slots.resize(len, 0);
+        compare.decide(&right, everyone, &slots, 0x1f);
+        compare.receive_vote([5, 1, 9], &frame, &[], &slots, 0);
+    }
+    for n in 0..=66_usize {
+        for entries in [0, 1, n.saturating_sub(1), n, n + 1, 63, 64, 65] {
+            let row = vec![9; 24 * entries];
+            compare.run(&row, &write_first(n as u8, 1));
+            compare.run_frames(&row, &write_first(n as u8, 1));
+            compare.cycle(n as u32, &row, &write_cycle(&Faults::none()));
+        }
+    }
+}
+
+fn every_bit_of_an_image(compare: &mut Compare) {
+    let mut press = Press::new(&mut compare.random, 5);
+    for _ in 0..6 {
+        for node in 0..press.n {
+            let bytes = image(&press.unit(node));
+            for bit in 0..192 {
+                let mut changed = bytes.to_vec();
+                changed[bit / 8] ^= 0x80 >> (bit % 8);
+                let (slots, mask) = press.arrived(&mut compare.random, node);
+                compare.stop(&changed);
+                compare.start(&changed);
+                compare.view(&changed, press.heard[node], 7);
+                compare.send_heartbeat(&changed, [0, 0, 1, 1], &[7; 10], 7);
+                compare.send_vote(&changed, press.heard[node], [1, 1], &[7; 36], 7);
+                compare.decide(&changed, press.heard[node], &slots, mask);
+            }
+            for byte in 0..4 {
+                for value in 0..=255 {
+                    let mut changed = bytes.to_vec();
+                    changed[byte] = value;
+                    compare.stop(&changed);
+                    compare.start(&changed);
+                    compare.view(&changed, press.heard[node], 7);
+                }
+            }
+        }
+        press = press.next(&mut compare.random);
+    }
+}
+
+fn every_bit_of_a_frame(compare: &mut Compare) {
+    for _ in 0..8 {
+        let n = make::count(&mut compare.random);
+        let (node, cycle) = (compare.random.below(n), compare.random.below(64) as u32);
+        for channel in [0, 1] {
+            let beat = make::good_heartbeat(&mut compare.random, node, cycle, channel);
+            let vote = make::good_vote(&mut compare.random, n, node, cycle, channel);
+            let place = [n as u32, node as u32, cycle, channel];
+            let pair = [n as u32, node as u32, cycle];
+            for good in [beat, vote] {
+                for bit in 0..8 * good.len() {
+                    let mut bad = good.clone();
+                    bad[bit / 8] ^= 0x80 >> (bit % 8);
+                    // as it is, with both checks made again, and with the frame check made again
+                    let (header, _) = header_of(&bad);
+                    let payload = bad[5..bad.len() - 3].to_vec();
+                    let again = frame(&header, &payload, channel);
+                    let mut framed = bad.clone();
+                    let covered = framed.len() - 3;
+                    let check = frame_check(channel, &framed[..covered]).to_be_bytes();
+                    framed[covered..].copy_from_slice(&check[1..]);
+                    for bytes in [&bad, &again, &framed] {
+                        compare.read_heartbeat(place, bytes, 9);
+                        compare.read_vote(place, bytes, &[7; 28]);
+                        compare.receive_heartbeat(pair, bytes, &good, 9);
+                        compare.receive_heartbeat(pair, &good, bytes, 9);
+                        compare.receive_vote(pair, bytes, &[], &[7; VOTES_BYTES], u64::MAX);
+                        compare.receive_vote(pair, &[], bytes, &[7; VOTES_BYTES], 0);
+                    }
+                }
+            }
+        }
+    }
+}
+
+fn cut_at_each_byte(compare: &mut Compare) {
+    for n in [2, 5, 9, 64] {
+        let table = make::table(&mut compare.random, n, 4);
+        let row = compare.random.bytes(24 * n);
+        let starts = make::record_starts(&table);
+        let step = if n == 64 { 5 } else { 1 };
+        for len in (0..table.len()).filter(|len| len % step == 0) {
+            compare.run(&row, &table[..len]);
+            if n < 64 {
+                compare.run_frames(&row, &table[..len]);
+            }
+        }
+        let press = Press::new(&mut compare.random, n);
+        let lent = row_image(&press.before);
+        for &start in &starts {
+            for len in (0..=table.len() - start).filter(|len| *len < 100 || len % step == 0) {
+                compare.cycle(n as u32, &lent, &table[start..start + len]);
+            }
+        }
+        // every byte changed in turn
+        for at in (0..table.len()).filter(|at| *at < 100 || at % step == 0) {
+            for value in [0, 1, 0x40, 0x80, 0xff] {
+                let mut changed = table.clone();
+                changed[at] ^= value;
+                compare.run(&row, &changed);
+                if let [_, second, ..] = starts[..] {
+                    let end = starts.get(2).copied().unwrap_or(changed.len());
+                    compare.cycle(n as u32, &lent, &changed[second..end]);
+                }
+            }
+        }
+    }
+}
+
+/// every bit of every mask, for several N
+fn every_bit_of_a_mask(compare: &mut Compare) {
+    for (n, bit) in [2_usize, 3, 5, 32, 33, 63, 64].into_iter().flat_map(|n| (0..64).map(move |bit| (n, only(bit)))) {
+        let row = row_image(&beginning_from(n, 1, u32::MAX));
+        compare.begin(n as u32, 1, bit, &[7; 24]);
+        compare.begin(n as u32, 1, bit | 1, &[7; 24]);
+        compare.run(&row, &write_first(n as u8, bit));
+        compare.run_frames(&row, &write_first(n as u8, bit | 3));
+        for k in 0..5 {
+            let part = |place: usize, other: u64| if place == k { other ^ bit } else { other };
+            let vote = Vote { group: Group { number: 5, set: part(0, 2), base: part(1, part(0, 3)) }, view: part(2, 2) };
+            compare.write_vote([n as u32, 1, 9, 1], &vote, &[7; 36]);
+            compare.read_vote([n as u32, 1, 9, 1], &vote_frame(1, &vote, 9, 1), &[7; 28]);
+            let member = image(&Unit { n, node: 1, state: State::Member(vote.group) });
+            compare.stop(&member);
+            compare.view(&member, Heard { join0: bit, join1: 0 }, 7);
+            compare.view(&member, Heard { join0: 0, join1: bit }, 7);
+            let masks = [part(0, 0), part(1, 0), part(2, 0), part(3, 0)];
+            let mut faults = Faults { stop: masks[0], start: masks[1], lost_heartbeat: masks[2], lost_vote: masks[3], ..Faults::none() };
+            faults.missed_vote[1] = part(4, 0);
+            compare.cycle(n as u32, &row, &write_cycle(&faults));
+        }
+    }
+}
+
+/// every count of entries, with its bytes there, one byte less and one more; every first byte of an entry
+fn every_count_and_entry(compare: &mut Compare) {
+    for n in [2_u8, 5, 63, 64] {
+        let row = row_image(&beginning_from(n.into(), 3, 0));
+        let both = |compare: &mut Compare, record: &[u8]| {
+            compare.cycle(n.into(), &row, record);
+            let table = [&write_first(n, 3)[..], record].concat();
+            compare.run(&row, &table);
+            // a cycle of 64 nodes through frames takes some milliseconds
+            if n < 10 {
+                compare.run_frames(&row, &table);
+            }
+        };
+        for count in 0..=255_u8 {
+            let mut record = write_cycle(&Faults::none());
+            record[35] = count;
+            for k in 0..count {
+                // ascending, and right as long as there are so many receivers
+                let receiver = k % n;
+                record.push(receiver | if k < n { 0 } else { 0x80 });
+                record.extend(only(usize::from(receiver == 0)).to_be_bytes());
+            }
+            both(compare, &record);
+            both(compare, &record[..record.len() - 1]);
+            record.push(0x47);
+            both(compare, &record);
+            let mut single = write_cycle(&Faults::none());
+            single[35] = 1;
+            single.push(count);
+            single.extend(only(usize::from(count & 0x3f == 0)).to_be_bytes());
+            both(compare, &single);
+        }
+    }
+}
+
+/// every decision of two nodes: all states, masks and votes, with the own group number or the next
+fn decisions_of_two(compare: &mut Compare) {
+    let numbers = [u32::MAX, 0];
+    let groups = [1, 2, 3].into_iter().flat_map(|set| [1, 2, 3].map(|base| Group { number: u32::MAX, set, base }));
+    let members = groups.map(State::Member);
+    let others = [State::Joining, State::Out(Reason::Stopped), State::Out(Reason::NoQuorum), State::Out(Reason::Outvoted)];
+    for (state, node) in members.chain(others).flat_map(|state| [(state, 0), (state, 1)]) {
+        let state = image(&Unit { n: 2, node, state });
+        for vote in 0..128 {
+            let group = Group { number: numbers[vote >> 6], set: vote as u64 & 3, base: vote as u64 >> 2 & 3 };
+            let mut slots = vec![0xff; VOTES_BYTES];
+            make::put_vote(&mut slots, 1 - node, &Vote { group, view: vote as u64 >> 4 & 3 });
+            for masks in 0..64 {
+                compare.decide(&state, Heard { join0: masks & 3, join1: masks >> 2 & 3 }, &slots, masks >> 4);
+            }
+        }
+    }
+}
+
+/// a single cycle from every state that kept cycles reach at N 2 and 3, under every fault record that keeps the promise
+fn cycles_of_two_and_three(compare: &mut Compare) {
+    for n in [2, 3] {
+        let mut level: Vec<Standing> = (1..1_u64 << n).map(|founding| Standing::beginning(n, founding)).collect();
+        let mut seen: HashSet<Standing> = level.iter().cloned().collect();
+        while let Some(at) = level.pop() {
+            let row = row_image(&at.row);
+            each_kept_record(&at, &mut |faults| {
+                compare.cycle(n as u32, &row, &write_cycle(faults));
+                let after = at.step(faults, None).expect("demand 3").canonical();
+                if seen.insert(after.clone()) {
+                    level.push(after);
+                }
+            });
+        }
+    }
+}
+
+/// a single cycle of two nodes from every row that three cycles reach, under every fault record
+fn broken_cycles_of_two(compare: &mut Compare) {
+    let every: Vec<Faults> = (0..1 << 12)
+        .map(|bits: u64| {
+            let mut faults =
+                Faults { stop: bits & 3, start: bits >> 2 & 3, lost_heartbeat: bits >> 4 & 3, lost_vote: bits >> 6 & 3, ..Faults::none() };
+            [faults.missed_heartbeat[0], faults.missed_heartbeat[1]] = [bits >> 8 & 1, bits >> 9 & 1].map(|bit| bit * 3);
+            [faults.missed_vote[0], faults.missed_vote[1]] = [bits >> 10 & 1, bits >> 11 & 1].map(|bit| bit * 3);
+            for q in 0..2 {
+                faults.missed_heartbeat[q] &= !only(q);
+                faults.missed_vote[q] &= !only(q);
+            }
+            faults
+        })
+        .collect();
+    let mut rows: BTreeSet<Vec<u8>> = (1..4).map(|founding| row_image(&beginning_from(2, founding, u32::MAX))).collect();
+    for _ in 0..3 {
+        for row in rows.clone() {
+            for faults in &every {
+                rows.insert(compare.cycle(2, &row, &write_cycle(faults)).1);
+            }
+        }
+    }
+}
+
+// random calls
+
+fn a_node(compare: &mut Compare, press: &Press) {
+    let random = &mut compare.random;
+    let node = random.below(press.n);
+    let (n, unit) = if random.once_in(4) {
+        let n = make::count(random);
+        (n, make::unit(random, n))
+    } else {
+        (press.n, press.unit(node))
+    };
+    let node = unit.node;
+    let state = make::any_image(random, &unit);
+    let given = press.heard.get(node).copied().unwrap_or_default();
+    let heard = heard(random, given);
+    let (lent_n, lent_node) = (lent_count(random, n), lent_number(random, node as u32, n as u32));
+    let cycle = random.below(64) as u32;
+    let (cycle, channel) = (lent_number(random, cycle, 64), random.below(2) as u32);
+    let channel = lent_number(random, channel, 2);
+    let mut flags = [0; 3].map(|_| random.below(2) as u32).map(|flag| lent_number(random, flag, 2));
+    if flags[2] == 1 && !random.once_in(8) {
+        flags[1] = 1;
+    }
+    let junk = random.bits();
+    match random.below(20) {
+        0 => {
+            let founding = if random.once_in(4) { random.mask() } else { make::founding(random, n) };
+            let state = lent_buffer(random, 24);
+            compare.begin(lent_n, lent_node, founding, &state);
+        }
+        1 => compare.stop(&state),
+        2 => compare.start(&state),
+        3 => {
+            let frame = lent_buffer(random, HEARTBEAT_BYTES);
+            compare.write_heartbeat([lent_n, lent_node, flags[0], flags[1], flags[2], cycle, channel], &frame);
+        }
+        4 => {
+            let frame = lent_buffer(random, HEARTBEAT_BYTES);
+            compare.send_heartbeat(&state, [flags[1], flags[2], cycle, channel], &frame, junk as u32);
+        }
+        5 => compare.view(&state, heard, junk),
+        6 => {
+            let mut vote = make::vote(random, n, node);
+            if random.once_in(3) {
+                make::damage_vote(random, n, node, &mut vote);
+            }
+            let frame = lent_buffer(random, VOTE_FRAME_BYTES);
+            compare.write_vote([lent_n, lent_node, cycle, channel], &vote, &frame);
+        }
+        7 => {
+            let frame = lent_buffer(random, VOTE_FRAME_BYTES);
+            compare.send_vote(&state, heard, [cycle, channel], &frame, junk as u32);
+        }
+        8 | 9 => {
+            let good = make::good_heartbeat(random, node, cycle & 63, channel & 1);
+            let frame = make::any_frame(random, &good, channel & 1);
+            compare.read_heartbeat([lent_n, lent_node, cycle, channel], &frame, junk as u32);
+        }
+        10 | 11 => {
+            let good = make::good_vote(random, n, node, cycle & 63, channel & 1);
+            let frame = make::any_frame(random, &good, channel & 1);
+            let vote = lent_buffer(random, VOTE_BYTES);
+            compare.read_vote([lent_n, lent_node, cycle, channel], &frame, &vote);
+        }
+        12 => {
+            let [a, b] = [0, 1].map(|channel| {
+                let good = make::good_heartbeat(random, node, cycle & 63, channel);
+                make::any_frame(random, &good, channel)
+            });
+            compare.receive_heartbeat([lent_n, lent_node, cycle], &a, &b, junk as u32);
+        }
+        13 => {
+            let vote = make::vote(random, n, node);
+            let [a, b] = [0, 1].map(|channel| {
+                let other = make::good_vote(random, n, node, cycle & 63, channel);
+                let good = if random.once_in(4) { other } else { vote_frame(node, &vote, cycle & 63, channel) };
+                make::any_frame(random, &good, channel)
+            });
+            let votes = if random.once_in(10) { lent_buffer(random, VOTES_BYTES) } else { vec![junk as u8; VOTES_BYTES] };
+            compare.receive_vote([lent_n, lent_node, cycle], &a, &b, &votes, junk);
+        }
+        _ => a_decision(compare, press, &unit, &state, heard),
+    }
+}
+
+/// a decision on the votes that a press gives, on those changed, or on votes around the quorum
+fn a_decision(compare: &mut Compare, press: &Press, unit: &Unit, state: &[u8], given: Heard) {
+    let random = &mut compare.random;
+    let heard = if random.once_in(3) { given } else { press.heard.get(unit.node).copied().unwrap_or_default() };
+    let (mut slots, mut mask) = if unit.n == press.n && unit.state == press.row[unit.node] && !random.once_in(3) {
+        press.arrived(random, unit.node)
+    } else {
+        make::votes_for(random, unit, heard)
+    };
+    if random.once_in(4) {
+        // the own slot and bit, and bits at N or above, are not looked at
+        let own = make::vote(random, unit.n, unit.node);
+        make::put_vote(&mut slots, unit.node, &own);
+        mask ^= only(unit.node) | random.bits() & !all(unit.n);
+    }
+    if random.once_in(8) {
+        let at = random.below(VOTE_BYTES * unit.n);
+        slots[at] ^= 1 << random.below(8);
+    }
+    if random.once_in(60) {
+        let len = random.pick(&[0, 1, 28, 1791, 1793, 3584]);
+        slots.resize(len, 0);
+    }
+    note_edges(compare, unit, heard, &slots, mask);
+    compare.decide(state, heard, &slots, mask);
+}
+
+/// counts how near to the quorum the votes for a unit are
+fn note_edges(compare: &mut Compare, unit: &Unit, heard: Heard, slots: &[u8], mask: u64) {
+    if slots.len() != VOTES_BYTES {
+        return;
+    }
+    let votes = arrived_votes(unit.n, unit.node, slots, mask);
+    let text = match unit.state {
+        State::Member(group) => {
+            let own = Vote { group, view: rule3(unit.n, unit.node, &group, heard, None) };
+            let same = (0..unit.n).filter(|&q| has(group.set, q) && votes[q] == Some(own)).count() as i64 + 1;
+            match 2 * same - i64::from(size(group.base)) {
+                0 => "the own view has just half of the base",
+                1 => "the own view has half a vote more than half of the base",
+                2 => "the own view has one vote more than half of the base",
+                -1 => "the own view has half a vote less than half of the base",
+                _ => return,
+            }
+        }
+        State::Joining => {
+            let mut fitting: Vec<Vote> = Vec::new();
+            for vote in votes.iter().flatten().filter(|vote| fits(unit.node, vote, &votes, None)) {
+                if !fitting.contains(vote) {
+                    fitting.push(*vote);
+                }
+            }
+            ["no vote value fits a joiner", "one vote value fits a joiner", "several vote values fit a joiner"][fitting.len().min(2)]
+        }
+        State::Out(_) => return,
+    };
+    *compare.given.entry(format!("gm_decide, votes: {text}")).or_default() += 1;
+}
+
+/// every node of a press for one cycle by the entries of the node end: what is heard and what arrives is what the entries give
+fn whole_cycle_of_nodes(compare: &mut Compare, press: &Press) {
+    let cycle = compare.random.below(64) as u32;
+    let (n, to) = (press.n, compare.random.below(press.n));
+    let (mut votes, mut arrived) = (vec![0; VOTES_BYTES], compare.random.bits());
+    for from in 0..n {
+        let Some(vote) = press.votes[from] else { continue };
+        let [a, b] = [0, 1].map(|channel| if press.faults.vote_reaches(from, to) { vote_frame(from, &vote, cycle, channel) } else { Vec::new() });
+        (arrived, votes) = compare.receive_vote([n as u32, from as u32, cycle], &a, &b, &votes, arrived);
+    }
+    compare.decide(&image(&press.unit(to)), press.heard[to], &votes, arrived);
+}
+
+fn a_single_cycle(compare: &mut Compare, press: &Press) {
+    let random = &mut compare.random;
+    let row = make::any_row(random, &press.before);
+    let n = if random.once_in(2) { press.n as u32 } else { lent_count(random, press.n) };
+    let mut record = write_cycle(&press.faults);
+    if random.once_in(3) {
+        // as a record of a table, damaged there
+        let mut table = write_first(press.n as u8, 1);
+        table.extend(&record);
+        make::damage_table(random, &mut table);
+        record = table.split_off(12.min(table.len()));
+    }
+    compare.cycle(n, &row, &record);
+}
+
+/// a table run plain, through frames, and by single cycles
+fn a_table(compare: &mut Compare) {
+    let random = &mut compare.random;
+    let frames = random.once_in(2);
+    let n = if frames && !random.once_in(40) { make::small_count(random) } else { make::count(random) };
+    let cycles = match (frames && n > 9, random.below(20)) {
+        (true, _) => random.below(3),
+        (false, 0) => random.below(90),
+        _ => random.below(7),
+    };
+    let mut table = make::table(random, n, cycles);
+    let damaged = random.once_in(3);
+    if damaged {
+        (0..1 + random.below(2)).for_each(|_| {
+            if !table.is_empty() && make::record_starts(&table).iter().all(|at| at + 3 <= table.len()) && table.len() > 12 {
+                make::damage_table(random, &mut table);
+            }
+        });
+    }
+    let len = match random.below(15) {
+        0 => random.below(24 * 66),
+        1 => 24 * random.below(67),
+        _ => 24 * n,
+    };
+    let row = random.bytes(len);
+    let (status, left) = compare.run(&row, &table);
+    if frames {
+        let (framed, framed_left) = compare.run_frames(&row, &table);
+        assert!((status, &left) == (framed, &framed_left), "the paper's run through frames is another run");
+    }
+    if status == 0 && cycles < 12 {
+        let starts = make::record_starts(&table);
+        let founding = u64::from_be_bytes(table[4..12].try_into().unwrap());
+        // damage that was accepted may have changed N
+        let n = usize::from(table[3]);
+        let mut row = row_image(&beginning_from(n, founding, 0));
+        for (k, &start) in starts.iter().enumerate().skip(1) {
+            let end = starts.get(k + 1).copied().unwrap_or(table.len());
+            (_, row) = compare.cycle(n as u32, &row, &table[start..end]);
+        }
+        assert!(row == left, "single cycles give another row than the run");
+    }
+}
+
+fn main() {
+    let argument = std::env::args().nth(1).or_else(|| std::env::var("SEED").ok());
+    let seed: u64 = argument.map_or(1, |text| text.parse().expect("SEED is a number"));
+    let calls: u64 = std::env::var("CALLS").map_or(300_000, |text| text.parse().expect("CALLS is a number"));
+    println!("compare: seed {seed}, {calls} random calls");
+    let mut compare = Compare { random: Random::new(seed), counts: [[0; 16]; 16], shift: 0, given: BTreeMap::new() };
+    counts_and_numbers(&mut compare);
+    lengths(&mut compare);
+    every_bit_of_an_image(&mut compare);
+    every_bit_of_a_frame(&mut compare);
+    cut_at_each_byte(&mut compare);
+    every_bit_of_a_mask(&mut compare);
+    every_count_and_entry(&mut compare);
+    decisions_of_two(&mut compare);
+    broken_cycles_of_two(&mut compare);
+    cycles_of_two_and_three(&mut compare);
+    let listed = compare.total();
+    println!("compare: {listed} calls with every length, number, bit and cut in turn agree");
+    while compare.total() < listed + calls {
+        let n = make::count(&mut compare.random);
+        let mut press = Press::new(&mut compare.random, n);
+        for _ in 0..1 + compare.random.below(12) {
+            for _ in 0..24 {
+                a_node(&mut compare, &press);
+            }
+            a_single_cycle(&mut compare, &press);
+            if compare.random.once_in(20) {
+                whole_cycle_of_nodes(&mut compare, &press);
+            }
+            press = press.next(&mut compare.random);
+        }
+        a_table(&mut compare);
+    }
+    for (entry, counts) in ENTRIES.iter().zip(&compare.counts) {
+        let statuses: Vec<String> = counts.iter().enumerate().filter(|(_, count)| **count > 0).map(|(s, count)| format!("{s}: {count}")).collect();
+        println!("gm_{entry:<18} {:>8} calls; by status {}", counts.iter().sum::<u64>(), statuses.join(", "));
+    }
+    compare.given.iter().for_each(|(text, count)| println!("{text}: {count}"));
+    println!("compare: {} calls agree", compare.total());
+}

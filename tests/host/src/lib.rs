@@ -1,0 +1,33 @@
+//! The product paper implemented a second time, from its sentences alone, and the proved archive beside it.
+#![deny(unsafe_code)]
+
+pub mod archive;
+pub mod claims;
+pub mod generate;
+pub mod paper;
+pub mod random;
+
+/// The sixteen entries of include/gm.h, on slices. The paper's implementation and the archive each give them.
+pub trait NodeEnd {
+    fn begin(&self, n: u32, node: u32, founding: u64, state: &mut [u8]) -> u32;
+    fn stop(&self, state: &mut [u8]) -> u32;
+    fn start(&self, state: &mut [u8]) -> u32;
+    #[allow(clippy::too_many_arguments)]
+    fn write_heartbeat(&self, n: u32, node: u32, join: u32, sync: u32, startup: u32, cycle: u32, channel: u32, frame: &mut [u8]) -> u32;
+    #[allow(clippy::too_many_arguments)]
+    fn send_heartbeat(&self, state: &[u8], sync: u32, startup: u32, cycle: u32, channel: u32, frame: &mut [u8], sent: &mut u32) -> u32;
+    fn read_heartbeat(&self, n: u32, node: u32, cycle: u32, channel: u32, frame: &[u8], join: &mut u32) -> u32;
+    fn receive_heartbeat(&self, n: u32, node: u32, cycle: u32, a: &[u8], b: &[u8], heard: &mut u32) -> u32;
+    fn view(&self, state: &[u8], heard0: u64, heard1: u64, view: &mut u64) -> u32;
+    #[allow(clippy::too_many_arguments)]
+    fn write_vote(&self, n: u32, node: u32, number: u32, set: u64, base: u64, view: u64, cycle: u32, channel: u32, frame: &mut [u8]) -> u32;
+    #[allow(clippy::too_many_arguments)]
+    fn send_vote(&self, state: &[u8], heard0: u64, heard1: u64, cycle: u32, channel: u32, frame: &mut [u8], sent: &mut u32) -> u32;
+    fn read_vote(&self, n: u32, node: u32, cycle: u32, channel: u32, frame: &[u8], vote: &mut [u8]) -> u32;
+    #[allow(clippy::too_many_arguments)]
+    fn receive_vote(&self, n: u32, node: u32, cycle: u32, a: &[u8], b: &[u8], votes: &mut [u8], arrived: &mut u64) -> u32;
+    fn decide(&self, state: &mut [u8], heard0: u64, heard1: u64, votes: &[u8], arrived: u64) -> u32;
+    fn cycle(&self, n: u32, row: &mut [u8], record: &[u8]) -> u32;
+    fn run(&self, row: &mut [u8], table: &[u8]) -> u32;
+    fn run_frames(&self, row: &mut [u8], table: &[u8]) -> u32;
+}

@@ -1,0 +1,17 @@
+//! The product paper, section by section. Written to be read beside it; nothing here is fast.
+#![forbid(unsafe_code)]
+
+pub mod checks;
+pub mod entries;
+pub mod faults;
+pub mod frames;
+pub mod printed;
+pub mod record;
+pub mod rules;
+pub mod run;
+pub mod sets;
+pub mod state;
+pub mod table;
+
+/// What a call answers: a value, or the number of its refusal.
+pub type Answer<T> = Result<T, u32>;
