@@ -55,7 +55,7 @@ pub rival-test : (n : ℕ) (b : Ballots) (g : Group) (o : Option Vote) (v : Vote
 rival-test n b g o v s e k = ap (rival n b g) e ∙ ap (λ (x : Bool). x && wins n b v) (sym k)
 
 -- less is left without a node of it
-diff-less : (p a b : ℕ) → has p a ≡ true → has p b ≡ true → a ∖ b < a
+pub diff-less : (p a b : ℕ) → has p a ≡ true → has p b ≡ true → a ∖ b < a
 unfolding _∖_ _∩_
 diff-less p a b h k = go (a ∩ b) refl
   where

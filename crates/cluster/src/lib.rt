@@ -254,7 +254,7 @@ fn rival_at(
     sets::is_quorum(tally(votes, present, h.set), h.base)
 }
 
-// Whether some vote has the group g and a quorum.
+// Whether some vote has the group g and a quorum. One slot answers for all with its vote.
 fn any_rival(
     n: usize,
     numbers: &[u32; 64],
@@ -272,8 +272,9 @@ fn any_rival(
     requires { ⌜ Within present members ⌝ }
     ensures { λ r. ⌜ r ≡ any n (rivalAt (now (numbers .entry)) (now (sets .entry)) (now (bases .entry)) (now (views .entry)) n present g) ⌝ }
 {
-    let mut p: usize = 0;
-    while p < n {
+    let mut left = sets::below(n, present);
+    while left != 0 {
+        let p = sets::lowest(left) as usize;
         if rival_at(
             n,
             numbers,
@@ -289,7 +290,7 @@ fn any_rival(
         ) {
             return true;
         }
-        p += 1;
+        left = sets::difference(left, votes_like(lead, same, p));
     }
     false
 }
@@ -368,7 +369,7 @@ fn fits_at(
     sets::is_quorum(tally(votes, present, g.set), g.base)
 }
 
-// The slots whose votes fit the joining node q.
+// The slots whose votes fit the joining node q. One slot answers for all with its vote.
 fn fitting(
     n: usize,
     q: usize,
@@ -387,8 +388,10 @@ fn fitting(
     ensures { λ r. ⌜ r ≡ those n (fitsAt n q (ballotsOf (now (numbers .entry)) (now (sets .entry)) (now (bases .entry)) (now (views .entry)) present)) ⌝ }
 {
     let mut m: u64 = 0;
-    let mut p: usize = 0;
-    while p < n {
+    let mut left = sets::below(n, present);
+    while left != 0 {
+        let p = sets::lowest(left) as usize;
+        let votes = votes_like(lead, same, p);
         let yes = fits_at(
             n,
             q,
@@ -402,8 +405,8 @@ fn fitting(
             present,
             p,
         );
-        m = sets::include(m, p, yes);
-        p += 1;
+        m = sets::union(m, pick(yes, sets::intersection(left, votes), 0));
+        left = sets::difference(left, votes);
     }
     m
 }
