@@ -181,7 +181,7 @@ fn views_of(
     let mut q: usize = 0;
     while q < n {
         let heard = hear(n, count, sets::difference(sent, missed[q]), a, b);
-        views[q] = rules::view(n, q, sets[q], heard.alive, heard.joining);
+        views[q] = steps::view(n, q, sets[q], heard.alive, heard.joining);
         q += 1;
     }
     views
@@ -222,7 +222,7 @@ fn put_vote(
     requires { ⌜ (q < 64) × (count < 64) ⌝ }
     ensures { λ r. ⌜ r ≡ withSent q (voteSent (now (numbers .entry)) (now (sets .entry)) (now (bases .entry)) (now (views .entry)) members count channel q) all ⌝ }
 {
-    let v = rules::vote_at(numbers, sets, bases, views, q);
+    let v = steps::vote_at(numbers, sets, bases, views, q);
     if sets::contains(members, q) {
         put(all, q, &frames::write_vote(q as u32, v, count, channel))
     } else {
@@ -343,7 +343,7 @@ fn member_decides(
     let sets = arrived.sets;
     let bases = arrived.bases;
     let views = arrived.views;
-    let after = rules::member_decides(n, q, own, &numbers, &sets, &bases, &views, arrived.present);
+    let after = steps::member_decides(n, q, own, &numbers, &sets, &bases, &views, arrived.present);
     after
 }
 
@@ -358,7 +358,7 @@ fn joiner_decides(n: usize, count: u32, reach: u64, a: &[u8], b: &[u8], q: usize
     let sets = arrived.sets;
     let bases = arrived.bases;
     let views = arrived.views;
-    let after = rules::joiner_decides(n, q, &numbers, &sets, &bases, &views, arrived.present);
+    let after = steps::joiner_decides(n, q, &numbers, &sets, &bases, &views, arrived.present);
     after
 }
 
@@ -380,7 +380,7 @@ fn decide(
     requires { ⌜ (length (now a) ≡ 2304) × (length (now b) ≡ 2304) ⌝ }
     ensures { λ r. ⌜ r ≡ decidedRead (now (numbers .entry)) (now (sets .entry)) (now (bases .entry)) (now (views .entry)) n count w reach (now (a .entry)) (now (b .entry)) q ⌝ }
 {
-    let own = rules::vote_at(numbers, sets, bases, views, q);
+    let own = steps::vote_at(numbers, sets, bases, views, q);
     if sets::contains(w.members, q) {
         member_decides(n, count, reach, a, b, own, q)
     } else if sets::contains(w.joining, q) {

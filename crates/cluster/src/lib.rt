@@ -102,7 +102,7 @@ fn views_of(
     while p < n {
         let heard0 = sets::difference(members, missed[p]);
         let heard1 = sets::difference(joining, missed[p]);
-        views[p] = rules::view(n, p, sets[p], heard0, heard1);
+        views[p] = steps::view(n, p, sets[p], heard0, heard1);
         p += 1;
     }
 }
@@ -126,7 +126,7 @@ fn equal_votes(
         m = sets::include(
             m,
             p,
-            rules::equals_at(numbers, sets, bases, views, members, v, p),
+            steps::equals_at(numbers, sets, bases, views, members, v, p),
         );
         p += 1;
     }
@@ -169,7 +169,7 @@ fn leading(
         return 0;
     }
     let p = sets::lowest(members) as usize;
-    let v = rules::vote_at(numbers, sets, bases, views, p);
+    let v = steps::vote_at(numbers, sets, bases, views, p);
     equal_votes(n, numbers, sets, bases, views, members, v)
 }
 
@@ -192,7 +192,7 @@ fn groups_of(
     let mut left = sets::difference(members, lead);
     while left != 0 {
         let p = sets::lowest(left) as usize;
-        let v = rules::vote_at(numbers, sets, bases, views, p);
+        let v = steps::vote_at(numbers, sets, bases, views, p);
         let m = equal_votes(n, numbers, sets, bases, views, members, v);
         spread(n, m, same);
         left = sets::difference(left, m);
@@ -242,13 +242,13 @@ fn rival_at(
     requires { ⌜ Within present members ⌝ }
     ensures { λ r. ⌜ r ≡ rivalAt (now (numbers .entry)) (now (sets .entry)) (now (bases .entry)) (now (views .entry)) n present g p ⌝ }
 {
-    let v = rules::vote_at(numbers, sets, bases, views, p);
+    let v = steps::vote_at(numbers, sets, bases, views, p);
     let h = v.group;
     let votes = votes_like(lead, same, p);
     if !sets::contains(present, p) {
         return false;
     }
-    if !rules::same_group(g, h) {
+    if !steps::same_group(g, h) {
         return false;
     }
     sets::is_quorum(tally(votes, present, h.set), h.base)
@@ -313,13 +313,13 @@ fn member_decides(
     requires { ⌜ Within present members ⌝ }
     ensures { λ r. ⌜ r ≡ memberDecides (record { nodes = n }) q (voteAt (now (numbers .entry)) (now (sets .entry)) (now (bases .entry)) (now (views .entry)) q) (ballotsOf (now (numbers .entry)) (now (sets .entry)) (now (bases .entry)) (now (views .entry)) present) ⌝ }
 {
-    let own = rules::vote_at(numbers, sets, bases, views, q);
+    let own = steps::vote_at(numbers, sets, bases, views, q);
     let g = own.group;
     let votes = votes_like(lead, same, q);
     let mine = own_tally(votes, g.set, present, q);
     let others = sets::difference(present, sets::single(q));
     if sets::is_quorum(mine, g.base) {
-        rules::member_on(own, mine)
+        steps::member_on(own, mine)
     } else if any_rival(
         n,
         numbers,
@@ -357,7 +357,7 @@ fn fits_at(
     requires { ⌜ Within present members ⌝ }
     ensures { λ r. ⌜ r ≡ fitsAt n q (ballotsOf (now (numbers .entry)) (now (sets .entry)) (now (bases .entry)) (now (views .entry)) present) p ⌝ }
 {
-    let v = rules::vote_at(numbers, sets, bases, views, p);
+    let v = steps::vote_at(numbers, sets, bases, views, p);
     let g = v.group;
     let votes = votes_like(lead, same, p);
     if !sets::contains(present, p) {
@@ -445,11 +445,11 @@ fn joiner_decides(
         return State::Joining;
     }
     let first = sets::lowest(fit) as usize;
-    let v = rules::vote_at(numbers, sets, bases, views, first);
+    let v = steps::vote_at(numbers, sets, bases, views, first);
     let g = v.group;
     let votes = votes_like(lead, same, first);
     if sets::subset(fit, votes) {
-        rules::member_on(v, tally(votes, present, g.set))
+        steps::member_on(v, tally(votes, present, g.set))
     } else {
         State::Joining
     }
@@ -569,8 +569,8 @@ pub fn with_state(w: Roles, q: usize, d: State) -> Roles
     ensures { λ r. ⌜ r ≡ withState w q d ⌝ }
 {
     Roles {
-        members: sets::include(w.members, q, rules::sends_member(d)),
-        joining: sets::include(w.joining, q, rules::sends_join(d)),
+        members: sets::include(w.members, q, steps::sends_member(d)),
+        joining: sets::include(w.joining, q, steps::sends_join(d)),
         no_quorum: sets::include(w.no_quorum, q, is_no_quorum(d)),
         outvoted: sets::include(w.outvoted, q, is_outvoted(d)),
     }
@@ -651,7 +651,7 @@ fn keep(
     if !sets::contains(w.members, q) {
         return k;
     }
-    if !rules::sends_member(d) {
+    if !steps::sends_member(d) {
         return k;
     }
     Kept {

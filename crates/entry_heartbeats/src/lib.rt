@@ -118,7 +118,7 @@ fn join_bit(s: State) -> u32
     ensures { λ r. ⌜ r ≡ joinBit s ⌝ }
     ensures { λ r. ⌜ r < 2 ⌝ }
 {
-    if rules::sends_join(s) { 1 } else { 0 }
+    if steps::sends_join(s) { 1 } else { 0 }
 }
 
 // Refusal 2, of what a node sends with.

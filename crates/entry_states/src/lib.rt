@@ -87,7 +87,7 @@ fn stopped_and_started(stop: bool, start: bool, n: Node) -> Node
 {
     let s = n.state;
     Node {
-        state: rules::stop_and_start(stop, start, s),
+        state: steps::stop_and_start(stop, start, s),
         id: n.id,
         nodes: n.nodes,
     }

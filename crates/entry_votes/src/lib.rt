@@ -42,7 +42,7 @@ pub fn own_vote(n: Node, g: Group, heard0: u64, heard1: u64) -> Vote
     requires { ⌜ (n .nodes ≤ 64) × (n .id < n .nodes) ⌝ }
     ensures { λ r. ⌜ r ≡ record { group = g; view = ownView n heard0 heard1 g } ⌝ }
 {
-    let view = rules::view(n.nodes as usize, n.id as usize, g.set, heard0, heard1);
+    let view = steps::view(n.nodes as usize, n.id as usize, g.set, heard0, heard1);
     Vote { group: g, view }
 }
 

@@ -378,7 +378,7 @@ pub fn receive_heartbeat(a: HeartbeatRead, b: HeartbeatRead) -> HeartbeatReceive
 pub fn same_vote(v: Vote, w: Vote) -> bool
     ensures { λ r. ⌜ r ≡ sameVote v w ⌝ }
 {
-    if rules::same_group(v.group, w.group) {
+    if steps::same_group(v.group, w.group) {
         v.view == w.view
     } else {
         false
