@@ -24,7 +24,7 @@ use Rattle.frames.proofs.RoundTrip.{vote-back}
 use Rattle.cluster.specs.declared.Roles.{Roles}
 use Rattle.cluster.specs.declared.States.{States}
 use Rattle.cluster.specs.States.{stateAt}
-use Rattle.cluster.specs.Grouped.{outAt, decidedAt}
+use Rattle.cluster.specs.Decided.{outAt, decidedAt}
 use Rattle.bus.specs.Channels.{channelOf, voteSent, copyOf, voteRead, received, ballotsRead, decidedRead}
 use Rattle.bus.proofs.Carried.{Carries, carries}
 

@@ -23,7 +23,7 @@ use Rattle.frames.specs.Written.{formedVote}
 use Rattle.cluster.specs.declared.Roles.{Roles}
 use Rattle.cluster.specs.declared.States.{States}
 use Rattle.cluster.specs.States.{groupAt, stateAt}
-use Rattle.cluster.specs.Grouped.{rolesAfter}
+use Rattle.cluster.specs.Decided.{rolesAfter}
 
 -- a view holds its node, and nothing at n or above
 view-own : (n q M h0 h1 : ℕ) → has q (viewOf n q M h0 h1) ≡ true

@@ -21,7 +21,7 @@ use Rattle.frames.specs.Read.{wrongLength, faultOf, readHeartbeat, receiveHeart
 use Rattle.frames.proofs.Lengths.{length-heartbeat}
 use Rattle.frames.proofs.RoundTrip.{heartbeat-back}
 use Rattle.cluster.specs.declared.Roles.{Roles}
-use Rattle.cluster.specs.Grouped.{viewAt}
+use Rattle.cluster.specs.Decided.{viewAt}
 use Rattle.bus.specs.Channels.{channelOf, heartbeatSent, copyOf, heartbeatRead, isAlive, isJoin, aliveRead, joinRead, viewRead}
 use Rattle.bus.proofs.Carried.{Carries, carries}
 

@@ -18,7 +18,7 @@ use Rattle.frames.specs.declared.VoteReceived.the-variants as votes
 use Rattle.frames.specs.Written.{heartbeatFrame, voteFrame}
 use Rattle.frames.specs.Read.{readHeartbeat, readVote, receiveHeartbeat, receiveVote}
 use Rattle.cluster.specs.declared.Roles.{Roles}
-use Rattle.cluster.specs.Grouped.{outAt}
+use Rattle.cluster.specs.Decided.{outAt}
 
 -- ---- a channel: a slot of 36 bytes for each of 64 nodes, a frame at the beginning of its sender's
 

@@ -10,7 +10,7 @@ ghost use Rattle.rules.specs.Ballots.{voteAt, ballotsOf};
 ghost use Rattle.rules.specs.Faults.{cycle as theCycle};
 ghost use Rattle.frames.specs.Written.{formedVote};
 ghost use Rattle.cluster.specs.States.{stateAt, rowOf};
-ghost use Rattle.cluster.specs.Grouped.{viewAt, decidedAt};
+ghost use Rattle.cluster.specs.Decided.{viewAt, decidedAt};
 ghost use Rattle.bus.specs.Channels.{
   withFrame,
   withSent,

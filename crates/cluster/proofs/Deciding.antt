@@ -15,8 +15,8 @@ use Rattle.state.specs.declared.State.the-variants.{Out, Joining, Member}
 use Rattle.rules.specs.OneCycle.{sendsMember, sendsJoin}
 use Rattle.cluster.specs.declared.Roles.{Roles}
 use Rattle.cluster.specs.States.{stateAt}
-use Rattle.cluster.specs.Grouped.{heldBy, isNoQuorum, isOutvoted, withState}
-use Rattle.cluster.proofs.Arrays.{stored}
+use Rattle.cluster.specs.Decided.{heldBy, isNoQuorum, isOutvoted, withState}
+use Rattle.tallies.proofs.Arrays.{stored}
 
 -- the masks w and the arrays hold the states D of the nodes below q
 pub record Holds (D : ℕ → State) (q : ℕ) (w : Roles) (numbers sets bases : List ℕ) : Type 0 where

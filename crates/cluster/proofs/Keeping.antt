@@ -22,8 +22,9 @@ use Rattle.rules.proofs.States.{none-some, some-inj}
 use Rattle.rules.proofs.Slots.{slot-full, slot-empty}
 use Rattle.cluster.specs.declared.Roles.{Roles}
 use Rattle.cluster.specs.declared.Kept.{Kept}
-use Rattle.cluster.specs.Grouped.{equalTo, Grouped, Within, spreadAt, rivalAt, decidedAt, ownTally, follows, Worth, heldBy, memberWith}
-use Rattle.cluster.proofs.Tallies.{goes-on, halts}
+use Rattle.tallies.specs.Grouped.{equalTo, Grouped, Within, spreadAt, rivalAt, ownTally, memberWith}
+use Rattle.cluster.specs.Decided.{decidedAt, Worth, heldBy}
+use Rattle.tallies.proofs.Tallies.{goes-on, halts}
 
 module _ (numbers sets bases views : List ℕ) (n : ℕ) (w : Roles) where
   -- nobody follows where nothing is kept

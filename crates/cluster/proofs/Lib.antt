@@ -1,6 +1,3 @@
-pub mod Arrays
-mod Tallies
-mod Looking
 mod Keeping
 pub mod Deciding
 pub mod Whole

@@ -1,10 +1,9 @@
 -- One whole cycle: the masks after rule 1 and the grouped votes against the rules of a row. Assumes nothing.
 use mathlib.Core.Path.{_≡_, refl, sym, ap, ap₂, _∙_}
 use mathlib.Core.Bool.{Bool, true, false, not, _&&_, _||_, cond, false≢true}
-use mathlib.Core.List.{List, _∷_}
+use mathlib.Core.List.{List}
 use mathlib.Core.Option.{Option, none, some}
-use Prim.Native.Nat.{ℕ, zero, suc, _<_}
-use native.Mathlib.Omega.{arith}
+use Prim.Native.Nat.{ℕ, _<_}
 use lib.Dec.{ltb}
 use lib.ListN.{getD}
 use Rattle.sets.specs.Sets.{has, _∪_, _∖_, those, below}
@@ -18,13 +17,14 @@ use Rattle.state.specs.declared.State.the-variants.{Out, Joining, Member}
 use Rattle.rules.specs.declared.Vote.{Vote}
 use Rattle.rules.specs.declared.Faults.{Faults}
 use Rattle.rules.specs.OneCycle.{Config, Ballots, stopped, stopIf, startIf, stopAndStart, sendsMember, sendsJoin, viewOf, memberDecides, joinerDecides}
-use Rattle.rules.specs.Faults.{Row, at, tabulate, heartbeatsMissed, votesMissed, reaches, ruleOne, heard, ownVote, voteOf, votes, arriveIf, arrivedAt, decides, decisions, cycle}
+use Rattle.rules.specs.Faults.{Row, at, heartbeatsMissed, votesMissed, reaches, ruleOne, heard, ownVote, voteOf, votes, arriveIf, arrivedAt, decides, decisions, cycle}
 use Rattle.rules.specs.Ballots.{voteAt, ballotsOf}
 use Rattle.rules.proofs.Rows.{get-tabulate, get-tabulate-out, tabulate-ext}
 use Rattle.cluster.specs.declared.Roles.{Roles}
 use Rattle.cluster.specs.declared.States.{States}
 use Rattle.cluster.specs.States.{groupAt, stateAt, rowOf}
-use Rattle.cluster.specs.Grouped.{rolesAfter, viewAt, Below, outAt, decidedAt}
+use Rattle.tallies.specs.Grouped.{Below}
+use Rattle.cluster.specs.Decided.{rolesAfter, viewAt, outAt, decidedAt}
 
 -- the masks of the states
 abbrev pub rolesOf : States → Roles

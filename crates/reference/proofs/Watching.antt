@@ -25,7 +25,7 @@ use Rattle.rules.proofs.Counting.{quorum-node}
 use Rattle.cluster.specs.declared.Roles.{Roles}
 use Rattle.cluster.specs.declared.States.{States}
 use Rattle.cluster.specs.States.{groupAt, stateAt, rowOf}
-use Rattle.cluster.specs.Grouped.{rolesAfter}
+use Rattle.cluster.specs.Decided.{rolesAfter}
 use Rattle.cluster.proofs.Whole.{rolesOf, member-role, members-high, joining-high, sends-member, sends-join}
 use Rattle.reference.specs.declared.Watch.{Watch}
 use Rattle.reference.specs.Watched.{referenceOf, clusterOf, missesAt, haltedIn, enteredIn}

@@ -9,7 +9,7 @@ use Rattle.state.specs.declared.State.{State}
 use Rattle.state.specs.declared.Node.{Node}
 use Rattle.cluster.specs.declared.Roles.{Roles}
 use Rattle.cluster.specs.declared.States.{States}
-use Rattle.cluster.specs.Grouped.{heldBy, withState}
+use Rattle.cluster.specs.Decided.{heldBy, withState}
 use Rattle.cluster.specs.States.{stateAt}
 use Rattle.row.specs.declared.Gathered.{Gathered}
 use Rattle.row.specs.Row.{inPlace}

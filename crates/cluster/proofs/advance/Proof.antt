@@ -2,7 +2,7 @@ use borrow.Author.Needs.{needs}
 use Rattle.rules.specs.declared.Faults.{Faults}
 use Rattle.cluster.specs.declared.States.{States}
 use Rattle.cluster.specs.States.{statesOf, faultsOf}
-use Rattle.cluster.proofs.Tallies.{inside-less}
+use Rattle.tallies.proofs.Tallies.{inside-less}
 use Rattle.cluster.proofs.Whole.{members-below, run-cycle}
 use Rattle.cluster.proofs.advance.Statement.{statement}
 use Rattle.cluster.proofs.advance.Tie as tie

@@ -1,5 +1,5 @@
 use mathlib.Core.Logic.{⊎-elim}
-use mathlib.Core.Path.{_≡_, refl, sym, ap, subst, _∙_}
+use mathlib.Core.Path.{_≡_, sym, ap, subst, _∙_}
 use Prim.Native.Nat.{ℕ, _<_, _≤_, _-_}
 use native.Mathlib.Omega.{arith}
 use lib.ListN.{getD}
@@ -7,8 +7,9 @@ use borrow.Author.Needs.{needs}
 use Rattle.sets.specs.Sets.{_∖_}
 use Rattle.state.specs.declared.State.{State}
 use Rattle.state.specs.declared.State.the-variants.{Member}
-use Rattle.cluster.specs.Grouped.{Within, decidedAt, Worth}
-use Rattle.cluster.proofs.Tallies.{inside-less}
+use Rattle.tallies.specs.Grouped.{Within}
+use Rattle.cluster.specs.Decided.{decidedAt, Worth}
+use Rattle.tallies.proofs.Tallies.{inside-less}
 use Rattle.cluster.proofs.Keeping.{worth-none}
 use Rattle.cluster.proofs.Deciding.{Holds, holds-none, holds-next, holds-state}
 use Rattle.cluster.proofs.decisions.Statement.{statement}

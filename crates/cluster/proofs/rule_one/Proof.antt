@@ -1,4 +1,4 @@
-use Rattle.cluster.specs.Grouped.{rolesAfter}
+use Rattle.cluster.specs.Decided.{rolesAfter}
 use borrow.Author.Needs.{needs}
 use Rattle.cluster.proofs.rule_one.Statement.{statement}
 use Rattle.cluster.proofs.rule_one.Tie as tie

@@ -7,7 +7,7 @@ use Rattle.state.specs.declared.Group.{Group}
 use Rattle.state.specs.declared.State.{State}
 use Rattle.cluster.specs.declared.Roles.{Roles}
 use Rattle.cluster.specs.declared.States.{States}
-use Rattle.cluster.specs.Grouped.{heldBy, withState}
+use Rattle.cluster.specs.Decided.{heldBy, withState}
 use Rattle.row.specs.Gathered.{rolesOf, withNode}
 use Rattle.row.proofs.with_node.Statement.{statement}
 use Rattle.row.proofs.with_node.Tie as tie

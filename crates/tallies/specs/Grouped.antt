@@ -1,0 +1,51 @@
+-- Votes grouped by their value.
+-- Assumes nothing.
+use mathlib.Core.Path.{_≡_}
+use mathlib.Core.Bool.{Bool, true, cond}
+use mathlib.Core.List.{List}
+use Prim.Native.Nat.{ℕ, _<_}
+use lib.ListN.{getD}
+use Rattle.sets.specs.Sets.{has, single, _∪_, _∩_, _∖_, those}
+use Rattle.state.specs.declared.Group.{Group}
+use Rattle.state.specs.declared.State.{State}
+use Rattle.state.specs.declared.State.the-variants.{Member}
+use Rattle.rules.specs.declared.Vote.{Vote}
+use Rattle.rules.specs.OneCycle.{is, rival, groupWith}
+use Rattle.rules.specs.Ballots.{voteAt, ballotsOf}
+
+-- the members whose vote is v
+unfoldable pub equalTo : List ℕ → List ℕ → List ℕ → List ℕ → ℕ → ℕ → Vote → ℕ
+equalTo numbers sets bases views n members v = those n (λ x. is v (ballotsOf numbers sets bases views members x))
+
+-- element j of `same` where m is stored for each of its nodes
+abbrev pub spreadAt : ℕ → List ℕ → ℕ → ℕ
+spreadAt m same j = cond (has j m) m (getD same j 0)
+
+-- m holds the members whose vote is equal to that of any of its own
+abbrev pub Alike : List ℕ → List ℕ → List ℕ → List ℕ → ℕ → ℕ → ℕ → Type 0
+Alike numbers sets bases views n members m =
+    (p : ℕ) → has p members ≡ true → has p m ≡ true → m ≡ equalTo numbers sets bases views n members (voteAt numbers sets bases views p)
+
+-- `lead` for its own nodes, and `same` for the others, hold for each member the members whose vote is equal to its own
+abbrev pub Grouped : List ℕ → List ℕ → List ℕ → List ℕ → ℕ → ℕ → ℕ → List ℕ → Type 0
+Grouped numbers sets bases views n members lead same =
+    (p : ℕ) → p < n → has p members ≡ true → spreadAt lead same p ≡ equalTo numbers sets bases views n members (voteAt numbers sets bases views p)
+
+abbrev pub Within : ℕ → ℕ → Type 0
+Within a b = (p : ℕ) → has p a ≡ true → has p b ≡ true
+
+abbrev pub Below : ℕ → ℕ → Type 0
+Below n m = (p : ℕ) → has p m ≡ true → p < n
+
+-- whether the vote in slot p is one with the group g that has a quorum
+abbrev pub rivalAt : List ℕ → List ℕ → List ℕ → List ℕ → ℕ → ℕ → Group → ℕ → Bool
+rivalAt numbers sets bases views n present g p =
+    rival n (ballotsOf numbers sets bases views present) g (ballotsOf numbers sets bases views present p)
+
+-- of those with the vote of q, the ones that q counts: those in the set whose vote arrived, and its own whatever arrived of it
+abbrev pub ownTally : ℕ → ℕ → ℕ → ℕ → ℕ
+ownTally votes set present q = votes ∩ (present ∪ single q) ∩ set
+
+-- a member of the group that a vote with these voters gives
+abbrev pub memberWith : Vote → ℕ → State
+memberWith v voters = Member (groupWith v (voters ∪ (v .view ∖ v .group .set)))
