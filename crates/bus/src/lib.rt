@@ -77,13 +77,13 @@ fn put_heartbeat(all: [u8; 2304], w: Roles, count: u32, channel: u32, q: usize) 
         put(
             all,
             q,
-            &frames::write_heartbeat(q as u32, 0, 0, 0, count, channel),
+            &writing::write_heartbeat(q as u32, 0, 0, 0, count, channel),
         )
     } else if sets::contains(w.joining, q) {
         put(
             all,
             q,
-            &frames::write_heartbeat(q as u32, 1, 0, 0, count, channel),
+            &writing::write_heartbeat(q as u32, 1, 0, 0, count, channel),
         )
     } else {
         all
@@ -120,9 +120,9 @@ fn read_heartbeat(count: u32, reach: u64, a: &[u8], b: &[u8], p: usize) -> Heart
 {
     let at = 36 * p;
     let end = at + copy_length(sets::contains(reach, p), 10);
-    let one = frames::read_heartbeat(p as u32, count, 0, &a[at..end]);
-    let other = frames::read_heartbeat(p as u32, count, 1, &b[at..end]);
-    frames::receive_heartbeat(one, other)
+    let one = reading::read_heartbeat(p as u32, count, 0, &a[at..end]);
+    let other = reading::read_heartbeat(p as u32, count, 1, &b[at..end]);
+    reading::receive_heartbeat(one, other)
 }
 
 fn is_alive(r: HeartbeatReceived) -> bool
@@ -224,7 +224,7 @@ fn put_vote(
 {
     let v = steps::vote_at(numbers, sets, bases, views, q);
     if sets::contains(members, q) {
-        put(all, q, &frames::write_vote(q as u32, v, count, channel))
+        put(all, q, &writing::write_vote(q as u32, v, count, channel))
     } else {
         all
     }
@@ -261,9 +261,9 @@ fn read_vote(n: usize, count: u32, reach: u64, a: &[u8], b: &[u8], p: usize) -> 
 {
     let at = 36 * p;
     let end = at + copy_length(sets::contains(reach, p), 36);
-    let one = frames::read_vote(n, p as u32, count, 0, &a[at..end]);
-    let other = frames::read_vote(n, p as u32, count, 1, &b[at..end]);
-    frames::receive_vote(one, other)
+    let one = reading::read_vote(n, p as u32, count, 0, &a[at..end]);
+    let other = reading::read_vote(n, p as u32, count, 1, &b[at..end]);
+    reading::receive_vote(one, other)
 }
 
 fn is_whole(r: VoteReceived) -> bool

@@ -48,7 +48,7 @@ fn has_arrived(n: usize, q: usize, v: Vote, arrived: u64, p: usize) -> bool
     if !sets::contains(arrived, p) {
         return false;
     }
-    frames::formed_vote(n, p, v)
+    reading::formed_vote(n, p, v)
 }
 
 // Reads the slots into four arrays, and gives the nodes whose vote counts. One pass, since this is most of a decision's work.

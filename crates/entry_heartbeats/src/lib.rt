@@ -98,7 +98,7 @@ pub fn write(
     if status != 0 {
         return status;
     }
-    let written = frames::write_heartbeat(node, join, sync, startup, cycle, channel);
+    let written = writing::write_heartbeat(node, join, sync, startup, cycle, channel);
     bytes::copy(&written, frame);
     0
 }
@@ -156,7 +156,7 @@ fn send_of(
     let sends = sends_byte(s);
     *sent = sends;
     if sends == 1 {
-        let written = frames::write_heartbeat(
+        let written = writing::write_heartbeat(
             n.id as u32,
             join_bit(s),
             sync,
@@ -219,7 +219,7 @@ pub fn read(n: u32, node: u32, cycle: u32, channel: u32, frame: &[u8], join: &mu
     if status != 0 {
         return status;
     }
-    match frames::read_heartbeat(node, cycle, channel, frame) {
+    match reading::read_heartbeat(node, cycle, channel, frame) {
         HeartbeatRead::Alive => {
             *join = 0;
             0
@@ -228,7 +228,7 @@ pub fn read(n: u32, node: u32, cycle: u32, channel: u32, frame: &[u8], join: &mu
             *join = 1;
             0
         }
-        HeartbeatRead::Refused(f) => frames::fault_code(f),
+        HeartbeatRead::Refused(f) => reading::fault_code(f),
     }
 }
 
@@ -251,8 +251,8 @@ pub fn receive(n: u32, node: u32, cycle: u32, a: &[u8], b: &[u8], heard: &mut u3
     if status != 0 {
         return status;
     }
-    let on_a = frames::read_heartbeat(node, cycle, 0, a);
-    let on_b = frames::read_heartbeat(node, cycle, 1, b);
-    *heard = heard_code(frames::receive_heartbeat(on_a, on_b));
+    let on_a = reading::read_heartbeat(node, cycle, 0, a);
+    let on_b = reading::read_heartbeat(node, cycle, 1, b);
+    *heard = heard_code(reading::receive_heartbeat(on_a, on_b));
     0
 }

@@ -99,7 +99,7 @@ fn write_vote_status(n: u32, node: u32, v: Vote, cycle: u32, channel: u32, len: 
     if status != 0 {
         return status;
     }
-    if frames::formed_vote(n as usize, node as usize, v) {
+    if reading::formed_vote(n as usize, node as usize, v) {
         0
     } else {
         10
@@ -129,7 +129,7 @@ pub fn write(
     if status != 0 {
         return status;
     }
-    bytes::copy(&frames::write_vote(node, v, cycle, channel), frame);
+    bytes::copy(&writing::write_vote(node, v, cycle, channel), frame);
     0
 }
 
@@ -155,7 +155,7 @@ fn send_of(
         State::Joining => *sent = 0,
         State::Member(g) => {
             let v = own_vote(n, g, heard0, heard1);
-            bytes::copy(&frames::write_vote(n.id as u32, v, cycle, channel), frame);
+            bytes::copy(&writing::write_vote(n.id as u32, v, cycle, channel), frame);
             *sent = 1;
         }
     }
@@ -221,12 +221,12 @@ pub fn read(n: u32, node: u32, cycle: u32, channel: u32, frame: &[u8], vote: &mu
     if status != 0 {
         return status;
     }
-    match frames::read_vote(n as usize, node, cycle, channel, frame) {
+    match reading::read_vote(n as usize, node, cycle, channel, frame) {
         VoteRead::Whole(v) => {
             bytes::copy(&payload(v), vote);
             0
         }
-        VoteRead::Refused(f) => frames::fault_code(f),
+        VoteRead::Refused(f) => reading::fault_code(f),
     }
 }
 
@@ -249,10 +249,10 @@ pub fn receive(
         return status;
     }
     let nodes = n as usize;
-    let one = frames::read_vote(nodes, node, cycle, 0, a);
-    let other = frames::read_vote(nodes, node, cycle, 1, b);
+    let one = reading::read_vote(nodes, node, cycle, 0, a);
+    let other = reading::read_vote(nodes, node, cycle, 1, b);
     let sender = sets::single(node as usize);
-    match frames::receive_vote(one, other) {
+    match reading::receive_vote(one, other) {
         VoteReceived::Missed => {
             *arrived = sets::difference(*arrived, sender);
             0

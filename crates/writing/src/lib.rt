@@ -1,0 +1,93 @@
+// Heartbeat and vote frames, written.
+ghost use mathlib.Core.Path.{_≡_};
+ghost use mathlib.Core.List.{_++_};
+ghost use Prim.Native.Nat.{_+_, _≤_, _<_};
+ghost use lib.ListN.{length, take};
+ghost use Rattle.bigendian.specs.BigEndian.{bytesOf};
+ghost use Rattle.frames.specs.Written.{header, heartbeatFrame, voteFrame};
+use rules::Vote;
+
+// The five header bytes, as one number of 40 bits; its null frame bit is 1.
+fn header_bytes(sync: u32, startup: u32, number: u32, words: u32, cycle: u32) -> [u8; 5]
+    requires { ⌜ sync < 2 ⌝ }
+    requires { ⌜ startup < 2 ⌝ }
+    requires { ⌜ number < 2048 ⌝ }
+    requires { ⌜ words < 128 ⌝ }
+    requires { ⌜ cycle < 64 ⌝ }
+    ensures { λ r. ⌜ r ≡ header sync startup number words cycle ⌝ }
+{
+    let check = crc::header_check(sync, startup, number, words);
+    let high = (((4 + sync * 2 + startup) * 2048 + number) * 128 + words) as u64;
+    let h = high * 131072 + (check * 64) as u64 + cycle as u64;
+    [
+        (h / 4294967296 % 256) as u8,
+        (h / 16777216 % 256) as u8,
+        (h / 65536 % 256) as u8,
+        (h / 256 % 256) as u8,
+        (h % 256) as u8,
+    ]
+}
+
+// The three bytes of a frame check.
+fn write3(x: u32) -> [u8; 3]
+    ensures { λ r. ⌜ r ≡ bytesOf 3 x ⌝ }
+{
+    [
+        (x / 65536 % 256) as u8,
+        (x / 256 % 256) as u8,
+        (x % 256) as u8,
+    ]
+}
+
+pub fn write_heartbeat(
+    q: u32,
+    join: u32,
+    sync: u32,
+    startup: u32,
+    cycle: u32,
+    channel: u32,
+) -> [u8; 10]
+    requires { ⌜ q < 64 ⌝ }
+    requires { ⌜ join < 2 ⌝ }
+    requires { ⌜ sync < 2 ⌝ }
+    requires { ⌜ startup ≤ sync ⌝ }
+    requires { ⌜ cycle < 64 ⌝ }
+    ensures { λ r. ⌜ r ≡ heartbeatFrame q join sync startup cycle channel ⌝ }
+{
+    let h = header_bytes(sync, startup, q + 1, 1, cycle);
+    let mut f = [h[0], h[1], h[2], h[3], h[4], (join * 128) as u8, 0, 0, 0, 0];
+    let c = write3(crc::frame_check(crc::channel_start(channel), &f[..7]));
+    f[7] = c[0];
+    f[8] = c[1];
+    f[9] = c[2];
+    f
+}
+
+// f with the bytes of x from `at` on. A loop: an array literal of 36 elements takes the checker longer than all else here.
+fn put(f: [u8; 36], at: usize, x: &[u8]) -> [u8; 36]
+    requires { ⌜ at + length (now x) ≤ 36 ⌝ }
+    ensures { λ r. ⌜ take (at + length (now (x .entry))) r ≡ take at f ++ now (x .entry) ⌝ }
+{
+    let mut r = f;
+    let mut i = 0;
+    while i < x.len() {
+        r[at + i] = x[i];
+        i += 1;
+    }
+    r
+}
+
+pub fn write_vote(q: u32, v: Vote, cycle: u32, channel: u32) -> [u8; 36]
+    requires { ⌜ q < 64 ⌝ }
+    requires { ⌜ cycle < 64 ⌝ }
+    ensures { λ r. ⌜ r ≡ voteFrame q v cycle channel ⌝ }
+{
+    let group = v.group;
+    let h = put([0u8; 36], 0, &header_bytes(0, 0, q + 65, 14, cycle));
+    let g = put(h, 5, &bigendian::write4(group.number));
+    let m = put(g, 9, &bigendian::write8(group.set));
+    let b = put(m, 17, &bigendian::write8(group.base));
+    let w = put(b, 25, &bigendian::write8(v.view));
+    let c = write3(crc::frame_check(crc::channel_start(channel), &w[..33]));
+    put(w, 33, &c)
+}
