@@ -25,8 +25,8 @@ use Rattle.cluster.specs.declared.Roles.{Roles}
 use Rattle.cluster.specs.declared.States.{States}
 use Rattle.cluster.specs.States.{stateAt}
 use Rattle.cluster.specs.Decided.{outAt, decidedAt}
-use Rattle.bus.specs.Channels.{channelOf, voteSent, copyOf, voteRead, received, ballotsRead, decidedRead}
-use Rattle.bus.proofs.Carried.{Carries, carries}
+use Rattle.channels.specs.Channels.{channelOf, voteSent, copyOf, voteRead, received, ballotsRead, decidedRead}
+use Rattle.channels.proofs.Carried.{Carries, carries}
 
 -- an absent copy
 no-vote : (n p count channel : ℕ) → readVote n p count channel [] ≡ vote.Refused Length

@@ -1,5 +1,3 @@
-mod Carried
 mod Filled
-mod Hearing
 mod Counted
 mod Formed

@@ -2,7 +2,7 @@ use mathlib.Core.Path.{_≡_, refl}
 use Prim.Native.Nat.{_≤_, _-_}
 use native.Mathlib.Omega.{arith}
 use borrow.Author.Needs.{needs}
-use Rattle.bus.specs.Channels.{voteRead}
+use Rattle.channels.specs.Channels.{voteRead}
 use Rattle.bus.proofs.Filled.{Filled, filled-none, filled-next, filled-ballots}
 use Rattle.bus.proofs.arrive.Statement.{statement}
 use Rattle.bus.proofs.arrive.Tie as tie

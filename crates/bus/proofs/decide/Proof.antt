@@ -2,7 +2,7 @@ use mathlib.Core.Path.{sym, ap, _∙_}
 use borrow.Author.Needs.{needs}
 use Rattle.rules.specs.declared.Vote.{Vote}
 use Rattle.rules.specs.OneCycle.{memberDecides}
-use Rattle.bus.specs.Channels.{ballotsRead, decidedRead}
+use Rattle.channels.specs.Channels.{ballotsRead, decidedRead}
 use Rattle.bus.proofs.decide.Statement.{statement}
 use Rattle.bus.proofs.decide.Tie as tie
 

@@ -4,7 +4,7 @@ use Prim.Native.Nat.{ℕ}
 use borrow.Author.Needs.{needs}
 use Rattle.rules.specs.declared.Vote.{Vote}
 use Rattle.frames.specs.Written.{voteFrame}
-use Rattle.bus.specs.Channels.{withFrame}
+use Rattle.channels.specs.Channels.{withFrame}
 use Rattle.bus.proofs.put_vote.Statement.{statement}
 use Rattle.bus.proofs.put_vote.Tie as tie
 

@@ -9,7 +9,7 @@ use Rattle.sets.specs.Sets.{has}
 use Rattle.frames.specs.declared.VoteRead.{VoteRead}
 use Rattle.frames.specs.declared.VoteReceived.{VoteReceived}
 use Rattle.frames.specs.Read.{readVote, receiveVote}
-use Rattle.bus.specs.Channels.{voteRead}
+use Rattle.channels.specs.Channels.{voteRead}
 use Rattle.bus.proofs.read_vote.Statement.{statement}
 use Rattle.bus.proofs.read_vote.Tie as tie
 

@@ -1,8 +1,8 @@
 use mathlib.Core.Path.{_≡_}
 use Prim.Native.Nat.{_≤_, _-_}
 use native.Mathlib.Omega.{arith}
-use Rattle.bus.specs.Channels.{channelOf, voteSent}
-use Rattle.bus.proofs.Carried.{channel-none, channel-next, channel-end}
+use Rattle.channels.specs.Channels.{channelOf, voteSent}
+use Rattle.channels.proofs.Carried.{channel-none, channel-next, channel-end}
 use Rattle.bus.proofs.votes.Statement.{statement}
 use Rattle.bus.proofs.votes.Tie as tie
 

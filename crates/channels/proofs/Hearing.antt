@@ -22,8 +22,8 @@ use Rattle.frames.proofs.Lengths.{length-heartbeat}
 use Rattle.frames.proofs.RoundTrip.{heartbeat-back}
 use Rattle.cluster.specs.declared.Roles.{Roles}
 use Rattle.cluster.specs.Decided.{viewAt}
-use Rattle.bus.specs.Channels.{channelOf, heartbeatSent, copyOf, heartbeatRead, isAlive, isJoin, aliveRead, joinRead, viewRead}
-use Rattle.bus.proofs.Carried.{Carries, carries}
+use Rattle.channels.specs.Channels.{channelOf, heartbeatSent, copyOf, heartbeatRead, isAlive, isJoin, aliveRead, joinRead, viewRead}
+use Rattle.channels.proofs.Carried.{Carries, carries}
 
 -- an absent copy
 no-heartbeat : (p count channel : ℕ) → readHeartbeat p count channel [] ≡ beat.Refused Length

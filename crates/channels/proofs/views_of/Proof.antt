@@ -8,9 +8,9 @@ use borrow.Author.Count.{below-none}
 use Rattle.sets.specs.Sets.{_∖_}
 use Rattle.rules.specs.OneCycle.{viewOf}
 use Rattle.tallies.proofs.Arrays.{stored}
-use Rattle.bus.specs.Channels.{aliveRead, joinRead, viewRead}
-use Rattle.bus.proofs.views_of.Statement.{statement}
-use Rattle.bus.proofs.views_of.Tie as tie
+use Rattle.channels.specs.Channels.{aliveRead, joinRead, viewRead}
+use Rattle.channels.proofs.views_of.Statement.{statement}
+use Rattle.channels.proofs.views_of.Tie as tie
 
 -- a view of what was heard
 seen : (n count reach set q h alive joining x : ℕ) (a b : List ℕ) → h ≡ reach → alive ≡ aliveRead n count h a b → joining ≡ joinRead n count h a b → x ≡ viewOf n q set alive joining

@@ -12,7 +12,7 @@ use lib.ListN.{length, take, drop, replicate, length-append, length-drop, length
 use lib.Seq.{length-take-le, take-append-le, drop-append-le, take-at, drop-at}
 use borrow.Author.Tests.{eqb-false}
 use Rattle.sets.proofs.Booleans.{bool, eqb-true}
-use Rattle.bus.specs.Channels.{withFrame, withSent, channelOf}
+use Rattle.channels.specs.Channels.{withFrame, withSent, channelOf}
 
 -- what stands in the front part of a list does not change with what follows it
 front : (m k : ℕ) (s t : List ℕ) → m + k ≤ length s → take k (drop m (s ++ t)) ≡ take k (drop m s)

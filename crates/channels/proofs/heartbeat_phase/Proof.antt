@@ -1,7 +1,7 @@
 use borrow.Author.Needs.{needs}
-use Rattle.bus.proofs.Hearing.{views-read}
-use Rattle.bus.proofs.heartbeat_phase.Statement.{statement}
-use Rattle.bus.proofs.heartbeat_phase.Tie as tie
+use Rattle.channels.proofs.Hearing.{views-read}
+use Rattle.channels.proofs.heartbeat_phase.Statement.{statement}
+use Rattle.channels.proofs.heartbeat_phase.Tie as tie
 
 heartbeats-requires : tie.Need-heartbeats-requires
 heartbeats-requires c κs = search needs

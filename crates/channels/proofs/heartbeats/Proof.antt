@@ -1,10 +1,10 @@
 use mathlib.Core.Path.{_≡_}
 use Prim.Native.Nat.{_≤_, _-_}
 use native.Mathlib.Omega.{arith}
-use Rattle.bus.specs.Channels.{channelOf, heartbeatSent}
-use Rattle.bus.proofs.Carried.{channel-none, channel-next, channel-end}
-use Rattle.bus.proofs.heartbeats.Statement.{statement}
-use Rattle.bus.proofs.heartbeats.Tie as tie
+use Rattle.channels.specs.Channels.{channelOf, heartbeatSent}
+use Rattle.channels.proofs.Carried.{channel-none, channel-next, channel-end}
+use Rattle.channels.proofs.heartbeats.Statement.{statement}
+use Rattle.channels.proofs.heartbeats.Tie as tie
 
 abbrev Inv-loop : tie.InvT-loop
 Inv-loop n w count channel all₀ q₀ all q = (q ≤ n) × (all ≡ channelOf q (heartbeatSent w count channel))

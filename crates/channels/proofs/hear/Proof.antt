@@ -4,9 +4,9 @@ use native.Mathlib.Omega.{arith}
 use borrow.Author.Needs.{needs}
 use Rattle.sets.specs.Sets.{those}
 use Rattle.sets.proofs.Nodes.{those-none, those-next, those-end}
-use Rattle.bus.specs.Channels.{heartbeatRead, isAlive, isJoin, aliveRead, joinRead}
-use Rattle.bus.proofs.hear.Statement.{statement}
-use Rattle.bus.proofs.hear.Tie as tie
+use Rattle.channels.specs.Channels.{heartbeatRead, isAlive, isJoin, aliveRead, joinRead}
+use Rattle.channels.proofs.hear.Statement.{statement}
+use Rattle.channels.proofs.hear.Tie as tie
 
 abbrev Inv-loop : tie.InvT-loop
 Inv-loop n count reach a b alive₀ joining₀ p₀ alive joining p =

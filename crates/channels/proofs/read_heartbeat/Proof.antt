@@ -9,9 +9,9 @@ use Rattle.sets.specs.Sets.{has}
 use Rattle.frames.specs.declared.HeartbeatRead.{HeartbeatRead}
 use Rattle.frames.specs.declared.HeartbeatReceived.{HeartbeatReceived}
 use Rattle.frames.specs.Read.{readHeartbeat, receiveHeartbeat}
-use Rattle.bus.specs.Channels.{heartbeatRead}
-use Rattle.bus.proofs.read_heartbeat.Statement.{statement}
-use Rattle.bus.proofs.read_heartbeat.Tie as tie
+use Rattle.channels.specs.Channels.{heartbeatRead}
+use Rattle.channels.proofs.read_heartbeat.Statement.{statement}
+use Rattle.channels.proofs.read_heartbeat.Tie as tie
 
 -- what is found in the two copies is what is read there
 found : (p count reach k : ℕ) (a b : List ℕ) {x y : HeartbeatRead} {r : HeartbeatReceived} → k ≡ cond (has p reach) 10 0

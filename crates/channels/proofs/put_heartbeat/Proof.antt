@@ -2,9 +2,9 @@ use mathlib.Core.Path.{sym, ap, _∙_}
 use mathlib.Core.List.{List}
 use Prim.Native.Nat.{ℕ}
 use borrow.Author.Needs.{needs}
-use Rattle.bus.specs.Channels.{withFrame}
-use Rattle.bus.proofs.put_heartbeat.Statement.{statement}
-use Rattle.bus.proofs.put_heartbeat.Tie as tie
+use Rattle.channels.specs.Channels.{withFrame}
+use Rattle.channels.proofs.put_heartbeat.Statement.{statement}
+use Rattle.channels.proofs.put_heartbeat.Tie as tie
 
 contains-requires : tie.Need-contains-requires
 contains-requires c κs = search needs

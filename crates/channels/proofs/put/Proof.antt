@@ -7,9 +7,9 @@ use native.Mathlib.Numerals.{add-one}
 use native.Mathlib.Omega.{arith}
 use lib.ListN.{length, take, drop, getD, set, length-set}
 use lib.Seq.{paste, paste-zero, paste-suc, take-all}
-use Rattle.bus.specs.Channels.{withFrame}
-use Rattle.bus.proofs.put.Statement.{statement}
-use Rattle.bus.proofs.put.Tie as tie
+use Rattle.channels.specs.Channels.{withFrame}
+use Rattle.channels.proofs.put.Statement.{statement}
+use Rattle.channels.proofs.put.Tie as tie
 
 -- one byte more
 more : (x r c : List ℕ) (at i : ℕ) → r ≡ paste c at x i → at + i < length c → i < length x → set r (at + i) (getD x i 0) ≡ paste c at x (i + 1)
