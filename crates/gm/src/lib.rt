@@ -15,20 +15,8 @@ ghost use Rattle.entry_heartbeats.specs.Heartbeats.{
   receiveHeartbeatStatus,
   receiveHeartbeatHeard,
 };
-ghost use Rattle.entry_votes.specs.Votes.{
-  viewFrom,
-  voteOf,
-  writeVoteStatus,
-  writeVoteLeft,
-  sendVoteStatus,
-  sendVoteLeft,
-  sendVoteSent,
-  readVoteStatus,
-  readVoteLeft,
-  receiveVoteStatus,
-  receiveVoteLeft,
-  receiveVoteArrived,
-};
+ghost use Rattle.entry_votes.specs.Votes.{viewFrom, voteOf, writeVoteStatus, writeVoteLeft, sendVoteStatus, sendVoteLeft, sendVoteSent};
+ghost use Rattle.entry_arrivals.specs.Arrivals.{readVoteStatus, readVoteLeft, receiveVoteStatus, receiveVoteLeft, receiveVoteArrived};
 ghost use Rattle.entry_decide.specs.Decide.{decideStatus, decideLeft};
 ghost use Rattle.entry_row.specs.Images.{imagesStatus, imagesLeft};
 use calls::Task;
@@ -187,7 +175,7 @@ pub extern "C" fn gm_read_vote(
     ensures { λ r. ⌜ r ≡ readVoteStatus n node cycle channel (now (frame .entry)) (now (vote .entry)) ⌝ }
     ensures { λ _. ⌜ now (vote .exit) ≡ readVoteLeft n node cycle channel (now (frame .entry)) (now (vote .entry)) ⌝ }
 {
-    entry_votes::read(n, node, cycle, channel, frame, vote)
+    entry_arrivals::read(n, node, cycle, channel, frame, vote)
 }
 
 // Both copies of a node's vote: into its slot of the vote buffer, and its bit of the mask.
@@ -205,7 +193,7 @@ pub extern "C" fn gm_receive_vote(
     ensures { λ _. ⌜ now (votes .exit) ≡ receiveVoteLeft n node cycle (now (a .entry)) (now (b .entry)) (now (votes .entry)) ⌝ }
     ensures { λ _. ⌜ now (arrived .exit) ≡ receiveVoteArrived n node cycle (now (a .entry)) (now (b .entry)) (now (votes .entry)) (now (arrived .entry)) ⌝ }
 {
-    entry_votes::receive(n, node, cycle, a, b, votes, arrived)
+    entry_arrivals::receive(n, node, cycle, a, b, votes, arrived)
 }
 
 // Rules 3 to 6: the next state, from what the node heard and the votes that arrived.

@@ -10,14 +10,14 @@ use Rattle.frames.specs.Written.{votePayload}
 use Rattle.frames.specs.Read.{faultCode, readVote}
 use Rattle.frames.proofs.Lengths.{length-payload}
 use Rattle.refusal.specs.Refusal.{unless}
-use Rattle.entry_votes.specs.Votes.{readVoteNumbers, voteRefusal, payloadOr, readVoteStatus, readVoteLeft}
+use Rattle.entry_arrivals.specs.Arrivals.{readVoteNumbers, voteRefusal, payloadOr, readVoteStatus, readVoteLeft}
 use Rattle.refusal.proofs.Laws.{unless-done, unless-refused}
 use Rattle.entry_votes.proofs.Accepted.{slotStatus, accepted}
 use Rattle.lent.proofs.Copies.{copied}
 use native.Mathlib.Omega.{arith}
 use borrow.Author.Needs.{needs}
-use Rattle.entry_votes.proofs.read.Statement.{statement}
-use Rattle.entry_votes.proofs.read.Tie as tie
+use Rattle.entry_arrivals.proofs.read.Statement.{statement}
+use Rattle.entry_arrivals.proofs.read.Tie as tie
 
 module _ (n q cycle channel : ℕ) (f out : List ℕ) where
   refused : {r : ℕ} → r ≡ slotStatus n q cycle channel (length out) 28 → (r ≡ 0 → ⊥)

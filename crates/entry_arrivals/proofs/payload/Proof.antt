@@ -10,8 +10,8 @@ use Rattle.bigendian.proofs.Laws.{length-bytes}
 use Rattle.rules.specs.declared.Vote.{Vote}
 use Rattle.frames.specs.Written.{votePayload}
 use borrow.Author.Needs.{needs}
-use Rattle.entry_votes.proofs.payload.Statement.{statement}
-use Rattle.entry_votes.proofs.payload.Tie as tie
+use Rattle.entry_arrivals.proofs.payload.Statement.{statement}
+use Rattle.entry_arrivals.proofs.payload.Tie as tie
 
 -- what a `put` of k bytes leaves in front of place n
 step : (x f r : List ℕ) {front : List ℕ} (at k n : ℕ) → length x ≡ k → at + k ≡ n → at ≤ length f → take at f ≡ front

@@ -7,8 +7,8 @@ use lib.ListN.{length, take, drop}
 use borrow.Rule.Slice.PartMut.{midOf, putMid, mid-len, post-is}
 use Rattle.lent.proofs.Copies.{copied}
 use borrow.Author.Needs.{needs}
-use Rattle.entry_votes.proofs.put.Statement.{statement}
-use Rattle.entry_votes.proofs.put.Tie as tie
+use Rattle.entry_arrivals.proofs.put.Statement.{statement}
+use Rattle.entry_arrivals.proofs.put.Tie as tie
 
 -- a part of f, lent and filled
 filled : {left : List ℕ} (at : ℕ) (f x : List ℕ) → at + length x ≤ length f

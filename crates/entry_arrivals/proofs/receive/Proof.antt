@@ -14,13 +14,13 @@ use Rattle.frames.specs.Written.{votePayload}
 use Rattle.frames.specs.Read.{readVote, receiveVote}
 use Rattle.refusal.specs.Refusal.{when, first}
 use Rattle.lent.specs.Refusals.{wrongCount, wrongNode, wrongCycle, wrongLength}
-use Rattle.entry_votes.specs.Votes.{withSlot, slotOr, arrivedOr, receivedVote, receiveVoteStatus, receiveVoteLeft, receiveVoteArrived}
+use Rattle.entry_arrivals.specs.Arrivals.{withSlot, slotOr, arrivedOr, receivedVote, receiveVoteStatus, receiveVoteLeft, receiveVoteArrived}
 use Rattle.refusal.proofs.Laws.{unless-done, unless-refused}
 use Rattle.frames.proofs.Lengths.{length-payload}
 use Rattle.entry_votes.proofs.Accepted.{slotStatus, Accepted, accepted, small}
 use borrow.Author.Needs.{needs}
-use Rattle.entry_votes.proofs.receive.Statement.{statement}
-use Rattle.entry_votes.proofs.receive.Tie as tie
+use Rattle.entry_arrivals.proofs.receive.Statement.{statement}
+use Rattle.entry_arrivals.proofs.receive.Tie as tie
 
 got : (n q cycle : ℕ) (a b : List ℕ) {x y : VoteRead} {d : VoteReceived} → x ≡ readVote n q cycle 0 a → y ≡ readVote n q cycle 1 b → d ≡ receiveVote x y
     → receivedVote n q cycle a b ≡ d
