@@ -3,7 +3,7 @@
 use mathlib.Core.Path.{_≡_}
 use mathlib.Core.Bool.{Bool, not, _||_, cond}
 use mathlib.Core.List.{List, [], _∷_}
-use Prim.Native.Nat.{ℕ, _≤_}
+use Prim.Native.Nat.{ℕ, _-_, _%_, _≤_}
 use lib.Dec.{eqb, leb, ltb}
 use lib.ListN.{length}
 use Rattle.refusal.specs.Refusal.{when, first}
@@ -21,6 +21,10 @@ use Rattle.row.specs.Gathered.{nothingOf, gathered}
 -- N as the entries of a row hold it; 0 for a number that no cluster has
 unfoldable pub countByte : ℕ → ℕ
 countByte n = cond (leb n 64) n 0
+
+-- "Cycle n of a run has cycle count n - 1 modulo 64"
+abbrev pub cycleCount : ℕ → ℕ
+cycleCount n = (n - 1) % 64
 
 -- g is what was gathered of a row with these entries, for a cluster of n
 abbrev pub GatheredFrom : ℕ → Gathered → ℕ → List Node → Type 0

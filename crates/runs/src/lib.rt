@@ -12,7 +12,7 @@ ghost use Rattle.table.specs.Records.{cycleLength};
 ghost use Rattle.table.specs.Table.{cyclesIn, tableOf};
 ghost use Rattle.cluster.specs.States.{stateAt, rowOf};
 ghost use Rattle.calls.specs.Calls.{cycleStatus, cycleLeft, ranTo, callStatus, callLeft};
-ghost use Rattle.runs.specs.Answered.{countByte, GatheredFrom, rowRefusal, Leaves, rowAfter};
+ghost use Rattle.runs.specs.Answered.{countByte, cycleCount, GatheredFrom, rowRefusal, Leaves, rowAfter};
 use calls::Task;
 use cluster::States;
 use row::Gathered;
@@ -64,6 +64,7 @@ fn row_status(n: u32, len: usize, good: bool, s: &[u8]) -> u32
 // The cycle count of cycle k of a run, as its frames have it.
 fn cycle_count(k: u64) -> u32
     requires { ⌜ 0 < k ⌝ }
+    ensures { λ r. ⌜ r ≡ cycleCount k ⌝ }
     ensures { λ r. ⌜ r < 64 ⌝ }
 {
     ((k - 1) % 64) as u32
