@@ -1,4 +1,7 @@
 # The commands of this repository. They need the Rattle kit's `rt` on the path, and gcc and g++ for the C side.
+# The version of the library stands here alone.
+VERSION = 0.1.0
+PREFIX = /usr/local
 ARCHIVE = target/staticlib/libgm.a
 GROUPRUN = target/bin/grouprun
 BUILD = target/c
@@ -8,8 +11,22 @@ PLAIN = $(BUILD)/plainrun
 C99 = gcc -std=c99 -Wall -Wextra -Werror -pedantic -O2 -Iinclude
 
 SOURCES = crates.txt $(shell find crates -name '*.rt' -o -name '*.antt')
+ENTRIES = entry_states entry_heartbeats entry_votes entry_arrivals entry_decide entry_row
 
-.PHONY: run test host archive archive-test vectors-test badinput-test text-test compare bench stack format
+# so many crates and edits at a time: more than most machines have cores for, so that none waits for the slowest of a pair
+export RT_JOBS ?= 4
+
+# what `make install` places, and where below PREFIX; of the documents only those that the header and the manual pages send a reader to
+PROGRAMS = $(GROUPRUN) $(TABLETEXT)
+MANUALS = man/grouprun.1 man/tabletext.1
+DOCUMENTS = docs/CLAIMS.md docs/DECISIONS.md
+EXAMPLES = examples/host.c examples/host.out $(wildcard examples/p*)
+below = $(addprefix $(1)/,$(notdir $(2)))
+INSTALLED = $(call below,bin,$(PROGRAMS)) lib/libgm.a lib/pkgconfig/gm.pc include/gm.h $(call below,share/man/man1,$(MANUALS)) \
+    $(call below,share/doc/gm,$(DOCUMENTS)) $(call below,share/doc/gm/examples,$(EXAMPLES))
+TO = $(DESTDIR)$(PREFIX)
+
+.PHONY: run test host archive archive-test examples-test vectors-test badinput-test text-test trace-test compare bench stack format install uninstall install-test
 
 # the run that the product paper prints: its table is made from a text, and its lines must be those of the paper
 run: $(GROUPRUN) $(TABLETEXT)
@@ -18,7 +35,7 @@ run: $(GROUPRUN) $(TABLETEXT)
 	@diff examples/p1.out $(BUILD)/p1.out
 
 # the whole gate; its last line is 'N passed, 0 failed'
-test: format archive-test host run vectors-test badinput-test text-test
+test: format trace-test archive-test host run examples-test vectors-test badinput-test text-test install-test
 	rt ci
 
 # five units run the example of the paper through frames on both channels
@@ -31,7 +48,9 @@ host: archive
 # the archive that a host links, with include/gm.h
 archive: $(ARCHIVE)
 
+# what gm rests on is proved side by side first: `rt staticlib` alone takes one crate after the other
 $(ARCHIVE): $(SOURCES)
+	rt check $(ENTRIES) grouprun
 	rt staticlib gm
 
 # header and archive agree
@@ -63,6 +82,10 @@ vectors-test: $(GROUPRUN)
 badinput-test: $(GROUPRUN) $(PLAIN) $(TABLEGEN) $(TABLETEXT)
 	@tests/badinput.sh $(GROUPRUN) $(PLAIN) $(TABLEGEN) $(BUILD)
 
+# the examples of the product paper print their runs
+examples-test: $(GROUPRUN) $(TABLETEXT)
+	@tests/examples.sh $(GROUPRUN) $(TABLETEXT)
+
 # texts and tables turn into each other and back
 text-test: $(TABLETEXT)
 	@tests/text.sh $(TABLETEXT) $(BUILD)
@@ -90,3 +113,29 @@ stack: archive
 # every file stands in the layout that `rt fmt` gives
 format:
 	rt fmt --check
+
+# docs/TRACE.md names what is there, and every wrong edit
+trace-test:
+	@tests/trace.sh
+
+# for builders of hosts: programs, library, manual pages, documents and examples below PREFIX; DESTDIR stands before it where a package is made
+install: $(PROGRAMS) $(ARCHIVE)
+	@case "$(PREFIX)" in /*) ;; *) echo "PREFIX is '$(PREFIX)', not an absolute path" >&2; exit 1 ;; esac
+	install -D -m 755 -t "$(TO)/bin" $(PROGRAMS)
+	install -D -m 644 -t "$(TO)/lib" $(ARCHIVE)
+	install -D -m 644 -t "$(TO)/include" include/gm.h
+	install -D -m 644 -t "$(TO)/share/man/man1" $(MANUALS)
+	install -D -m 644 -t "$(TO)/share/doc/gm" $(DOCUMENTS)
+	install -D -m 644 -t "$(TO)/share/doc/gm/examples" $(EXAMPLES)
+	install -D -m 644 gm.pc.in "$(TO)/lib/pkgconfig/gm.pc"
+	sed -i -e 's|@PREFIX@|$(PREFIX)|' -e 's|@VERSION@|$(VERSION)|' "$(TO)/lib/pkgconfig/gm.pc"
+
+# the files that install places and the two folders that are its own; folders that others share stay
+uninstall:
+	rm -f $(foreach file,$(INSTALLED),"$(TO)/$(file)")
+	for folder in share/doc/gm/examples share/doc/gm; do \
+	    [ ! -d "$(TO)/$$folder" ] || rmdir --ignore-fail-on-non-empty "$(TO)/$$folder"; done
+
+# an installation is whole, is enough for a host, and goes away again
+install-test: $(PROGRAMS) $(ARCHIVE)
+	@tests/install.sh

@@ -1,0 +1,91 @@
+#!/usr/bin/env bash
+# Whether `make install` places what it should, a host and a table need nothing beside it, and `make uninstall` takes away that and nothing else.
+# Usage: install.sh, after make archive, target/bin/grouprun and target/c/tabletext
+set -euo pipefail
+cd "$(dirname "$0")/.."
+work=$(mktemp -d)
+trap 'rm -rf "$work"' EXIT
+prefix=$work/prefix stage=$work/stage tried=()
+fail() { echo "tests/install: $*" >&2; exit 1; }
+# variables of an outer make must not reach the installation that is tried
+quiet_make() { env -u MAKEFLAGS -u MAKELEVEL make --silent "$@"; }
+files() { (cd "$1" && find . ! -type d -printf '%m %P\n' | sort -k 2); }
+
+expected() {
+    printf '755 bin/%s\n' grouprun tabletext
+    printf '644 %s\n' include/gm.h lib/libgm.a lib/pkgconfig/gm.pc share/man/man1/{grouprun,tabletext}.1
+    printf '644 share/doc/gm/%s\n' CLAIMS.md DECISIONS.md examples/host.{c,out} examples/p{1,2,3,4,5,6,7,8,9,10}.{out,txt}
+}
+
+# the same files with and without DESTDIR, which stands in none of them
+check_files() {
+    quiet_make install PREFIX="$prefix" DESTDIR= >"$work/log" || fail "make install failed"
+    diff <(expected | sort -k 2) <(files "$prefix") || fail "modes and files (>) are not those expected (<)"
+    quiet_make install PREFIX="$prefix" DESTDIR="$stage" >"$work/log" || fail "make install with DESTDIR failed"
+    diff -r "$prefix" "$stage$prefix" || fail "DESTDIR changes what is installed"
+    ! quiet_make install PREFIX=relative DESTDIR="$stage/" >"$work/log" 2>&1 || fail "a relative PREFIX is taken"
+    grep -q 'not an absolute path' "$work/log" || fail "a relative PREFIX fails otherwise: $(<"$work/log")"
+}
+
+# a host built outside the repository with the flags given, so that only what is installed can be found
+builds_host() {
+    (cd "$work" && gcc -std=c99 -Wall -Wextra -Werror -pedantic prefix/share/doc/gm/examples/host.c "$@" -o host) || fail "host.c does not build with $*"
+    "$work/host" | cmp - examples/host.out || fail "the host prints another run"
+}
+
+check_host() {
+    builds_host "-I$prefix/include" "-L$prefix/lib" -lgm
+    tried+=("a host")
+}
+
+check_pkg_config() {
+    local version flags
+    command -v pkg-config >/dev/null || { tried+=("gm.pc NOT TRIED, since pkg-config is not installed"); return; }
+    export PKG_CONFIG_PATH=$prefix/lib/pkgconfig PKG_CONFIG_LIBDIR=
+    pkg-config --validate gm || fail "gm.pc is not valid"
+    version=$(pkg-config --modversion gm)
+    [ "$version" = "$(sed -n 's/^VERSION = //p' Makefile)" ] || fail "gm.pc has version $version, the Makefile another"
+    read -ra flags <<<"$(pkg-config --cflags --libs gm)"
+    builds_host "${flags[@]}"
+    tried+=("gm.pc")
+}
+
+check_run() {
+    "$prefix/bin/tabletext" table <examples/p1.txt | "$prefix/bin/grouprun" | cmp - examples/p1.out || fail "grouprun prints another run"
+    tried+=("a table")
+}
+
+check_manuals() {
+    local page warnings
+    command -v groff >/dev/null || { tried+=("manual pages NOT TRIED, since groff is not installed"); return; }
+    for page in grouprun tabletext; do
+        warnings=$(groff -man -Tascii -P-c -ww "$prefix/share/man/man1/$page.1" 2>&1 >"$work/page") || fail "$page.1: $warnings"
+        [ -z "$warnings" ] || fail "$page.1: $warnings"
+        grep -q "^ *$page - " "$work/page" || fail "$page.1 does not name its program"
+    done
+    tried+=("manual pages")
+}
+
+# what others placed beside it stays, and nothing else
+check_uninstall() {
+    local folder
+    for folder in bin lib/pkgconfig share/man/man1 share/doc/gm/examples; do
+        echo other >"$prefix/$folder/other"
+    done
+    quiet_make uninstall PREFIX="$prefix" DESTDIR= >"$work/log" || fail "make uninstall failed"
+    [ "$(files "$prefix" | grep -c '/other$')" -eq 4 ] || fail "uninstall takes a file of others"
+    ! files "$prefix" | grep -v '/other$' || fail "uninstall leaves these files"
+    quiet_make uninstall PREFIX="$prefix" DESTDIR="$stage" >"$work/log" || fail "make uninstall with DESTDIR failed"
+    [ -z "$(files "$stage")" ] || fail "uninstall with DESTDIR leaves files"
+    [ ! -e "$stage$prefix/share/doc/gm" ] || fail "uninstall leaves its own folder"
+    quiet_make uninstall PREFIX="$prefix" DESTDIR="$stage" >"$work/log" || fail "a second make uninstall failed"
+}
+
+check_files
+check_host
+check_pkg_config
+check_run
+check_manuals
+check_uninstall
+printf -v list '; %s' "${tried[@]}"
+echo "tests/install: $(expected | wc -l) files come and go; tried: ${list#; }"
