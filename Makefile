@@ -26,7 +26,8 @@ INSTALLED = $(call below,bin,$(PROGRAMS)) lib/libgm.a lib/pkgconfig/gm.pc includ
     $(call below,share/doc/gm,$(DOCUMENTS)) $(call below,share/doc/gm/examples,$(EXAMPLES))
 TO = $(DESTDIR)$(PREFIX)
 
-.PHONY: run test host archive archive-test examples-test vectors-test badinput-test text-test trace-test compare bench stack format install uninstall install-test
+.PHONY: run test host archive compare bench stack format install uninstall load load-test load-full load-program load-archive
+.PHONY: archive-test examples-test vectors-test badinput-test text-test trace-test install-test
 
 # the run that the product paper prints: its table is made from a text, and its lines must be those of the paper
 run: $(GROUPRUN) $(TABLETEXT)
@@ -89,6 +90,22 @@ examples-test: $(GROUPRUN) $(TABLETEXT)
 # texts and tables turn into each other and back
 text-test: $(TABLETEXT)
 	@tests/text.sh $(TABLETEXT) $(BUILD)
+
+# what the program does with slow, closed, full and failing ends and with a table of BYTES bytes, and the archive in threads and under memory checkers
+load: load-program load-archive
+
+# the same in less time, and with more bytes than 32 bits count, where every part must run
+load-test: export BYTES = 16777216
+load-test: export CYCLES = 200
+load-full: export BYTES = 4300000000
+load-full: export ALL = 1
+load-test load-full: load
+
+load-program: $(GROUPRUN) $(PLAIN) $(TABLEGEN) $(TABLETEXT)
+	@tests/load.sh $(GROUPRUN) $(PLAIN) $(TABLEGEN) $(BUILD)
+
+load-archive: archive $(TABLEGEN)
+	@tests/memory.sh $(ARCHIVE) $(TABLEGEN) $(BUILD)
 
 # every entry, the printed run and demand 3 itself, beside an implementation of the product paper in plain Rust; needs cargo
 compare: archive $(GROUPRUN)

@@ -2,8 +2,9 @@
  * gm.h: proved group membership for a FlexRay cluster of 2 to 64 nodes: the node end, and runs over a fault table.
  *
  * Every entry answers 0, or the number of its refusal (GM_REFUSED_..). A refusal changes nothing: every buffer and every result is as it came in. Of
- * several refusals the lowest is given. No entry allocates, blocks, keeps anything between calls, or reads or writes outside the buffers that it is
- * lent; any number and any bytes may be passed. What is promised of each entry is proved for all inputs; docs/CLAIMS.md says by which theorem.
+ * several refusals the lowest is given; a table is looked at record by record, and its first refusal is given. No entry allocates, blocks, keeps anything
+ * between calls, or reads or writes outside the buffers that it is lent; any number and any bytes may be passed. What is promised of each entry is proved
+ * for all inputs; docs/CLAIMS.md says by which theorem.
  *
  * A buffer is a pointer and its length in bytes. A pointer is never null, also where the length is 0. Buffers and results of one call do not overlap;
  * what happens where they do is outside the promise. Sets of nodes are masks, bit q for node q. Entries may be called from several threads at once on
@@ -60,9 +61,9 @@ extern "C" {
 /* of a table or a record of it */
 #define GM_REFUSED_CUT 11       /* it ends inside a record, or is empty */
 #define GM_REFUSED_KIND 12      /* a wrong mark or kind, a first record not of kind 1, a later one of kind 1 */
-#define GM_REFUSED_LIMIT 13     /* a founding set that is empty or has a bit at n or above; in a record, any bit, receiver, count or entry beyond its limit */
+#define GM_REFUSED_LIMIT 13     /* a founding set that is empty or has a bit at n or above; in a record, any bit, receiver, count or entry beyond its limit; a cycle after number 4294967295 */
 
-/* no entry on one node, and none on a row, uses more stack, in bytes: 2232 and 37640 as measured (make stack), with some to spare */
+/* no entry on one node, and none on a row, uses more stack, in bytes: 2232 and 36712 as measured (make stack), with some to spare */
 #define GM_STACK_BYTES 2560
 #define GM_ROW_STACK_BYTES 40960
 
