@@ -8,6 +8,8 @@ BUILD = target/c
 TABLETEXT = $(BUILD)/tabletext
 TABLEGEN = $(BUILD)/table
 PLAIN = $(BUILD)/plainrun
+PLAINLIB = $(BUILD)/libplain.a
+MEASURE = $(BUILD)/measure
 C99 = gcc -std=c99 -Wall -Wextra -Werror -pedantic -O2 -Iinclude
 
 SOURCES = crates.txt $(shell find crates -name '*.rt' -o -name '*.antt')
@@ -71,9 +73,19 @@ $(TABLEGEN): bench/table.c
 	@mkdir -p $(BUILD)
 	@$(C99) $< -o $@
 
-$(PLAIN): bench/grouprun.c
+$(MEASURE): bench/measure.c
 	@mkdir -p $(BUILD)
-	@$(C99) -O3 $< -o $@
+	@$(C99) $< -o $@
+
+$(PLAIN): $(wildcard bench/plain/*)
+	@mkdir -p $(BUILD)
+	@$(C99) -O3 $(addprefix bench/plain/,grouprun.c cluster.c records.c) -o $@
+
+# the entries of gm.h in plain C
+$(PLAINLIB): $(wildcard bench/plain/*)
+	@mkdir -p $(BUILD)/plain
+	@for part in frames node cluster records rows; do $(C99) -O3 -c bench/plain/$$part.c -o $(BUILD)/plain/$$part.o || exit 1; done
+	@rm -f $@ && ar rcs $@ $(addprefix $(BUILD)/plain/,frames.o node.o cluster.o records.o rows.o)
 
 # the stored tables give their stored runs
 vectors-test: $(GROUPRUN)
@@ -101,7 +113,7 @@ load-full: export BYTES = 4300000000
 load-full: export ALL = 1
 load-test load-full: load
 
-load-program: $(GROUPRUN) $(PLAIN) $(TABLEGEN) $(TABLETEXT)
+load-program: $(GROUPRUN) $(PLAIN) $(TABLEGEN) $(TABLETEXT) $(MEASURE)
 	@tests/load.sh $(GROUPRUN) $(PLAIN) $(TABLEGEN) $(BUILD)
 
 load-archive: archive $(TABLEGEN)
@@ -111,15 +123,9 @@ load-archive: archive $(TABLEGEN)
 compare: archive $(GROUPRUN)
 	@tests/host.sh
 
-# the cost of a decision, of reading a frame and of a table's run beside plain C at -O3, and of runs on a row of images
-bench: archive $(GROUPRUN) $(PLAIN) $(TABLEGEN)
-	@mkdir -p $(BUILD)
-	@gcc -std=gnu99 -O3 -c -Ibench bench/plain.c -o $(BUILD)/plain.o
-	@gcc -std=gnu99 -O3 -Iinclude -Ibench bench/node.c $(BUILD)/plain.o $(ARCHIVE) -o $(BUILD)/bench
-	@$(BUILD)/bench
-	@gcc -std=gnu99 -O3 -Iinclude bench/rows.c $(ARCHIVE) -o $(BUILD)/rows
-	@$(BUILD)/rows
-	@bench/grouprun.sh $(GROUPRUN) $(PLAIN) $(TABLEGEN) $(BUILD)
+# one table of times: archive and grouprun beside the paper's implementation in Rust and beside plain C at -O3, on the same data; needs cargo
+bench: archive $(GROUPRUN) $(PLAIN) $(PLAINLIB) $(TABLEGEN) $(MEASURE)
+	@bench/speed.sh $(GROUPRUN) $(PLAIN) $(TABLEGEN) $(MEASURE) $(BUILD)
 
 # the deepest stack use of an entry, in bytes
 stack: archive

@@ -1,6 +1,6 @@
 #!/usr/bin/env bash
 # What grouprun does where its input is slow, closed or fails, where its output is closed or full, and with a table of BYTES bytes that is never stored.
-# Each case names the exit status, the last line and the whole output. Usage: load.sh GROUPRUN PLAIN TABLEGEN BUILD-FOLDER, which holds tabletext
+# Each case names the exit status, the last line and the whole output. Usage: load.sh GROUPRUN PLAIN TABLEGEN BUILD-FOLDER, which holds tabletext and measure
 set -euo pipefail
 grouprun=$(realpath "$1") plain=$2 tablegen=$3 build=$4 here=$(dirname "$0")
 bytes=${BYTES:-134217728} most_kib=4096 limit=20
@@ -24,7 +24,6 @@ run() { timeout "$limit" "$grouprun"; }
 run_of() { "$plain" <"$1"; }
 
 gcc -std=c99 -Wall -Wextra -Werror -pedantic -O2 "$here/feed.c" -o "$build/feed"
-gcc -std=c99 -Wall -Wextra -Werror -pedantic -O2 "$here/../bench/measure.c" -o "$build/measure"
 "$build/tabletext" table <"$here/../examples/p1.txt" >"$p1"
 # longer than the program's input buffer, and much longer than a pipe and both its buffers
 "$tablegen" 64 3000 1 1 >"$short"

@@ -1,135 +1,171 @@
-//! The sixteen entries of the archive, as include/gm.h declares them, on slices. A slice's pointer is never null, and two slices of which one is
-//! mutable never overlap, which is all that the header asks.
+//! The sixteen entries of the archive, as include/gm.h declares them, on slices, and the same entries in plain C, to be timed beside them. A slice's
+//! pointer is never null, and two slices of which one is mutable never overlap, which is all that the header asks.
 #![allow(unsafe_code)]
 
 use crate::NodeEnd;
 
-extern "C" {
-    fn gm_begin(n: u32, node: u32, founding: u64, state: *mut u8, state_len: usize) -> u32;
-    fn gm_stop(state: *mut u8, state_len: usize) -> u32;
-    fn gm_start(state: *mut u8, state_len: usize) -> u32;
-    fn gm_write_heartbeat(n: u32, node: u32, join: u32, sync: u32, startup: u32, cycle: u32, channel: u32, frame: *mut u8, frame_len: usize) -> u32;
-    fn gm_send_heartbeat(
-        state: *const u8,
-        state_len: usize,
-        sync: u32,
-        startup: u32,
-        cycle: u32,
-        channel: u32,
-        frame: *mut u8,
-        frame_len: usize,
-        sent: *mut u32,
-    ) -> u32;
-    fn gm_read_heartbeat(n: u32, node: u32, cycle: u32, channel: u32, frame: *const u8, frame_len: usize, join: *mut u32) -> u32;
-    fn gm_receive_heartbeat(n: u32, node: u32, cycle: u32, a: *const u8, a_len: usize, b: *const u8, b_len: usize, heard: *mut u32) -> u32;
-    fn gm_view(state: *const u8, state_len: usize, heard0: u64, heard1: u64, view: *mut u64) -> u32;
-    fn gm_write_vote(
-        n: u32,
-        node: u32,
-        number: u32,
-        set: u64,
-        base: u64,
-        view: u64,
-        cycle: u32,
-        channel: u32,
-        frame: *mut u8,
-        frame_len: usize,
-    ) -> u32;
-    fn gm_send_vote(
-        state: *const u8,
-        state_len: usize,
-        heard0: u64,
-        heard1: u64,
-        cycle: u32,
-        channel: u32,
-        frame: *mut u8,
-        frame_len: usize,
-        sent: *mut u32,
-    ) -> u32;
-    fn gm_read_vote(n: u32, node: u32, cycle: u32, channel: u32, frame: *const u8, frame_len: usize, vote: *mut u8, vote_len: usize) -> u32;
-    fn gm_receive_vote(
-        n: u32,
-        node: u32,
-        cycle: u32,
-        a: *const u8,
-        a_len: usize,
-        b: *const u8,
-        b_len: usize,
-        votes: *mut u8,
-        votes_len: usize,
-        arrived: *mut u64,
-    ) -> u32;
-    fn gm_decide(state: *mut u8, state_len: usize, heard0: u64, heard1: u64, votes: *const u8, votes_len: usize, arrived: u64) -> u32;
-    fn gm_cycle(n: u32, row: *mut u8, row_len: usize, record: *const u8, record_len: usize) -> u32;
-    fn gm_run(row: *mut u8, row_len: usize, table: *const u8, table_len: usize) -> u32;
-    fn gm_run_frames(row: *mut u8, row_len: usize, table: *const u8, table_len: usize) -> u32;
+/// a linked library that gives the entries under these names
+macro_rules! linked {
+    (
+        $host:ident:
+        $begin:ident $stop:ident $start:ident $write_heartbeat:ident $send_heartbeat:ident $read_heartbeat:ident
+        $receive_heartbeat:ident $view:ident $write_vote:ident $send_vote:ident $read_vote:ident
+        $receive_vote:ident $decide:ident $cycle:ident $run:ident $run_frames:ident
+    ) => {
+        pub struct $host;
+
+        extern "C" {
+            fn $begin(n: u32, node: u32, founding: u64, state: *mut u8, state_len: usize) -> u32;
+            fn $stop(state: *mut u8, state_len: usize) -> u32;
+            fn $start(state: *mut u8, state_len: usize) -> u32;
+            fn $write_heartbeat(
+                n: u32,
+                node: u32,
+                join: u32,
+                sync: u32,
+                startup: u32,
+                cycle: u32,
+                channel: u32,
+                frame: *mut u8,
+                frame_len: usize,
+            ) -> u32;
+            fn $send_heartbeat(
+                state: *const u8,
+                state_len: usize,
+                sync: u32,
+                startup: u32,
+                cycle: u32,
+                channel: u32,
+                frame: *mut u8,
+                frame_len: usize,
+                sent: *mut u32,
+            ) -> u32;
+            fn $read_heartbeat(n: u32, node: u32, cycle: u32, channel: u32, frame: *const u8, frame_len: usize, join: *mut u32) -> u32;
+            fn $receive_heartbeat(n: u32, node: u32, cycle: u32, a: *const u8, a_len: usize, b: *const u8, b_len: usize, heard: *mut u32) -> u32;
+            fn $view(state: *const u8, state_len: usize, heard0: u64, heard1: u64, view: *mut u64) -> u32;
+            fn $write_vote(
+                n: u32,
+                node: u32,
+                number: u32,
+                set: u64,
+                base: u64,
+                view: u64,
+                cycle: u32,
+                channel: u32,
+                frame: *mut u8,
+                frame_len: usize,
+            ) -> u32;
+            fn $send_vote(
+                state: *const u8,
+                state_len: usize,
+                heard0: u64,
+                heard1: u64,
+                cycle: u32,
+                channel: u32,
+                frame: *mut u8,
+                frame_len: usize,
+                sent: *mut u32,
+            ) -> u32;
+            fn $read_vote(n: u32, node: u32, cycle: u32, channel: u32, frame: *const u8, frame_len: usize, vote: *mut u8, vote_len: usize) -> u32;
+            fn $receive_vote(
+                n: u32,
+                node: u32,
+                cycle: u32,
+                a: *const u8,
+                a_len: usize,
+                b: *const u8,
+                b_len: usize,
+                votes: *mut u8,
+                votes_len: usize,
+                arrived: *mut u64,
+            ) -> u32;
+            fn $decide(state: *mut u8, state_len: usize, heard0: u64, heard1: u64, votes: *const u8, votes_len: usize, arrived: u64) -> u32;
+            fn $cycle(n: u32, row: *mut u8, row_len: usize, record: *const u8, record_len: usize) -> u32;
+            fn $run(row: *mut u8, row_len: usize, table: *const u8, table_len: usize) -> u32;
+            fn $run_frames(row: *mut u8, row_len: usize, table: *const u8, table_len: usize) -> u32;
+        }
+
+        // SAFETY, of every call below: the pointers and lengths are those of slices and references that live through the call and do not overlap.
+        impl NodeEnd for $host {
+            fn begin(&self, n: u32, node: u32, founding: u64, state: &mut [u8]) -> u32 {
+                unsafe { $begin(n, node, founding, state.as_mut_ptr(), state.len()) }
+            }
+
+            fn stop(&self, state: &mut [u8]) -> u32 {
+                unsafe { $stop(state.as_mut_ptr(), state.len()) }
+            }
+
+            fn start(&self, state: &mut [u8]) -> u32 {
+                unsafe { $start(state.as_mut_ptr(), state.len()) }
+            }
+
+            fn write_heartbeat(&self, n: u32, node: u32, join: u32, sync: u32, startup: u32, cycle: u32, channel: u32, frame: &mut [u8]) -> u32 {
+                unsafe { $write_heartbeat(n, node, join, sync, startup, cycle, channel, frame.as_mut_ptr(), frame.len()) }
+            }
+
+            fn send_heartbeat(&self, state: &[u8], sync: u32, startup: u32, cycle: u32, channel: u32, frame: &mut [u8], sent: &mut u32) -> u32 {
+                unsafe { $send_heartbeat(state.as_ptr(), state.len(), sync, startup, cycle, channel, frame.as_mut_ptr(), frame.len(), sent) }
+            }
+
+            fn read_heartbeat(&self, n: u32, node: u32, cycle: u32, channel: u32, frame: &[u8], join: &mut u32) -> u32 {
+                unsafe { $read_heartbeat(n, node, cycle, channel, frame.as_ptr(), frame.len(), join) }
+            }
+
+            fn receive_heartbeat(&self, n: u32, node: u32, cycle: u32, a: &[u8], b: &[u8], heard: &mut u32) -> u32 {
+                unsafe { $receive_heartbeat(n, node, cycle, a.as_ptr(), a.len(), b.as_ptr(), b.len(), heard) }
+            }
+
+            fn view(&self, state: &[u8], heard0: u64, heard1: u64, view: &mut u64) -> u32 {
+                unsafe { $view(state.as_ptr(), state.len(), heard0, heard1, view) }
+            }
+
+            fn write_vote(&self, n: u32, node: u32, number: u32, set: u64, base: u64, view: u64, cycle: u32, channel: u32, frame: &mut [u8]) -> u32 {
+                unsafe { $write_vote(n, node, number, set, base, view, cycle, channel, frame.as_mut_ptr(), frame.len()) }
+            }
+
+            fn send_vote(&self, state: &[u8], heard0: u64, heard1: u64, cycle: u32, channel: u32, frame: &mut [u8], sent: &mut u32) -> u32 {
+                unsafe { $send_vote(state.as_ptr(), state.len(), heard0, heard1, cycle, channel, frame.as_mut_ptr(), frame.len(), sent) }
+            }
+
+            fn read_vote(&self, n: u32, node: u32, cycle: u32, channel: u32, frame: &[u8], vote: &mut [u8]) -> u32 {
+                unsafe { $read_vote(n, node, cycle, channel, frame.as_ptr(), frame.len(), vote.as_mut_ptr(), vote.len()) }
+            }
+
+            fn receive_vote(&self, n: u32, node: u32, cycle: u32, a: &[u8], b: &[u8], votes: &mut [u8], arrived: &mut u64) -> u32 {
+                unsafe { $receive_vote(n, node, cycle, a.as_ptr(), a.len(), b.as_ptr(), b.len(), votes.as_mut_ptr(), votes.len(), arrived) }
+            }
+
+            fn decide(&self, state: &mut [u8], heard0: u64, heard1: u64, votes: &[u8], arrived: u64) -> u32 {
+                unsafe { $decide(state.as_mut_ptr(), state.len(), heard0, heard1, votes.as_ptr(), votes.len(), arrived) }
+            }
+
+            fn cycle(&self, n: u32, row: &mut [u8], record: &[u8]) -> u32 {
+                unsafe { $cycle(n, row.as_mut_ptr(), row.len(), record.as_ptr(), record.len()) }
+            }
+
+            fn run(&self, row: &mut [u8], table: &[u8]) -> u32 {
+                unsafe { $run(row.as_mut_ptr(), row.len(), table.as_ptr(), table.len()) }
+            }
+
+            fn run_frames(&self, row: &mut [u8], table: &[u8]) -> u32 {
+                unsafe { $run_frames(row.as_mut_ptr(), row.len(), table.as_ptr(), table.len()) }
+            }
+        }
+    };
 }
 
-pub struct Archive;
+linked! {
+    Archive:
+    gm_begin gm_stop gm_start gm_write_heartbeat gm_send_heartbeat gm_read_heartbeat
+    gm_receive_heartbeat gm_view gm_write_vote gm_send_vote gm_read_vote
+    gm_receive_vote gm_decide gm_cycle gm_run gm_run_frames
+}
 
-// SAFETY, of every call below: the pointers and lengths are those of slices and references that live through the call and do not overlap.
-impl NodeEnd for Archive {
-    fn begin(&self, n: u32, node: u32, founding: u64, state: &mut [u8]) -> u32 {
-        unsafe { gm_begin(n, node, founding, state.as_mut_ptr(), state.len()) }
-    }
-
-    fn stop(&self, state: &mut [u8]) -> u32 {
-        unsafe { gm_stop(state.as_mut_ptr(), state.len()) }
-    }
-
-    fn start(&self, state: &mut [u8]) -> u32 {
-        unsafe { gm_start(state.as_mut_ptr(), state.len()) }
-    }
-
-    fn write_heartbeat(&self, n: u32, node: u32, join: u32, sync: u32, startup: u32, cycle: u32, channel: u32, frame: &mut [u8]) -> u32 {
-        unsafe { gm_write_heartbeat(n, node, join, sync, startup, cycle, channel, frame.as_mut_ptr(), frame.len()) }
-    }
-
-    fn send_heartbeat(&self, state: &[u8], sync: u32, startup: u32, cycle: u32, channel: u32, frame: &mut [u8], sent: &mut u32) -> u32 {
-        unsafe { gm_send_heartbeat(state.as_ptr(), state.len(), sync, startup, cycle, channel, frame.as_mut_ptr(), frame.len(), sent) }
-    }
-
-    fn read_heartbeat(&self, n: u32, node: u32, cycle: u32, channel: u32, frame: &[u8], join: &mut u32) -> u32 {
-        unsafe { gm_read_heartbeat(n, node, cycle, channel, frame.as_ptr(), frame.len(), join) }
-    }
-
-    fn receive_heartbeat(&self, n: u32, node: u32, cycle: u32, a: &[u8], b: &[u8], heard: &mut u32) -> u32 {
-        unsafe { gm_receive_heartbeat(n, node, cycle, a.as_ptr(), a.len(), b.as_ptr(), b.len(), heard) }
-    }
-
-    fn view(&self, state: &[u8], heard0: u64, heard1: u64, view: &mut u64) -> u32 {
-        unsafe { gm_view(state.as_ptr(), state.len(), heard0, heard1, view) }
-    }
-
-    fn write_vote(&self, n: u32, node: u32, number: u32, set: u64, base: u64, view: u64, cycle: u32, channel: u32, frame: &mut [u8]) -> u32 {
-        unsafe { gm_write_vote(n, node, number, set, base, view, cycle, channel, frame.as_mut_ptr(), frame.len()) }
-    }
-
-    fn send_vote(&self, state: &[u8], heard0: u64, heard1: u64, cycle: u32, channel: u32, frame: &mut [u8], sent: &mut u32) -> u32 {
-        unsafe { gm_send_vote(state.as_ptr(), state.len(), heard0, heard1, cycle, channel, frame.as_mut_ptr(), frame.len(), sent) }
-    }
-
-    fn read_vote(&self, n: u32, node: u32, cycle: u32, channel: u32, frame: &[u8], vote: &mut [u8]) -> u32 {
-        unsafe { gm_read_vote(n, node, cycle, channel, frame.as_ptr(), frame.len(), vote.as_mut_ptr(), vote.len()) }
-    }
-
-    fn receive_vote(&self, n: u32, node: u32, cycle: u32, a: &[u8], b: &[u8], votes: &mut [u8], arrived: &mut u64) -> u32 {
-        unsafe { gm_receive_vote(n, node, cycle, a.as_ptr(), a.len(), b.as_ptr(), b.len(), votes.as_mut_ptr(), votes.len(), arrived) }
-    }
-
-    fn decide(&self, state: &mut [u8], heard0: u64, heard1: u64, votes: &[u8], arrived: u64) -> u32 {
-        unsafe { gm_decide(state.as_mut_ptr(), state.len(), heard0, heard1, votes.as_ptr(), votes.len(), arrived) }
-    }
-
-    fn cycle(&self, n: u32, row: &mut [u8], record: &[u8]) -> u32 {
-        unsafe { gm_cycle(n, row.as_mut_ptr(), row.len(), record.as_ptr(), record.len()) }
-    }
-
-    fn run(&self, row: &mut [u8], table: &[u8]) -> u32 {
-        unsafe { gm_run(row.as_mut_ptr(), row.len(), table.as_ptr(), table.len()) }
-    }
-
-    fn run_frames(&self, row: &mut [u8], table: &[u8]) -> u32 {
-        unsafe { gm_run_frames(row.as_mut_ptr(), row.len(), table.as_ptr(), table.len()) }
-    }
+// bench/plain
+#[cfg(feature = "speed")]
+linked! {
+    Plain:
+    plain_begin plain_stop plain_start plain_write_heartbeat plain_send_heartbeat plain_read_heartbeat
+    plain_receive_heartbeat plain_view plain_write_vote plain_send_vote plain_read_vote
+    plain_receive_vote plain_decide plain_cycle plain_run plain_run_frames
 }

@@ -3,6 +3,8 @@
 
 pub mod archive;
 pub mod claims;
+#[cfg(feature = "speed")]
+pub mod clock;
 pub mod generate;
 pub mod paper;
 pub mod random;

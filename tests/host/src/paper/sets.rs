@@ -20,7 +20,11 @@ pub fn inside(part: Set, whole: Set) -> bool {
 
 /// all nodes of N
 pub fn all(n: usize) -> Set {
-    those(n, |_| true)
+    if n < 64 {
+        only(n) - 1
+    } else {
+        Set::MAX
+    }
 }
 
 /// the nodes below n with a property

@@ -1,0 +1,141 @@
+#include "cluster.h"
+
+/* every node holds the founding set, so that no slot is without a value */
+void begin(struct cluster *c)
+{
+    struct group founding = {c->members, c->members, 0};
+    for (unsigned q = 0; q < c->n; q++)
+        c->groups[q] = founding;
+}
+
+static uint64_t view(const struct cluster *c, const struct faults *f, unsigned q)
+{
+    uint64_t set = c->groups[q].set;
+    return only(q) | (((set & c->members) | (~set & c->joining)) & ~(f->lost[HEARTBEAT] | f->missed[HEARTBEAT][q]));
+}
+
+static int same_group(const struct group *g, const struct group *h)
+{
+    return g->set == h->set && g->base == h->base && g->number == h->number;
+}
+
+static int same_vote(const struct ballot *b, const struct group *g, uint64_t v)
+{
+    return b->view == v && same_group(&b->group, g);
+}
+
+/* the place of a vote value, which is added if it is new */
+static unsigned place_of(struct poll *p, const struct group *g, uint64_t v)
+{
+    struct ballot fresh = {*g, v, 0, size_of(g->base)};
+    unsigned k = 0;
+    while (k < p->count && !same_vote(&p->ballots[k], g, v))
+        k++;
+    if (k == p->count)
+        p->ballots[p->count++] = fresh;
+    return k;
+}
+
+/* groups equal votes. The place of the voter before is tried first, since most votes are equal */
+static void vote(const struct cluster *c, const struct faults *f, struct poll *p)
+{
+    unsigned k = 0;
+    p->count = 0;
+    for (uint64_t left = c->members; left != 0; left &= left - 1) {
+        unsigned q = lowest(left);
+        const struct group *g = &c->groups[q];
+        uint64_t v = view(c, f, q);
+        if (k == p->count || !same_vote(&p->ballots[k], g, v))
+            k = place_of(p, g, v);
+        p->ballots[k].senders |= only(q);
+        p->own[q] = (uint8_t)k;
+    }
+}
+
+static struct group successor(const struct ballot *b, uint64_t voters)
+{
+    struct group g;
+    g.set = voters | (b->view & ~b->group.set);
+    g.base = g.set | b->group.set;
+    g.number = b->group.number + (g.set != b->group.set);
+    return g;
+}
+
+/*
+ * Rule 5. Two views cannot both have a quorum, so that a member stays exactly if its own has one. Members that count the same votes as the one before
+ * decide the same.
+ */
+static uint64_t decide_members(struct cluster *c, const struct faults *f, const struct poll *p)
+{
+    uint64_t halted = 0, counted = 0;
+    const struct ballot *last = 0;
+    struct group next = {0, 0, 0};
+    int stays = 0;
+    for (uint64_t left = c->members; left != 0; left &= left - 1) {
+        unsigned q = lowest(left);
+        const struct ballot *b = &p->ballots[p->own[q]];
+        uint64_t voters = b->group.set & ((b->senders & ~(f->lost[VOTE] | f->missed[VOTE][q])) | only(q));
+        if (b != last || voters != counted) {
+            last = b;
+            counted = voters;
+            stays = 2 * size_of(voters) > b->size;
+            next = successor(b, voters);
+        }
+        if (stays)
+            c->groups[q] = next;
+        else
+            halted |= only(q);
+    }
+    return halted;
+}
+
+/* whether another ballot for the group of q's own has a quorum of what reaches q */
+static int has_rival(const struct poll *p, uint64_t reaches, unsigned q)
+{
+    const struct ballot *own = &p->ballots[p->own[q]];
+    for (unsigned k = 0; k < p->count; k++) {
+        const struct ballot *b = &p->ballots[k];
+        if (b != own && same_group(&b->group, &own->group) && 2 * size_of(b->senders & b->group.set & reaches) > b->size)
+            return 1;
+    }
+    return 0;
+}
+
+uint64_t outvoted(const struct poll *p, const struct faults *f, uint64_t halted)
+{
+    uint64_t m = 0;
+    for (; halted != 0; halted &= halted - 1)
+        if (has_rival(p, ~(f->lost[VOTE] | f->missed[VOTE][lowest(halted)]), lowest(halted)))
+            m |= halted & -halted;
+    return m;
+}
+
+/* rule 6 */
+static int join(struct cluster *c, const struct faults *f, const struct poll *p, unsigned q)
+{
+    uint64_t reaches = ~(f->lost[VOTE] | f->missed[VOTE][q]);
+    unsigned fitting = 0;
+    for (unsigned k = 0; k < p->count; k++) {
+        const struct ballot *b = &p->ballots[k];
+        uint64_t voters = b->senders & b->group.set & reaches;
+        if (!in(b->view & ~b->group.set, q) || 2 * size_of(voters) <= b->size)
+            continue;
+        fitting++;
+        c->groups[q] = successor(b, voters);
+    }
+    return fitting == 1;
+}
+
+void cycle(struct cluster *c, const struct faults *f, struct poll *p, uint64_t *halted, uint64_t *entered)
+{
+    c->members &= ~f->stop;
+    c->joining = (c->joining & ~f->stop) | (f->start & ~c->members);
+    vote(c, f, p);
+    *halted = decide_members(c, f, p);
+    *entered = 0;
+    for (uint64_t left = c->joining; left != 0; left &= left - 1)
+        if (join(c, f, p, lowest(left)))
+            *entered |= left & -left;
+    c->members = (c->members & ~*halted) | *entered;
+    c->joining &= ~*entered;
+}

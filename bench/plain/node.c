@@ -1,0 +1,233 @@
+/* One node: its state's image, what it sends, and what it decides. */
+#include "plain.h"
+#include "bits.h"
+
+#include <string.h>
+
+struct group {
+    uint32_t number;
+    uint64_t set, base;
+};
+
+/* the votes that arrived, a slot for each sender */
+struct votes {
+    uint32_t numbers[NODES];
+    uint64_t sets[NODES], bases[NODES], views[NODES], present;
+};
+
+int sound_state(const uint8_t *s)
+{
+    unsigned kind = s[0], reason = s[1], q = s[2], n = s[3];
+    uint64_t set = mask_at(s + 8), base = mask_at(s + 16);
+    if (kind > MEMBER || reason > 2 || n < 2 || n > NODES || q >= n || (kind != OUT && reason != 0))
+        return 0;
+    if (kind != MEMBER)
+        return word_at(s + 4) == 0 && set == 0 && base == 0;
+    return in(set, q) && (set & ~base) == 0 && (base & ~all_of(n)) == 0;
+}
+
+static uint32_t refused_state(const uint8_t *s, size_t len)
+{
+    if (len != STATE_BYTES)
+        return 3;
+    return sound_state(s) ? 0 : 4;
+}
+
+static void put_group(uint8_t *s, uint32_t number, uint64_t set, uint64_t base)
+{
+    put_number(s + 4, 4, number);
+    put_number(s + 8, 8, set);
+    put_number(s + 16, 8, base);
+}
+
+static void leave(uint8_t *s, unsigned kind, unsigned reason)
+{
+    s[0] = (uint8_t)kind;
+    s[1] = (uint8_t)reason;
+    memset(s + 4, 0, STATE_BYTES - 4);
+}
+
+uint32_t plain_begin(uint32_t n, uint32_t node, uint64_t founding, uint8_t *state, size_t state_len)
+{
+    if (n < 2 || n > NODES)
+        return 1;
+    if (node >= n)
+        return 2;
+    if (state_len != STATE_BYTES)
+        return 3;
+    if (founding == 0 || (founding & ~all_of(n)) != 0)
+        return 13;
+    leave(state, OUT, 0);
+    state[2] = (uint8_t)node;
+    state[3] = (uint8_t)n;
+    if (in(founding, node)) {
+        state[0] = MEMBER;
+        put_group(state, 0, founding, founding);
+    }
+    return 0;
+}
+
+uint32_t plain_stop(uint8_t *state, size_t state_len)
+{
+    uint32_t refused = refused_state(state, state_len);
+    if (refused == 0)
+        leave(state, OUT, 0);
+    return refused;
+}
+
+uint32_t plain_start(uint8_t *state, size_t state_len)
+{
+    uint32_t refused = refused_state(state, state_len);
+    if (refused == 0 && state[0] == OUT)
+        leave(state, JOINING, 0);
+    return refused;
+}
+
+uint32_t plain_send_heartbeat(const uint8_t *state, size_t state_len, uint32_t sync, uint32_t startup, uint32_t cycle, uint32_t channel,
+                              uint8_t *frame, size_t frame_len, uint32_t *sent)
+{
+    uint32_t refused;
+    if (sync > 1 || startup > sync || cycle > 63 || channel > 1)
+        return 2;
+    if (frame_len != HEARTBEAT_BYTES)
+        return 3;
+    refused = refused_state(state, state_len);
+    if (refused != 0)
+        return refused;
+    *sent = state[0] != OUT;
+    return *sent == 0 ? 0 : plain_write_heartbeat(state[3], state[2], state[0] == JOINING, sync, startup, cycle, channel, frame, frame_len);
+}
+
+static uint64_t view_of(const uint8_t *s, uint64_t heard0, uint64_t heard1)
+{
+    uint64_t set = mask_at(s + 8);
+    return s[0] != MEMBER ? 0 : (only(s[2]) | (set & heard0) | (~set & heard1)) & all_of(s[3]);
+}
+
+uint32_t plain_view(const uint8_t *state, size_t state_len, uint64_t heard0, uint64_t heard1, uint64_t *view)
+{
+    uint32_t refused = refused_state(state, state_len);
+    if (refused == 0)
+        *view = view_of(state, heard0, heard1);
+    return refused;
+}
+
+uint32_t plain_send_vote(const uint8_t *state, size_t state_len, uint64_t heard0, uint64_t heard1, uint32_t cycle, uint32_t channel, uint8_t *frame,
+                         size_t frame_len, uint32_t *sent)
+{
+    uint32_t refused;
+    if (cycle > 63 || channel > 1)
+        return 2;
+    if (frame_len != VOTE_FRAME_BYTES)
+        return 3;
+    refused = refused_state(state, state_len);
+    if (refused != 0)
+        return refused;
+    *sent = state[0] == MEMBER;
+    if (*sent == 0)
+        return 0;
+    return plain_write_vote(state[3], state[2], word_at(state + 4), mask_at(state + 8), mask_at(state + 16), view_of(state, heard0, heard1), cycle,
+                            channel, frame, frame_len);
+}
+
+static void read_votes(struct votes *v, unsigned n, unsigned q, const uint8_t *bytes, uint64_t arrived)
+{
+    v->present = 0;
+    for (unsigned p = 0; p < n; p++, bytes += VOTE_BYTES) {
+        v->numbers[p] = word_at(bytes);
+        v->sets[p] = mask_at(bytes + 4);
+        v->bases[p] = mask_at(bytes + 12);
+        v->views[p] = mask_at(bytes + 20);
+        if (p != q && in(arrived, p) && sound_vote(n, p, v->sets[p], v->bases[p], v->views[p]))
+            v->present |= only(p);
+    }
+}
+
+/* those of `among` that hold the group g */
+static uint64_t holders(const struct votes *v, unsigned n, uint64_t among, const struct group *g)
+{
+    uint64_t m = 0;
+    for (unsigned p = 0; p < n; p++)
+        if (in(among, p) && v->numbers[p] == g->number && v->sets[p] == g->set && v->bases[p] == g->base)
+            m |= only(p);
+    return m;
+}
+
+static uint64_t tally(const struct votes *v, unsigned n, uint64_t among, uint64_t view)
+{
+    uint64_t m = 0;
+    for (unsigned p = 0; p < n; p++)
+        if (in(among, p) && v->views[p] == view)
+            m |= only(p);
+    return m;
+}
+
+static void become_member(uint8_t *s, const struct group *g, uint64_t voters, uint64_t view)
+{
+    uint64_t set = voters | (view & ~g->set);
+    s[0] = MEMBER;
+    put_group(s, set == g->set ? g->number : (uint32_t)(g->number + 1), set, set | g->set);
+}
+
+/* whether some view has a quorum; each is tallied once */
+static int rival(const struct votes *v, unsigned n, uint64_t counted, uint64_t base)
+{
+    while (counted != 0) {
+        uint64_t m = tally(v, n, counted, v->views[lowest(counted)]);
+        if (quorum(m, base))
+            return 1;
+        counted &= ~m;
+    }
+    return 0;
+}
+
+/* rule 5 */
+static void member(uint8_t *s, uint64_t view, const struct votes *v)
+{
+    struct group g = {word_at(s + 4), mask_at(s + 8), mask_at(s + 16)};
+    unsigned n = s[3];
+    uint64_t counted = holders(v, n, v->present & g.set, &g), mine = tally(v, n, counted, view) | only(s[2]);
+    if (quorum(mine, g.base))
+        become_member(s, &g, mine, view);
+    else
+        leave(s, OUT, rival(v, n, counted, g.base) ? 2 : 1);
+}
+
+/* Rule 6. Each vote value is tallied once; a sound vote has its sender in its set, so that all equal ones count. */
+static void joiner(uint8_t *s, const struct votes *v)
+{
+    struct group found = {0, 0, 0};
+    uint64_t voters = 0, view = 0, left = v->present;
+    unsigned n = s[3], q = s[2], fitting = 0;
+    while (left != 0) {
+        unsigned p = lowest(left);
+        struct group g = {v->numbers[p], v->sets[p], v->bases[p]};
+        uint64_t m = tally(v, n, holders(v, n, left, &g), v->views[p]);
+        left &= ~m;
+        if (!in(v->views[p] & ~g.set, q) || !quorum(m, g.base))
+            continue;
+        fitting++;
+        found = g;
+        voters = m;
+        view = v->views[p];
+    }
+    if (fitting == 1)
+        become_member(s, &found, voters, view);
+}
+
+uint32_t plain_decide(uint8_t *state, size_t state_len, uint64_t heard0, uint64_t heard1, const uint8_t *votes, size_t votes_len, uint64_t arrived)
+{
+    struct votes v;
+    uint32_t refused;
+    if (votes_len != VOTES_BYTES)
+        return 3;
+    refused = refused_state(state, state_len);
+    if (refused != 0 || state[0] == OUT)
+        return refused;
+    read_votes(&v, state[3], state[2], votes, arrived);
+    if (state[0] == MEMBER)
+        member(state, view_of(state, heard0, heard1), &v);
+    else
+        joiner(state, &v);
+    return 0;
+}

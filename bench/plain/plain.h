@@ -1,0 +1,39 @@
+/* The entries of gm.h in plain C, from the product paper alone: what the archive is timed beside. Arguments and refusals are those of gm.h. */
+#ifndef PLAIN_H
+#define PLAIN_H
+
+#include <stddef.h>
+#include <stdint.h>
+
+enum { STATE_BYTES = 24, HEARTBEAT_BYTES = 10, VOTE_FRAME_BYTES = 36, VOTE_BYTES = 28, VOTES_BYTES = 1792 };
+
+uint32_t plain_begin(uint32_t n, uint32_t node, uint64_t founding, uint8_t *state, size_t state_len);
+uint32_t plain_stop(uint8_t *state, size_t state_len);
+uint32_t plain_start(uint8_t *state, size_t state_len);
+uint32_t plain_write_heartbeat(uint32_t n, uint32_t node, uint32_t join, uint32_t sync, uint32_t startup, uint32_t cycle, uint32_t channel,
+                               uint8_t *frame, size_t frame_len);
+uint32_t plain_send_heartbeat(const uint8_t *state, size_t state_len, uint32_t sync, uint32_t startup, uint32_t cycle, uint32_t channel,
+                              uint8_t *frame, size_t frame_len, uint32_t *sent);
+uint32_t plain_read_heartbeat(uint32_t n, uint32_t node, uint32_t cycle, uint32_t channel, const uint8_t *frame, size_t frame_len, uint32_t *join);
+uint32_t plain_receive_heartbeat(uint32_t n, uint32_t node, uint32_t cycle, const uint8_t *a, size_t a_len, const uint8_t *b, size_t b_len,
+                                 uint32_t *heard);
+uint32_t plain_view(const uint8_t *state, size_t state_len, uint64_t heard0, uint64_t heard1, uint64_t *view);
+uint32_t plain_write_vote(uint32_t n, uint32_t node, uint32_t number, uint64_t set, uint64_t base, uint64_t view, uint32_t cycle, uint32_t channel,
+                          uint8_t *frame, size_t frame_len);
+uint32_t plain_send_vote(const uint8_t *state, size_t state_len, uint64_t heard0, uint64_t heard1, uint32_t cycle, uint32_t channel, uint8_t *frame,
+                         size_t frame_len, uint32_t *sent);
+uint32_t plain_read_vote(uint32_t n, uint32_t node, uint32_t cycle, uint32_t channel, const uint8_t *frame, size_t frame_len, uint8_t *vote,
+                         size_t vote_len);
+uint32_t plain_receive_vote(uint32_t n, uint32_t node, uint32_t cycle, const uint8_t *a, size_t a_len, const uint8_t *b, size_t b_len, uint8_t *votes,
+                            size_t votes_len, uint64_t *arrived);
+uint32_t plain_decide(uint8_t *state, size_t state_len, uint64_t heard0, uint64_t heard1, const uint8_t *votes, size_t votes_len, uint64_t arrived);
+uint32_t plain_cycle(uint32_t n, uint8_t *row, size_t row_len, const uint8_t *record, size_t record_len);
+uint32_t plain_run(uint8_t *row, size_t row_len, const uint8_t *table, size_t table_len);
+uint32_t plain_run_frames(uint8_t *row, size_t row_len, const uint8_t *table, size_t table_len);
+
+/* the kinds of a state, and what is well formed: shared by the files of this folder */
+enum { OUT, JOINING, MEMBER };
+int sound_vote(unsigned n, unsigned q, uint64_t set, uint64_t base, uint64_t view);
+int sound_state(const uint8_t *state);
+
+#endif

@@ -1,0 +1,14 @@
+#!/usr/bin/env bash
+# One table of times: the archive and grouprun beside the implementation of the product paper in plain Rust (tests/host) and beside plain C (bench/plain).
+# Usage: speed.sh GROUPRUN PLAIN TABLEGEN MEASURE BUILD-FOLDER, after make archive and the C programs and library
+set -euo pipefail
+paths=() host=$(dirname "$0")/../tests/host
+for path in "$@"; do paths+=("$(realpath "$path")"); done
+(cd "$host" && cargo build --quiet --profile fast --features speed --offline -j1 --bin speed --bin paperrun)
+cat <<'HEADING'
+Processor time, the best of several turns taken in rotation. ours: libgm.a and grouprun as compiled. Rust: tests/host at opt-level 3 with link-time
+optimisation, without overflow checks. C: bench/plain, gcc -O3. All three are for plain x86-64 and work out both checks bit by bit.
+Ratios are of times: below 1, ours is faster. No entry gives a check alone: the header check is timed as a vote frame that is refused for it (refusal 6),
+the frame check as a frame of 262 bytes that is refused after it, as not due (refusal 9).
+HEADING
+"$host"/target/fast/speed "${paths[@]}"

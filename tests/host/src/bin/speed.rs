@@ -1,0 +1,335 @@
+//! One table of times: the archive and grouprun beside the paper's implementation in Rust and beside plain C, in the same run on the same data.
+//! Usage: speed GROUPRUN PLAINRUN TABLEGEN MEASURE FOLDER, the last one for the tables that the programs read.
+use host::archive::{Archive, Plain};
+use host::clock::processor_time;
+use host::paper::entries::Paper;
+use host::paper::frames::{
+    frame, heartbeat, vote_frame, vote_header, vote_payload, Header, HEARTBEAT_BYTES, VOTES_BYTES, VOTE_BYTES, VOTE_FRAME_BYTES,
+};
+use host::paper::rules::Vote;
+use host::paper::sets::{all, only, Set};
+use host::paper::state::{beginning, image, row_image, Group, State, Unit, IMAGE_BYTES};
+use host::paper::table::{cycle_length, FIRST_BYTES};
+use host::NodeEnd;
+use std::fs::{self, File};
+use std::path::{Path, PathBuf};
+use std::process::{Command, Stdio};
+
+/// the archive, the paper's implementation and plain C
+const HANDS: [&dyn NodeEnd; 3] = [&Archive, &Paper, &Plain];
+const TURNS: usize = 25;
+/// a program takes no further turn once its turns took so many seconds
+const PROGRAM_SECONDS: f64 = 1.0;
+/// a turn has so many calls that it takes at least this long, in nanoseconds
+const TURN: f64 = 3e6;
+const COUNTS: [usize; 3] = [5, 16, 64];
+const FAULTS: [&str; 2] = ["clean", "mixed"];
+/// cycles of a table, for the calls on a row; and of a program's table, times N
+const CYCLES: usize = 400;
+const FRAMED_CYCLES: usize = 8;
+const PROGRAM_CYCLES: usize = 5_000_000;
+/// cycle count and channel of the frames
+const CYCLE: u32 = 7;
+const CHANNEL: u32 = 1;
+
+/// a call to be timed: it leaves its result in the buffer and answers a status
+struct Operation<'a> {
+    name: &'a str,
+    n: usize,
+    status: u32,
+    /// the buffer's length
+    len: usize,
+    call: &'a dyn Fn(&dyn NodeEnd, &mut [u8]) -> u32,
+}
+
+/// how times are shown
+#[derive(Clone, Copy)]
+enum Shown {
+    Nanoseconds,
+    CyclesPerSecond,
+}
+
+fn print_row(name: &str, n: usize, shown: Shown, times: [f64; 3]) {
+    let cell = |time: f64| match shown {
+        Shown::Nanoseconds => format!("{time:.0} ns"),
+        Shown::CyclesPerSecond => format!("{:.0} cycles/s", 1e9 / time),
+    };
+    let [ours, rust, c] = times;
+    println!("{name:<42} {n:>3} {:>18} {:>18} {:>18} {:>8.2} {:>8.2}", cell(ours), cell(rust), cell(c), ours / rust, ours / c);
+}
+
+/// all three answer as they should and leave the same bytes
+fn check(operation: &Operation) {
+    let results = HANDS.map(|hand| {
+        let mut left = vec![0xa5; operation.len];
+        assert_eq!((operation.call)(hand, &mut left), operation.status, "{}, N {}", operation.name, operation.n);
+        left
+    });
+    assert!(results[0] == results[1] && results[0] == results[2], "{}, N {}: other results", operation.name, operation.n);
+}
+
+/// nanoseconds of processor time for so many calls
+fn turn(operation: &Operation, hand: &dyn NodeEnd, left: &mut [u8], calls: u32) -> f64 {
+    let began = processor_time();
+    for _ in 0..calls {
+        assert_eq!((operation.call)(hand, left), operation.status);
+    }
+    processor_time() - began
+}
+
+fn calls_of_a_turn(operation: &Operation, hand: &dyn NodeEnd, left: &mut [u8]) -> u32 {
+    let mut calls = 1;
+    while turn(operation, hand, left, calls) < TURN {
+        calls *= 2;
+    }
+    calls
+}
+
+/// the time of one call of each, the least of its turns
+fn time(operation: &Operation) -> [f64; 3] {
+    check(operation);
+    let mut left = vec![0; operation.len];
+    let calls = HANDS.map(|hand| calls_of_a_turn(operation, hand, &mut left));
+    let mut least = [f64::INFINITY; 3];
+    for k in (0..TURNS).flat_map(|_| 0..HANDS.len()) {
+        least[k] = least[k].min(turn(operation, HANDS[k], &mut left, calls[k]) / f64::from(calls[k]));
+    }
+    least
+}
+
+fn call(name: &str, n: usize, status: u32, len: usize, call: &dyn Fn(&dyn NodeEnd, &mut [u8]) -> u32) {
+    print_row(name, n, Shown::Nanoseconds, time(&Operation { name, n, status, len, call }));
+}
+
+/// one call is many cycles
+fn cycles(name: &str, n: usize, count: usize, call: &dyn Fn(&dyn NodeEnd, &mut [u8]) -> u32) {
+    let operation = Operation { name, n, status: 0, len: n * IMAGE_BYTES, call };
+    print_row(name, n, Shown::CyclesPerSecond, time(&operation).map(|time| time / count as f64));
+}
+
+/// the checks, through frames that the reader of a vote refuses because of them or after them
+fn checks() {
+    let due = vote_frame(0, &agreeing(64), CYCLE, CHANNEL);
+    let mut wrong_header = due.clone();
+    wrong_header[3] ^= 1;
+    call("header check (a frame refused by it)", 64, 6, VOTE_BYTES, &|hand, left| hand.read_vote(64, 0, CYCLE, CHANNEL, &wrong_header, left));
+    let longest = frame(&Header { words: 127, ..vote_header(0, CYCLE) }, &[0x5a; 254], CHANNEL);
+    call("frame check of 259 bytes (frame not due)", 64, 9, VOTE_BYTES, &|hand, left| hand.read_vote(64, 0, CYCLE, CHANNEL, &longest, left));
+}
+
+fn heartbeats() {
+    let [a, b] = [0, 1].map(|channel| heartbeat(9, false, true, false, CYCLE, channel));
+    let number = |value: u32, left: &mut [u8]| left.copy_from_slice(&value.to_ne_bytes());
+    call("write heartbeat", 64, 0, HEARTBEAT_BYTES, &|hand, left| hand.write_heartbeat(64, 9, 0, 1, 0, CYCLE, 1, left));
+    call("read heartbeat", 64, 0, 4, &|hand, left| {
+        let mut join = 2;
+        let status = hand.read_heartbeat(64, 9, CYCLE, 1, &b, &mut join);
+        number(join, left);
+        status
+    });
+    call("receive heartbeat, two channels", 64, 0, 4, &|hand, left| {
+        let mut heard = 3;
+        let status = hand.receive_heartbeat(64, 9, CYCLE, &a, &b, &mut heard);
+        number(heard, left);
+        status
+    });
+}
+
+fn votes() {
+    let Vote { group: Group { number, set, base }, view } = agreeing(64);
+    let [a, b] = [0, 1].map(|channel| vote_frame(9, &agreeing(64), CYCLE, channel));
+    call("write vote", 64, 0, VOTE_FRAME_BYTES, &|hand, left| hand.write_vote(64, 9, number, set, base, view, CYCLE, 1, left));
+    call("read vote", 64, 0, VOTE_BYTES, &|hand, left| hand.read_vote(64, 9, CYCLE, 1, &b, left));
+    call("receive vote, two channels", 64, 0, VOTES_BYTES, &|hand, left| hand.receive_vote(64, 9, CYCLE, &a, &b, left, &mut 0));
+}
+
+fn group(set: Set) -> Group {
+    Group { number: 0, set, base: set }
+}
+
+/// the vote of a unit that heard all of its group, and its group are all of N
+fn agreeing(n: usize) -> Vote {
+    Vote { group: group(all(n)), view: all(n) }
+}
+
+/// the others hold the group of all and did not hear the last node
+fn without_last(n: usize) -> Vote {
+    Vote { view: all(n - 1), ..agreeing(n) }
+}
+
+/// the others hold a group without the last node and heard it
+fn with_last(n: usize) -> Vote {
+    Vote { group: group(all(n - 1)), view: all(n) }
+}
+
+/// a decision of the last node of N on the votes of the others
+struct Decision {
+    name: &'static str,
+    joining: bool,
+    /// less than half of the others' votes arrive
+    too_few: bool,
+    /// of N and the sender
+    vote: fn(usize, usize) -> Vote,
+}
+
+const DECISIONS: [Decision; 6] = [
+    Decision { name: "decide: member, all agree", joining: false, too_few: false, vote: |n, _| agreeing(n) },
+    Decision { name: "decide: member, outvoted", joining: false, too_few: false, vote: |n, _| without_last(n) },
+    Decision { name: "decide: member, too few votes", joining: false, too_few: true, vote: |n, _| without_last(n) },
+    Decision {
+        name: "decide: member, all votes differ",
+        joining: false,
+        too_few: false,
+        vote: |n, q| Vote { view: all(n) & !only(q + 1), ..agreeing(n) },
+    },
+    Decision { name: "decide: joiner, all agree", joining: true, too_few: false, vote: |n, _| with_last(n) },
+    Decision { name: "decide: joiner, too few votes", joining: true, too_few: true, vote: |n, _| with_last(n) },
+];
+
+fn decide(decision: &Decision, n: usize) {
+    let state = if decision.joining { State::Joining } else { State::Member(group(all(n))) };
+    let begun = image(&Unit { n, node: n - 1, state });
+    let voters = if decision.too_few { (n - 1) / 2 } else { n - 1 };
+    let mut slots = vec![0; VOTES_BYTES];
+    for q in 0..voters {
+        slots[VOTE_BYTES * q..VOTE_BYTES * (q + 1)].copy_from_slice(&vote_payload(&(decision.vote)(n, q)));
+    }
+    call(decision.name, n, 0, IMAGE_BYTES, &|hand, left| {
+        left.copy_from_slice(&begun);
+        hand.decide(left, all(n), 0, &slots, all(voters))
+    });
+}
+
+/// where things are
+struct Places {
+    /// grouprun, the paper's run and plain C's
+    programs: [PathBuf; 3],
+    tablegen: PathBuf,
+    measure: PathBuf,
+    table: PathBuf,
+}
+
+impl Places {
+    fn of_arguments() -> Places {
+        let arguments: Vec<PathBuf> = std::env::args_os().skip(1).map(PathBuf::from).collect();
+        let [grouprun, plainrun, tablegen, measure, folder] = &arguments[..] else { panic!("five paths") };
+        let paperrun = std::env::current_exe().expect("this program has a path").with_file_name("paperrun");
+        Places {
+            programs: [grouprun.clone(), paperrun, plainrun.clone()],
+            tablegen: tablegen.clone(),
+            measure: measure.clone(),
+            table: folder.join("speed.tab"),
+        }
+    }
+
+    /// a table with all nodes as founders, and clean or mixed cycles
+    fn make_table(&self, n: usize, cycles: usize, mode: usize) -> Vec<u8> {
+        let arguments = [n, cycles, 1, mode].map(|number| number.to_string());
+        let made = Command::new(&self.tablegen).args(arguments).output().expect("the table's program runs");
+        assert!(made.status.success(), "a table is made");
+        made.stdout
+    }
+
+    fn open_table(&self) -> File {
+        File::open(&self.table).expect("the table is there")
+    }
+
+    /// what a program prints for the table
+    fn printed(&self, program: &Path) -> Vec<u8> {
+        let answer = Command::new(program).stdin(self.open_table()).output().expect("the program runs");
+        assert!(answer.status.success(), "{} ends well", program.display());
+        answer.stdout
+    }
+
+    /// processor seconds and KiB of memory of one turn
+    fn measured(&self, program: &Path) -> (f64, u64) {
+        let answer = Command::new(&self.measure).arg(program).stdin(self.open_table()).stdout(Stdio::null()).output().expect("measure runs");
+        assert!(answer.status.success(), "{} ends well", program.display());
+        let text = String::from_utf8_lossy(&answer.stderr).into_owned();
+        let (seconds, memory) = text.trim().split_once(' ').expect("two numbers");
+        (seconds.parse().expect("seconds"), memory.parse().expect("KiB"))
+    }
+
+    /// nanoseconds of a cycle
+    fn time_programs(&self, n: usize, cycles: usize, mode: usize) -> [f64; 3] {
+        fs::write(&self.table, self.make_table(n, cycles, mode)).expect("the table is written");
+        let runs = self.programs.each_ref().map(|program| self.printed(program));
+        assert!(runs[0] == runs[1] && runs[0] == runs[2], "N {n}, {}: other runs", FAULTS[mode]);
+        let (mut least, mut total) = ([f64::INFINITY; 3], [0.0; 3]);
+        for k in (0..TURNS).flat_map(|_| 0..HANDS.len()) {
+            if total[k] < PROGRAM_SECONDS {
+                let (seconds, _) = self.measured(&self.programs[k]);
+                least[k] = least[k].min(seconds);
+                total[k] += seconds;
+            }
+        }
+        least.map(|seconds| seconds * 1e9 / cycles as f64)
+    }
+}
+
+/// the records of a table's cycles
+fn records(table: &[u8]) -> Vec<&[u8]> {
+    let (mut rest, mut found) = (&table[FIRST_BYTES..], Vec::new());
+    while let Some(len) = cycle_length(rest) {
+        let (record, after) = rest.split_at(len);
+        found.push(record);
+        rest = after;
+    }
+    found
+}
+
+fn single_cycles(places: &Places, n: usize, mode: usize) {
+    let table = places.make_table(n, CYCLES, mode);
+    let begun = row_image(&beginning(n, all(n)));
+    let records = records(&table);
+    cycles(&format!("cycle, {}", FAULTS[mode]), n, CYCLES, &|hand, row| {
+        row.copy_from_slice(&begun);
+        records.iter().map(|record| hand.cycle(n as u32, row, record)).max().unwrap_or(0)
+    });
+}
+
+fn run(places: &Places, n: usize, mode: usize) {
+    let table = places.make_table(n, CYCLES, mode);
+    cycles(&format!("run, {}", FAULTS[mode]), n, CYCLES, &|hand, row| hand.run(row, &table));
+}
+
+fn framed_run(places: &Places, n: usize, mode: usize) {
+    let table = places.make_table(n, FRAMED_CYCLES, mode);
+    cycles(&format!("run through frames, {}", FAULTS[mode]), n, FRAMED_CYCLES, &|hand, row| hand.run_frames(row, &table));
+}
+
+fn programs(places: &Places, n: usize, mode: usize) {
+    let cycles = PROGRAM_CYCLES / n;
+    print_row(&format!("grouprun, {}", FAULTS[mode]), n, Shown::CyclesPerSecond, places.time_programs(n, cycles, mode));
+}
+
+fn on_tables(places: &Places, operation: fn(&Places, usize, usize)) {
+    for mode in 0..FAULTS.len() {
+        COUNTS.into_iter().for_each(|n| operation(places, n, mode));
+    }
+}
+
+/// the memory of a long run
+fn memory(places: &Places) {
+    const LONG: usize = 1_000_000;
+    fs::write(&places.table, places.make_table(64, LONG, 0)).expect("the table is written");
+    let [ours, _, c] = places.programs.each_ref();
+    println!("peak memory at 64 nodes and {LONG} clean cycles: grouprun {} KiB, C {} KiB", places.measured(ours).1, places.measured(c).1);
+    fs::remove_file(&places.table).expect("the table is removed");
+}
+
+fn main() {
+    let places = Places::of_arguments();
+    println!("{:<42} {:>3} {:>18} {:>18} {:>18} {:>8} {:>8}", "operation", "N", "ours", "Rust", "C", "to Rust", "to C");
+    checks();
+    heartbeats();
+    votes();
+    for decision in &DECISIONS {
+        COUNTS.into_iter().for_each(|n| decide(decision, n));
+    }
+    on_tables(&places, single_cycles);
+    on_tables(&places, run);
+    on_tables(&places, framed_run);
+    on_tables(&places, programs);
+    memory(&places);
+}
