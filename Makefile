@@ -29,7 +29,7 @@ INSTALLED = $(call below,bin,$(PROGRAMS)) lib/libgm.a lib/pkgconfig/gm.pc includ
 TO = $(DESTDIR)$(PREFIX)
 
 .PHONY: run test host archive compare bench stack format install uninstall load load-test load-full load-program load-archive
-.PHONY: archive-test examples-test vectors-test badinput-test text-test trace-test install-test
+.PHONY: archive-test compare-test examples-test vectors-test badinput-test text-test trace-test install-test
 
 # the run that the product paper prints: its table is made from a text, and its lines must be those of the paper
 run: $(GROUPRUN) $(TABLETEXT)
@@ -38,7 +38,7 @@ run: $(GROUPRUN) $(TABLETEXT)
 	@diff examples/p1.out $(BUILD)/p1.out
 
 # the whole gate; its last line is 'N passed, 0 failed'
-test: format trace-test archive-test host run examples-test vectors-test badinput-test text-test install-test
+test: format trace-test archive-test host run examples-test vectors-test badinput-test text-test install-test compare-test load-test
 	rt ci
 
 # five units run the example of the paper through frames on both channels
@@ -122,6 +122,11 @@ load-archive: archive $(TABLEGEN)
 # every entry, the printed run and demand 3 itself, beside an implementation of the product paper in plain Rust; needs cargo
 compare: archive $(GROUPRUN)
 	@tests/host.sh
+
+# a share of it, in less time
+compare-test: export CALLS = 500000
+compare-test: export TABLES = 500
+compare-test: compare
 
 # one table of times: archive and grouprun beside the paper's implementation in Rust and beside plain C at -O3, on the same data; needs cargo
 bench: archive $(GROUPRUN) $(PLAIN) $(PLAINLIB) $(TABLEGEN) $(MEASURE)
