@@ -1,15 +1,16 @@
 #!/usr/bin/env bash
 # What grouprun does where its input is slow, closed or fails, where its output is closed or full, and with a table of BYTES bytes that is never stored.
-# Each case names the exit status, the last line and the whole output. Usage: load.sh GROUPRUN PLAIN TABLEGEN BUILD-FOLDER, which holds tabletext and measure
+# Each case names the exit status, the last line, the whole output and what is said on standard error. Usage: load.sh GROUPRUN PLAIN TABLEGEN BUILD-FOLDER, which holds tabletext and measure
 set -euo pipefail
 grouprun=$(realpath "$1") plain=$2 tablegen=$3 build=$4 here=$(dirname "$0")
 bytes=${BYTES:-134217728} most_kib=4096 limit=20
 p1=$build/load.p1 short=$build/load.short long=$build/load.long
 given=$build/load.out message=$build/load.message expected=$build/load.expected none=$build/load.none part=$build/load.part
-count=0
+count=0 says=
+unread="grouprun: the input could not be read" unwritten="grouprun: the output could not be written"
 fail() { echo "tests/load: $*" >&2; exit 1; }
 
-# runs a case, whose standard output is what the program printed; `-` for no last line
+# runs a case, whose standard output is what the program printed; `-` for no last line. `says` is the one line on standard error, if there is to be one
 try() { # NAME STATUS LAST-LINE OUTPUT CASE..
     local status=0 last
     "${@:5}" >"$given" 2>"$message" || status=$?
@@ -17,7 +18,7 @@ try() { # NAME STATUS LAST-LINE OUTPUT CASE..
     [ "$status" -eq "$2" ] || fail "$1: status $status instead of $2"
     [ "${last:--}" = "$3" ] || fail "$1: the last line is '$last' instead of '$3'"
     cmp -s "$given" "$4" || fail "$1: another output than in $4"
-    [ ! -s "$message" ] || fail "$1: '$(head -n 1 "$message")' on standard error"
+    [ "$(<"$message")" = "$says" ] || fail "$1: '$(<"$message")' on standard error instead of '$says'"
     count=$((count + 1))
 }
 run() { timeout "$limit" "$grouprun"; }
@@ -58,22 +59,25 @@ try "256 KiB of stack" 0 "$(last_of "$expected.short")" "$expected.short" small_
 
 # ---- input that is none
 run_of "$none" >"$expected.empty"
+head -n 1 "$p1_out" >"$expected.header"
 closed_input() { run <&-; }
 directory() { run <"$here"; }
 unreadable() { run </proc/self/mem; }
 empty_pipe() { : | run; }
-for case in closed_input directory unreadable empty_pipe; do
-    try "$case" 0 "refused 11" "$expected.empty" "$case"
+try "empty_pipe" 0 "refused 11" "$expected.empty" empty_pipe
+says=$unread
+for case in closed_input directory unreadable; do
+    try "$case" 0 "$(last_of "$expected.header")" "$expected.header" "$case"
 done
 
-# ---- input that fails in the middle: what was read is taken for the whole table
+# ---- input that fails in the middle: the whole cycles before it are printed, and no refusal
 stalled() { head -c "$1" "$p1" | timeout "$limit" "$build/feed" stall "$grouprun"; }
 head -n 3 "$p1_out" >"$expected.whole"
-{ cat "$expected.whole"; echo "refused 11"; } >"$expected.cut"
 try "a read fails after two cycles" 0 "$(last_of "$expected.whole")" "$expected.whole" stalled $((12 + 2 * 36))
-try "a read fails inside the third cycle" 0 "refused 11" "$expected.cut" stalled $((12 + 2 * 36 + 5))
+try "a read fails inside the third cycle" 0 "$(last_of "$expected.whole")" "$expected.whole" stalled $((12 + 2 * 36 + 5))
 
 # ---- output that cannot be written: a failed write ends the run, and only a signal gives another status than 0
+says=$unwritten
 closed_output() { run <"$1" >&-; }
 full() { run <"$1" >/dev/full; }
 for table in "$p1" "$long"; do
@@ -85,31 +89,17 @@ try "full output, endless input" 0 - "$none" endless
 reader_gone() { run <"$long" | head -n 2; return "${PIPESTATUS[0]}"; }
 reader_gone_ignored() { (trap '' PIPE; run <"$long") | head -n 2; return "${PIPESTATUS[0]}"; }
 head -n 2 "$expected.long" >"$expected.two"
+says=
 try "the reader is gone" 141 "$(last_of "$expected.two")" "$expected.two" reader_gone
+says=$unwritten
 try "the reader is gone, SIGPIPE ignored" 0 "$(last_of "$expected.two")" "$expected.two" reader_gone_ignored
-# a file that may have 100 KiB, as on a disk that fills up: the last line is cut
-small_file() { # HANDLER
-    local status=0
-    # the shell would name the signal on standard error
-    { (ulimit -f 100; [ "$1" = default ] || trap '' XFSZ; run <"$long" >"$part") || status=$?; } 2>/dev/null
-    cat "$part"
-    return "$status"
-}
+# a file that may have 100 KiB, as on a disk that fills up: the last line is cut. The shell would name the signal on standard error
+small_file() { local status=0; { (ulimit -f 100; run <"$long" >"$part") || status=$?; } 2>/dev/null; cat "$part"; return "$status"; }
+small_file_ignored() { (ulimit -f 100; trap '' XFSZ; run <"$long" >"$part") && cat "$part"; }
 head -c 102400 "$expected.long" >"$expected.100"
-try "100 KiB of output" 153 "$(last_of "$expected.100")" "$expected.100" small_file default
-try "100 KiB of output, SIGXFSZ ignored" 0 "$(last_of "$expected.100")" "$expected.100" small_file ignored
-# how a script sees that a run is whole, since neither the status nor a line says so: the test of docs/LIMITS.md
-whole() { # TABLE OUTPUT
-    "$build/tabletext" text <"$1" >"$part" 2>"$message" && ! grep -q refused "$2" && [ "$(grep -c '^cycle$' "$part")" -eq $(($(wc -l <"$2") - 1)) ]
-}
-whole "$p1" "$p1_out" && whole "$long" "$expected.long" || fail "a whole run is taken for another"
-# the input failed after two cycles and inside the last, the output became full, and a table that is refused has an output cut after the header
-head -n 5 "$p1_out" | cat - <(echo "refused 11") >"$expected.last"
-try "a read fails inside the last cycle" 0 "refused 11" "$expected.last" stalled $((12 + 4 * 36 + 5))
-for cut in whole last; do ! whole "$p1" "$expected.$cut" || fail "a run that a failed read cut is taken for a whole one"; done
-! whole "$long" "$expected.100" || fail "a run that a full output cut is taken for a whole one"
-head -n 1 "$p1_out" >"$expected.header"
-! whole "$none" "$expected.header" || fail "the header of a refused table is taken for a whole run"
+try "100 KiB of output, SIGXFSZ ignored" 0 "$(last_of "$expected.100")" "$expected.100" small_file_ignored
+says=
+try "100 KiB of output" 153 "$(last_of "$expected.100")" "$expected.100" small_file
 
 # ---- a table of BYTES bytes and a byte more, which is refused; the peak memory is bounded
 cycles=$(((bytes - 12 + 35) / 36))

@@ -1,30 +1,36 @@
 // Reads a table from standard input through a window and prints its run, piece by piece.
 ghost use mathlib.Core.Path.{_≡_};
-ghost use Prim.Native.Nat.{_+_, _≤_};
+ghost use mathlib.Core.Bool.{cond, _&&_};
+ghost use Prim.Native.Nat.{_+_, _≤_, max};
 ghost use lib.ListN.{length};
-ghost use Rattle.grouprun.specs.Buffers.{Shows, Fits};
+ghost use Rattle.grouprun.specs.Buffers.{Shows, Filled, Fits};
+use libc::STDERR_FILENO;
 use libc::STDIN_FILENO;
 use libc::STDOUT_FILENO;
 use report::Session;
 
-// The longest record, and the room that a piece needs.
+// The longest record, the room that a piece needs, and the header line.
 const RECORD: usize = 2331;
 
 const ROOM: usize = 128;
 
-// The bytes from at to end of the input buffer are read and not yet used.
+const HEADER: usize = 39;
+
+// The bytes from at to end of the input buffer are read and not yet used; after them the input has ended, or could not be read.
 pub struct Window {
     pub at: usize,
     pub end: usize,
     pub ended: bool,
+    pub failed: bool,
 }
 
-// A run between two records; `used` bytes of the output buffer are to be written.
+// A run between two records; `used` bytes of the output buffer are to be written. A write that failed has lost lines.
 pub struct Run {
     pub session: Session,
     pub window: Window,
     pub used: usize,
     pub over: bool,
+    pub lost: bool,
 }
 
 // How much of the output buffer is used, and whether a write failed.
@@ -45,28 +51,47 @@ fn shift(buf: &mut [u8], at: usize, n: usize)
     }
 }
 
-// A window with the longest record, unless the input has ended: one read for many records.
+// Reads on behind the first `have` bytes, until the longest record is there: a short read is no end, only an empty one is.
+fn fill(input: &mut [u8], have: usize) -> Window
+    requires { ⌜ have ≤ length (now input) ⌝ }
+    ensures { λ r. ⌜ Shows (now (input .exit)) r ⌝ }
+    ensures { λ r. ⌜ Filled r ⌝ }
+{
+    let mut end = have;
+    while end < RECORD {
+        let got = libc::read(STDIN_FILENO, &mut input[end..]);
+        let more = io::count(got, &input[end..]);
+        if more == 0 {
+            return Window {
+                at: 0,
+                end,
+                ended: got == 0,
+                failed: got != 0,
+            };
+        }
+        end += more;
+    }
+    Window {
+        at: 0,
+        end,
+        ended: false,
+        failed: false,
+    }
+}
+
+// A window with the longest record, unless the input has ended or failed: one read for many records.
 fn refill(input: &mut [u8], w: Window) -> Window
     requires { ⌜ Shows (now input) w ⌝ }
     ensures { λ r. ⌜ Shows (now (input .exit)) r ⌝ }
+    ensures { λ r. ⌜ Filled r ⌝ }
 {
     let at = w.at;
-    let end = w.end;
-    let have = end - at;
-    if w.ended {
-        return w;
-    }
-    if have >= RECORD {
+    let have = w.end - at;
+    if w.ended || w.failed || have >= RECORD {
         return w;
     }
     shift(input, at, have);
-    let room = input.len() - have;
-    let got = io::read_full(STDIN_FILENO, &mut input[have..]);
-    Window {
-        at: 0,
-        end: have + got,
-        ended: got < room,
-    }
+    fill(input, have)
 }
 
 // Writes what is in the output buffer if that leaves no room for a piece.
@@ -87,6 +112,14 @@ fn make_room(out: &[u8], used: usize) -> Room
     }
 }
 
+// The output used after a piece: a refusal after a failed read is left out, as the record may be cut there.
+fn used_after(w: Window, over: bool, before: usize, end: usize) -> usize
+    ensures { λ r. ⌜ r ≡ cond (w .failed && over) before end ⌝ }
+    ensures { λ r. ⌜ r ≤ max before end ⌝ }
+{
+    if w.failed && over { before } else { end }
+}
+
 // The header line, and the first record.
 fn begin(
     input: &mut [u8],
@@ -98,26 +131,17 @@ fn begin(
     requires { ⌜ 128 ≤ length (now out) ⌝ }
     ensures { λ r. ⌜ Fits (now (input .exit)) (now (out .exit)) r ⌝ }
 {
-    let window = refill(
-        input,
-        Window {
-            at: 0,
-            end: 0,
-            ended: false,
-        },
-    );
+    let mut window = fill(input, 0);
     let end = window.end;
     let piece = report::open(&input[..end], out, 0, numbers, sets, bases);
     let session = piece.session;
+    window.at = piece.taken;
     Run {
         session,
-        window: Window {
-            at: piece.taken,
-            end,
-            ended: window.ended,
-        },
-        used: piece.at,
+        window,
+        used: used_after(window, piece.over, HEADER, piece.at),
         over: piece.over,
+        lost: false,
     }
 }
 
@@ -144,22 +168,34 @@ fn next(
             window: before,
             used,
             over: true,
+            lost: true,
         };
     }
-    let window = refill(input, before);
+    let mut window = refill(input, before);
     let at = window.at;
     let end = window.end;
     let piece = report::turn(session, &input[at..end], out, used, numbers, sets, bases);
     let after = piece.session;
+    window.at = at + piece.taken;
     Run {
         session: after,
-        window: Window {
-            at: at + piece.taken,
-            end,
-            ended: window.ended,
-        },
-        used: piece.at,
+        window,
+        used: used_after(window, piece.over, used, piece.at),
         over: piece.over,
+        lost: false,
+    }
+}
+
+// Says on standard error what failed: a program has no exit status.
+fn tell(unread: bool, unwritten: bool) {
+    if unread {
+        io::write_all(STDERR_FILENO, b"grouprun: the input could not be read\n");
+    }
+    if unwritten {
+        io::write_all(
+            STDERR_FILENO,
+            b"grouprun: the output could not be written\n",
+        );
     }
 }
 
@@ -180,7 +216,8 @@ fn print(input: &mut [u8], out: &mut [u8])
         turns -= 1;
     }
     let used = run.used;
-    io::write_all(STDOUT_FILENO, &out[..used]);
+    let done = io::write_all(STDOUT_FILENO, &out[..used]);
+    tell(run.window.failed, run.lost || !done);
 }
 
 fn main() {

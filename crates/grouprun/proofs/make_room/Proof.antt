@@ -7,23 +7,18 @@ use borrow.Author.Needs.{needs}
 use Rattle.grouprun.proofs.make_room.Statement.{statement}
 use Rattle.grouprun.proofs.make_room.Tie as tie
 
--- src/main.rt:76:16
 sub-if1 : tie.Need-sub-if1
 sub-if1 c = omega arith
 
--- src/main.rt:77:9
 returns : tie.Need-returns
 returns c = search needs
 
--- src/main.rt:82:45
 slice-aggregate-write-all : tie.Need-slice-aggregate-write-all
 slice-aggregate-write-all c = let s = c .before .before .before in sym (length-take-le (s .args .used) (now (s .args .out)) (s .pre .0))
 
--- src/main.rt:82:9
 write-all-requires : tie.Need-write-all-requires
 write-all-requires c κs = omega arith
 
--- src/main.rt:72:1
 returns-2 : tie.Need-returns-2
 returns-2 c = search needs
 
