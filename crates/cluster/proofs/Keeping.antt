@@ -16,13 +16,13 @@ use Rattle.state.specs.declared.State.{State}
 use Rattle.state.specs.declared.State.the-variants.{Out, Member}
 use Rattle.rules.specs.declared.Vote.{Vote}
 use Rattle.rules.specs.OneCycle.{sendsMember, is, memberDecides}
-use Rattle.rules.specs.Ballots.{voteAt, ballotsOf}
+use Rattle.rules.specs.Ballots.{voteAt, ballotsOf, equalTo}
 use Rattle.rules.proofs.Votes.{is-eq}
 use Rattle.rules.proofs.States.{none-some, some-inj}
 use Rattle.rules.proofs.Slots.{slot-full, slot-empty}
 use Rattle.cluster.specs.declared.Roles.{Roles}
 use Rattle.cluster.specs.declared.Kept.{Kept}
-use Rattle.tallies.specs.Grouped.{equalTo, Grouped, Within, spreadAt, rivalAt, ownTally, memberWith}
+use Rattle.tallies.specs.Grouped.{Grouped, Within, spreadAt, rivalAt, ownTally, memberWith}
 use Rattle.cluster.specs.Decided.{decidedAt, Worth, heldBy}
 use Rattle.tallies.proofs.Tallies.{goes-on, halts}
 
@@ -40,7 +40,6 @@ module _ (numbers sets bases views : List ℕ) (n : ℕ) (w : Roles) where
 
     -- who is among those with the vote of q is a member that cast it
     cast-it : (q x : ℕ) → q < n → has q (w .members) ≡ true → has x (spreadAt lead same q) ≡ true → (has x (w .members) ≡ true) × (voteAt numbers sets bases views x ≡ voteAt numbers sets bases views q)
-    unfolding equalTo
     cast-it q x l i h = go (has x (w .members)) refl
       where
         slot : ballotsOf numbers sets bases views (w .members) x ≡ some (voteAt numbers sets bases views q)

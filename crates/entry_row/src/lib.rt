@@ -1,6 +1,8 @@
 // Calls on the row as C lends it: N images of 24 bytes, one after the other.
 ghost use mathlib.Core.Path.{_≡_};
+ghost use mathlib.Core.Bool.{cond};
 ghost use Prim.Native.Nat.{_*_, _+_, _≤_};
+ghost use lib.Dec.{ltb};
 ghost use lib.ListN.{length};
 ghost use Rattle.state.specs.Image.{imageOf};
 ghost use Rattle.cluster.specs.States.{rowOf};
@@ -17,6 +19,7 @@ ghost use Rattle.entry_row.specs.Images.{
   imagesLeft,
 };
 use calls::Task;
+use cluster::Roles;
 use cluster::States;
 use row::Gathered;
 use state::Decoded;
@@ -60,18 +63,49 @@ fn entries(images: &[u8]) -> usize
     }
 }
 
+// How many images are read: no cluster has more than 64 nodes, and a longer row is refused for its length.
+fn entries_read(images: &[u8]) -> usize
+    ensures { λ r. ⌜ r ≡ cond (ltb (entriesIn (now (images .entry))) 64) (entriesIn (now (images .entry))) 64 ⌝ }
+{
+    let count = entries(images);
+    if count < 64 { count } else { 64 }
+}
+
 // The row as values.
 fn gather(n: u8, images: &[u8]) -> Gathered
     ensures { λ r. ⌜ r ≡ gathered n nothingOf 0 (nodesIn (now (images .entry))) ⌝ }
 {
-    let count = entries(images);
-    let mut g = row::nothing();
+    let count = entries_read(images);
+    let mut numbers = [0u32; 64];
+    let mut sets = [0u64; 64];
+    let mut bases = [0u64; 64];
+    let mut w = Roles {
+        members: 0,
+        joining: 0,
+        no_quorum: 0,
+        outvoted: 0,
+    };
+    let mut good = true;
     let mut q: usize = 0;
     while q < count {
-        g = row::push(n, g, q, node_in(images, q));
+        let x = node_in(images, q);
+        let d = x.state;
+        w = row::put_state(w, q, d, &mut numbers, &mut sets, &mut bases);
+        good &= row::in_place(n, q, x);
         q += 1;
     }
-    g
+    Gathered {
+        states: States {
+            members: w.members,
+            joining: w.joining,
+            no_quorum: w.no_quorum,
+            outvoted: w.outvoted,
+            numbers,
+            sets,
+            bases,
+        },
+        good,
+    }
 }
 
 // Image q replaced.
@@ -89,10 +123,12 @@ fn scatter(n: u8, s: States, images: &mut [u8])
     requires { ⌜ (n ≤ 64) × (length (now images) ≡ 24 * n) ⌝ }
     ensures { λ _. ⌜ now (images .exit) ≡ imagesOf (nodesOf n (rowOf n s)) ⌝ }
 {
+    let w = row::roles_of(s);
     let count = n as usize;
     let mut q: usize = 0;
     while q < count {
-        put_image(images, q, row::node_at(n, s, q, nobody()));
+        let x = row::node_of(n, w, &s.numbers, &s.sets, &s.bases, q);
+        put_image(images, q, x);
         q += 1;
     }
 }

@@ -115,7 +115,7 @@ in-order-formed n xs e h q l =
     (order-at n 0 n (λ p. node n p (at (statesOf xs) p)) (ap (inOrder n 0) (nodes-states n xs e h) ∙ h) q l)
 
 -- ---- what is gathered
-push-in : (n : ℕ) (g : Gathered) (q : ℕ) (x : Node) → q < 64 → pushOf n g q x ≡ record { states = withNode (g .states) q (x .state); good = g .good && inPlace n q x }
+pub push-in : (n : ℕ) (g : Gathered) (q : ℕ) (x : Node) → q < 64 → pushOf n g q x ≡ record { states = withNode (g .states) q (x .state); good = g .good && inPlace n q x }
 unfolding pushOf
 push-in n g q x l = ap (λ (b : Bool). cond b (record { states = withNode (g .states) q (x .state); good = g .good && inPlace n q x }) g) (ltb-true l)
 

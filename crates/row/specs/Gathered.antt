@@ -57,9 +57,13 @@ unfoldable pub gathered : ℕ → Gathered → ℕ → List Node → Gathered
 gathered n g q [] = g
 gathered n g q (x ∷ xs) = gathered n (pushOf n g q x) (suc q) xs
 
+-- node q of n, in its state
+abbrev pub placedNode : ℕ → States → ℕ → Node
+placedNode n s q = record { state = stateAt s q; id = q; nodes = n }
+
 -- the entry of place q, x past the last place
 unfoldable pub nodeOf : ℕ → States → ℕ → Node → Node
-nodeOf n s q x = cond (ltb q 64) (record { state = stateAt s q; id = q; nodes = n }) x
+nodeOf n s q x = cond (ltb q 64) (placedNode n s q) x
 
 -- each entry, from place q on, replaced by what f makes of its place and itself
 unfoldable pub each : (ℕ → Node → Node) → ℕ → List Node → List Node

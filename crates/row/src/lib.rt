@@ -1,10 +1,11 @@
 // The row of node structs that a caller lends: gathered into values, and scattered back. Only these two walk it.
 ghost use mathlib.Core.Path.{_≡_};
 ghost use Prim.Native.Nat.{_<_, _≤_};
+ghost use lib.ListN.{length};
 ghost use Rattle.state.specs.State.{formedState};
-ghost use Rattle.cluster.specs.States.{stateAt};
+ghost use Rattle.cluster.specs.States.{statesOf, stateAt};
 ghost use Rattle.row.specs.Row.{inPlace};
-ghost use Rattle.row.specs.Gathered.{rolesOf, withNode, nothingOf, pushOf, gathered, nodeOf, each};
+ghost use Rattle.row.specs.Gathered.{rolesOf, withNode, nothingOf, pushOf, gathered, placedNode, nodeOf, each};
 use cluster::Roles;
 use cluster::States;
 use state::Group;
@@ -18,7 +19,7 @@ pub struct Gathered {
 }
 
 // Before the first entry.
-pub fn nothing() -> Gathered
+fn nothing() -> Gathered
     ensures { λ r. ⌜ r ≡ nothingOf ⌝ }
 {
     Gathered {
@@ -47,7 +48,7 @@ fn state_formed(id: u8, n: u8, s: State) -> bool
 }
 
 // Whether x is well formed and node q of a cluster of n.
-fn in_place(n: u8, q: usize, x: Node) -> bool
+pub fn in_place(n: u8, q: usize, x: Node) -> bool
     ensures { λ r. ⌜ r ≡ inPlace n q x ⌝ }
 {
     if !state::place_formed(x.id, x.nodes) {
@@ -63,7 +64,7 @@ fn in_place(n: u8, q: usize, x: Node) -> bool
     x.nodes == n
 }
 
-fn roles_of(s: States) -> Roles
+pub fn roles_of(s: States) -> Roles
     ensures { λ r. ⌜ r ≡ rolesOf s ⌝ }
 {
     Roles {
@@ -74,26 +75,47 @@ fn roles_of(s: States) -> Roles
     }
 }
 
+// The state of node q put in: the masks, and in place its group. The arrays are lent: a struct that holds them is copied at every call.
+pub fn put_state(
+    w: Roles,
+    q: usize,
+    d: State,
+    numbers: &mut [u32; 64],
+    sets: &mut [u64; 64],
+    bases: &mut [u64; 64],
+) -> Roles
+    requires { ⌜ (q < 64) × (length (now numbers) ≡ 64) × (length (now sets) ≡ 64) × (length (now bases) ≡ 64) ⌝ }
+    ensures { λ r. ⌜ statesOf r (now (numbers .exit)) (now (sets .exit)) (now (bases .exit)) ≡ withNode (statesOf w (now (numbers .entry)) (now (sets .entry)) (now (bases .entry))) q d ⌝ }
+{
+    let g = cluster::held_by(d);
+    numbers[q] = g.number;
+    sets[q] = g.set;
+    bases[q] = g.base;
+    cluster::with_state(w, q, d)
+}
+
 // The states with that of node q put in.
 fn with_node(s: States, q: usize, d: State) -> States
     requires { ⌜ q < 64 ⌝ }
     ensures { λ r. ⌜ r ≡ withNode s q d ⌝ }
 {
-    let w = cluster::with_state(roles_of(s), q, d);
-    let g = cluster::held_by(d);
-    let mut t = s;
-    t.members = w.members;
-    t.joining = w.joining;
-    t.no_quorum = w.no_quorum;
-    t.outvoted = w.outvoted;
-    t.numbers[q] = g.number;
-    t.sets[q] = g.set;
-    t.bases[q] = g.base;
-    t
+    let mut numbers = s.numbers;
+    let mut sets = s.sets;
+    let mut bases = s.bases;
+    let w = put_state(roles_of(s), q, d, &mut numbers, &mut sets, &mut bases);
+    States {
+        members: w.members,
+        joining: w.joining,
+        no_quorum: w.no_quorum,
+        outvoted: w.outvoted,
+        numbers,
+        sets,
+        bases,
+    }
 }
 
 // One more entry, that of place q; past the last place there is none.
-pub fn push(n: u8, g: Gathered, q: usize, x: Node) -> Gathered
+fn push(n: u8, g: Gathered, q: usize, x: Node) -> Gathered
     ensures { λ r. ⌜ r ≡ pushOf n g q x ⌝ }
 {
     if q < 64 {
@@ -120,33 +142,54 @@ pub fn gather(n: u8, row: &[Node]) -> Gathered
     g
 }
 
-fn state_at(s: States, q: usize) -> State
+fn state_at<'a>(
+    w: Roles,
+    numbers: &'a [u32; 64],
+    sets: &'a [u64; 64],
+    bases: &'a [u64; 64],
+    q: usize,
+) -> State
     requires { ⌜ q < 64 ⌝ }
-    ensures { λ r. ⌜ r ≡ stateAt s q ⌝ }
+    ensures { λ r. ⌜ r ≡ stateAt (statesOf w (now (numbers .entry)) (now (sets .entry)) (now (bases .entry))) q ⌝ }
 {
-    if sets::contains(s.members, q) {
+    if sets::contains(w.members, q) {
         State::Member(Group {
-            number: s.numbers[q],
-            set: s.sets[q],
-            base: s.bases[q],
+            number: numbers[q],
+            set: sets[q],
+            base: bases[q],
         })
-    } else if sets::contains(s.joining, q) {
+    } else if sets::contains(w.joining, q) {
         State::Joining
     } else {
-        cluster::out_at(roles_of(s), q)
+        cluster::out_at(w, q)
+    }
+}
+
+// Node q of a cluster of n, of masks and lent arrays.
+pub fn node_of<'a>(
+    n: u8,
+    w: Roles,
+    numbers: &'a [u32; 64],
+    sets: &'a [u64; 64],
+    bases: &'a [u64; 64],
+    q: usize,
+) -> Node
+    requires { ⌜ q < 64 ⌝ }
+    ensures { λ r. ⌜ r ≡ placedNode n (statesOf w (now (numbers .entry)) (now (sets .entry)) (now (bases .entry))) q ⌝ }
+{
+    Node {
+        state: state_at(w, numbers, sets, bases, q),
+        id: q as u8,
+        nodes: n,
     }
 }
 
 // The entry of place q, x past the last place.
-pub fn node_at(n: u8, s: States, q: usize, x: Node) -> Node
+fn node_at(n: u8, s: States, q: usize, x: Node) -> Node
     ensures { λ r. ⌜ r ≡ nodeOf n s q x ⌝ }
 {
     if q < 64 {
-        Node {
-            state: state_at(s, q),
-            id: q as u8,
-            nodes: n,
-        }
+        node_of(n, roles_of(s), &s.numbers, &s.sets, &s.bases, q)
     } else {
         x
     }

@@ -1,17 +1,12 @@
 -- Counting of votes: a tally over slots, the own vote beside the slots, and the one vote that fits. Assumes nothing.
-use mathlib.Core.Path.{_≡_, refl, sym, ap, ap₂, _∙_}
+use mathlib.Core.Path.{_≡_, refl, sym, ap, _∙_}
 use mathlib.Core.Bool.{Bool, true, false, _&&_, cond, false≢true}
-use mathlib.Core.List.{List}
-use Prim.Native.Nat.{ℕ, _+_, _≤_, _<_}
-use native.Mathlib.Omega.{arith}
-use lib.ListN.{getD}
-use Rattle.sets.specs.Sets.{has, single, _∪_, _∩_, those, any}
+use Prim.Native.Nat.{ℕ, _<_}
+use Rattle.sets.specs.Sets.{has, single, _∪_, _∩_, any}
 use Rattle.sets.specs.Quorum.{quorum}
-use Rattle.sets.proofs.Booleans.{and-r, and-i}
 use Rattle.sets.proofs.Membership.{_⊆_, has-inter, has-none, some-node}
-use Rattle.sets.proofs.Nodes.{in-those, of-those, those-next, any-e}
-use Rattle.sets.proofs.Quorum.{quorum-mono, quorum-meet}
-use Rattle.rules.specs.Ballots.{votedFor, agreed}
+use Rattle.sets.proofs.Nodes.{any-e}
+use Rattle.sets.proofs.Quorum.{quorum-meet}
 
 -- ---- tests
 
@@ -52,48 +47,15 @@ quorum-none B = no (quorum 0 B) (λ e. let w = quorum-meet 0 0 B none-in none-in
     none-in : _⊆_ 0 B
     none-in q h = absurd (false≢true (sym (has-none q) ∙ h))
 
+pub quorum-some : (S B : ℕ) → quorum S B ≡ true → S ≡ 0 → ⊥
+quorum-some S B e z = false≢true (sym (quorum-none B) ∙ ap (λ (x : ℕ). quorum x B) (sym z) ∙ e)
+
 pub quorum-node : (S B : ℕ) → quorum S B ≡ true → (q : ℕ) × (has q S ≡ true)
-quorum-node S B e = some-node S (λ z. false≢true (sym (quorum-none B) ∙ ap (λ (x : ℕ). quorum x B) (sym z) ∙ e))
+quorum-node S B e = some-node S (quorum-some S B e)
 
 -- ---- the tally of one candidate
-
--- a part of the turns counts a part of the votes
-those-part : (i n : ℕ) (f : ℕ → Bool) → i ≤ n → _⊆_ (those i f) (those n f)
-those-part i n f l q h =
-    let w = of-those q i f h in
-    let k : q < i = w .0 in
-    in-those q n f (omega arith) (w .1)
 
 -- a turn that does not complete a quorum leaves none
 pub none-yet : (p s m B : ℕ) (counted q : Bool) → quorum s B ≡ false → m ≡ cond counted (single p ∪ s) s → q ≡ (counted && quorum m B) → q ≡ false → quorum m B ≡ false
 none-yet p s m B true q h e k f = sym k ∙ f
 none-yet p s m B false q h e k f = ap (λ (x : ℕ). quorum x B) e ∙ h
-
-module _ (n : ℕ) (views : List ℕ) (A B k last p : ℕ) (counts : Bool) (c : counts ≡ has k A) (e : last ≡ cond counts n 0) where
-  -- it found a quorum: the candidate has one
-  pub won : (s m : ℕ) (counted q : Bool) → p < last → s ≡ those p (votedFor views A (getD views k 0)) → counted ≡ votedFor views A (getD views k 0) p
-      → m ≡ cond counted (single p ∪ s) s → q ≡ (counted && quorum m B) → q ≡ true → agreed n views A B k ≡ true
-  won s m counted q l es ey em eq t = go counts c e
-    where
-      f : ℕ → Bool
-      f = votedFor views A (getD views k 0)
-
-      go : (b : Bool) → b ≡ has k A → last ≡ cond b n 0 → agreed n views A B k ≡ true
-      go true h g =
-          let u : p + 1 ≤ n = omega arith in
-          and-i (has k A) (quorum (those n f) B) (sym h)
-          (quorum-mono (those (p + 1) f) (those n f) B (those-part (p + 1) n f u) (ap (λ (x : ℕ). quorum x B) (sym (those-next p f s m counted es ey em)) ∙ and-r counted (quorum m B) (sym eq ∙ t)))
-      go false h g = absurd (omega arith)
-
-  -- it found none: the candidate has none
-  pub lost : (m : ℕ) → last ≤ p → p ≤ last → m ≡ those p (votedFor views A (getD views k 0)) → quorum m B ≡ false → agreed n views A B k ≡ false
-  lost m l u em t = go counts c e
-    where
-      f : ℕ → Bool
-      f = votedFor views A (getD views k 0)
-
-      go : (b : Bool) → b ≡ has k A → last ≡ cond b n 0 → agreed n views A B k ≡ false
-      go true h g =
-          let z : p ≡ n = omega arith in
-          ap₂ (λ (x : Bool) (y : ℕ). x && quorum y B) (sym h) (sym (em ∙ ap (λ (x : ℕ). those x f) z)) ∙ t
-      go false h g = ap (λ (x : Bool). x && quorum (those n f) B) (sym h)

@@ -22,6 +22,10 @@ voteAt numbers sets bases views p = record { group = groupAt numbers sets bases 
 unfoldable pub ballotsOf : List ℕ → List ℕ → List ℕ → List ℕ → ℕ → Ballots
 ballotsOf numbers sets bases views present p = cond (has p present) (some (voteAt numbers sets bases views p)) none
 
+-- the slots whose vote is v
+abbrev pub equalTo : List ℕ → List ℕ → List ℕ → List ℕ → ℕ → ℕ → Vote → ℕ
+equalTo numbers sets bases views N present v = those N (λ p. is v (ballotsOf numbers sets bases views present p))
+
 -- whether p is in the M of g, and its vote has the G, M and B of g
 abbrev pub alike : List ℕ → List ℕ → List ℕ → ℕ → Group → ℕ → Bool
 alike numbers sets bases present g p = has p (g .set) && (has p present && sameGroup g (groupAt numbers sets bases p))

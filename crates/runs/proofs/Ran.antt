@@ -5,20 +5,21 @@ use mathlib.Core.List.{List, [], _∷_}
 use Prim.Native.Nat.{ℕ, _+_, _≤_, _<_}
 use native.Mathlib.Omega.{arith}
 use lib.Dec.{eqb}
-use lib.ListN.{length}
+use lib.ListN.{length, replicate}
 use borrow.Author.Tests.{eqb-true, eqb-false}
+use Rattle.bigendian.specs.BigEndian.{numberAt}
 use Rattle.state.specs.State.{formedState}
 use Rattle.rules.specs.declared.Faults.{Faults}
 use Rattle.rules.specs.OneCycle.{Config, stopped}
-use Rattle.rules.specs.Faults.{Row, at, cycle}
+use Rattle.rules.specs.Faults.{Row, at, tabulate, cycle}
 use Rattle.rules.specs.Reference.{Cluster, step, after}
 use Rattle.rules.proofs.Rows.{get-tabulate}
-use Rattle.table.specs.Records.{cycleLength, cycleRefusal, faultsAt}
+use Rattle.table.specs.Records.{entriesAt, cycleLength, cycleRefusal, missedOf, faultsAt}
 use Rattle.table.specs.Table.{Cycles}
 use Rattle.table.proofs.Laws.{accepted}
 use Rattle.table.proofs.Cursor.{left, from, from-end, from-refused, from-there, from-next}
 use Rattle.cluster.specs.declared.States.{States}
-use Rattle.cluster.specs.States.{stateAt, rowOf}
+use Rattle.cluster.specs.States.{faultsOf, stateAt, rowOf}
 use Rattle.formed.proofs.Formed.{FormedRow, cycle-formed}
 use Rattle.runs.specs.Answered.{rowAfter}
 
@@ -49,6 +50,24 @@ row-formed n s w q l = ap (formedState q n) (at-row n s q l) ∙ w q l
 
 pub states-formed : (n : ℕ) (s : States) → FormedRow n (rowOf n s) → (q : ℕ) → q < n → formedState q n (stateAt s q) ≡ true
 states-formed n s w q l = ap (formedState q n) (sym (at-row n s q l)) ∙ w q l
+
+-- ---- the record of a cycle, read in parts
+
+pub cycle-read : (n : ℕ) (s : List ℕ) (stop start heartbeats votes : ℕ) (unheard missed : List ℕ) (before after : Row)
+    → stop ≡ numberAt s 3 8 → start ≡ numberAt s 11 8 → heartbeats ≡ numberAt s 19 8 → votes ≡ numberAt s 27 8
+    → unheard ≡ faultsAt s .«heartbeat_missed» → missed ≡ faultsAt s .«vote_missed»
+    → after ≡ cycle (sized n) (faultsOf (record { stop = stop; start = start; «heartbeat_lost» = heartbeats; «vote_lost» = votes }) unheard missed) before
+    → after ≡ cycle (sized n) (faultsAt s) before
+unfolding faultsAt
+cycle-read n s stop start heartbeats votes unheard missed before after ks kt kh kv ku km e =
+    e ∙ (λ i. cycle (sized n) (faultsOf (record { stop = ks i; start = kt i; «heartbeat_lost» = kh i; «vote_lost» = kv i }) (ku i) (km i)) before)
+
+-- without entries nobody misses anything
+pub none-missed : (s : List ℕ) → entriesAt s ≡ 0 → (faultsAt s .«heartbeat_missed» ≡ replicate 64 0) × (faultsAt s .«vote_missed» ≡ replicate 64 0)
+unfolding faultsAt missedOf tabulate
+none-missed s z = (ap (λ (i : ℕ). tabulate 64 (λ q. missedOf s i q)) z, ap (λ (i : ℕ). tabulate 64 (λ q. missedOf s i (128 + q))) z)
+
+-- ---- the loop
 
 -- at the cursor, where cycle k begins: the records are s, and `states` are those after the cycles passed, from the row at the start
 pub record Going (n : ℕ) (start : Row) (s : List ℕ) (states : States) (cursor k : ℕ) : Type 0 where
@@ -103,3 +122,9 @@ module _ (n : ℕ) (start : Row) (s : List ℕ) (states : States) (cursor k : �
             ∙ sym (after-next (sized n) (rowOf n states) (faultsAt (left s cursor)) (from n (k + 1) s (cursor + l) .whole))
             ∙ ap (λ (c : Cycles). rowAfter (sized n) (rowOf n states) (c .whole)) (sym all) ∙ w .rest;
       }
+
+-- the same where cycles are not counted, with arrays for what is missed
+pub record Passing (n : ℕ) (start : Row) (s : List ℕ) (states : States) (unheard missed : List ℕ) (cursor : ℕ) : Type 0 where
+  pub number : ℕ
+  pub going : Going n start s states cursor number
+  pub clear : (unheard ≡ replicate 64 0) × (missed ≡ replicate 64 0)

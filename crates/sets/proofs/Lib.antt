@@ -4,3 +4,4 @@ pub mod Nodes
 pub mod Sizes
 pub mod Quorum
 pub mod Machine
+pub mod Dropping

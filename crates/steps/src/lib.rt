@@ -1,8 +1,8 @@
 // The rules of one cycle, 1 to 6, each of one node. Votes are lent as four arrays, a slot for each sender, and the mask of the slots that hold one.
 ghost use mathlib.Core.Path.{_≡_};
-ghost use mathlib.Core.Bool.{true, false, _&&_, cond};
+ghost use mathlib.Core.Bool.{true, false, _&&_};
 ghost use Prim.Native.Nat.{ℕ, _<_, _≤_};
-ghost use Rattle.sets.specs.Sets.{_∪_, _∖_, those, any, every};
+ghost use Rattle.sets.specs.Sets.{has, _∪_, _∩_, _∖_, those, lowest as theLowest, any};
 ghost use Rattle.sets.specs.Quorum.{quorum};
 ghost use Rattle.rules.specs.OneCycle.{
   stopAndStart,
@@ -11,12 +11,11 @@ ghost use Rattle.rules.specs.OneCycle.{
   viewOf,
   sameGroup,
   is,
-  voters as theVoters,
   groupWith,
   memberDecides,
   joinerDecides,
 };
-ghost use Rattle.rules.specs.Ballots.{groupAt, voteAt, ballotsOf, alike, votedFor, agreed, fitsAt, agreesAt};
+ghost use Rattle.rules.specs.Ballots.{groupAt, voteAt, ballotsOf, equalTo, alike, votedFor, agreed, fitsAt};
 use rules::Vote;
 use state::Group;
 use state::Reason;
@@ -156,14 +155,6 @@ fn tally(n: usize, views: &[u64; 64], among: u64, view: u64) -> u64
     m
 }
 
-// How long the tally of a slot is: nothing where its vote does not count.
-fn turns(n: usize, counts: bool) -> usize
-    ensures { λ r. ⌜ r ≡ cond counts n 0 ⌝ }
-    ensures { λ r. ⌜ r ≤ n ⌝ }
-{
-    if counts { n } else { 0 }
-}
-
 // Whether the vote just looked at makes a quorum: only one that was counted can.
 fn completes(counted: bool, m: u64, base: u64) -> bool
     ensures { λ r. ⌜ r ≡ (counted && quorum m base) ⌝ }
@@ -175,28 +166,28 @@ fn completes(counted: bool, m: u64, base: u64) -> bool
     }
 }
 
-// Whether some view of the senders has a quorum of the base.
+// Whether some view of the senders has a quorum of the base. Each view is tallied once, and none where all that are left are too few.
 fn any_agreed(n: usize, views: &[u64; 64], among: u64, base: u64) -> bool
     requires { ⌜ n ≤ 64 ⌝ }
     ensures { λ r. ⌜ r ≡ any n (agreed n (now (views .entry)) among base) ⌝ }
 {
-    let mut k: usize = 0;
-    'found: while k < n {
+    let mut left = sets::below(n, among);
+    'found: while sets::is_quorum(left, base) {
+        let k = sets::lowest(left) as usize;
         let view = views[k];
-        let end = turns(n, sets::contains(among, k));
         let mut m: u64 = 0;
-        let mut p: usize = 0;
-        while p < end {
-            let counted = is_for(views, among, view, p);
+        let mut p = k;
+        while p < n {
+            let counted = is_for(views, left, view, p);
             m = sets::include(m, p, counted);
             if completes(counted, m, base) {
                 break 'found;
             }
             p += 1;
         }
-        k += 1;
+        left = sets::difference(left, m);
     }
-    k < n
+    sets::is_quorum(left, base)
 }
 
 // The group that a vote gives with its new set.
@@ -269,28 +260,6 @@ pub fn vote_at(
     }
 }
 
-// The senders in the vote's set whose vote is equal to it.
-fn voters(
-    n: usize,
-    numbers: &[u32; 64],
-    sets: &[u64; 64],
-    bases: &[u64; 64],
-    views: &[u64; 64],
-    present: u64,
-    v: Vote,
-) -> u64
-    requires { ⌜ n ≤ 64 ⌝ }
-    ensures { λ r. ⌜ r ≡ theVoters n (ballotsOf (now (numbers .entry)) (now (sets .entry)) (now (bases .entry)) (now (views .entry)) present) v ⌝ }
-{
-    let g = v.group;
-    tally(
-        n,
-        views,
-        senders(n, numbers, sets, bases, present, g),
-        v.view,
-    )
-}
-
 // Whether the vote in slot p is equal to v.
 pub fn equals_at(
     numbers: &[u32; 64],
@@ -313,34 +282,43 @@ pub fn equals_at(
     }
 }
 
-// Whether the vote in slot p fits the joining node q.
-fn fits_at(
+// The senders whose vote is equal to v.
+pub fn equal_votes(
     n: usize,
-    q: usize,
     numbers: &[u32; 64],
     sets: &[u64; 64],
     bases: &[u64; 64],
     views: &[u64; 64],
     present: u64,
-    p: usize,
-) -> bool
-    requires { ⌜ (n ≤ 64) × (q < 64) × (p < 64) ⌝ }
-    ensures { λ r. ⌜ r ≡ fitsAt n q (ballotsOf (now (numbers .entry)) (now (sets .entry)) (now (bases .entry)) (now (views .entry)) present) p ⌝ }
+    v: Vote,
+) -> u64
+    requires { ⌜ n ≤ 64 ⌝ }
+    ensures { λ r. ⌜ r ≡ equalTo (now (numbers .entry)) (now (sets .entry)) (now (bases .entry)) (now (views .entry)) n present v ⌝ }
 {
-    let v = vote_at(numbers, sets, bases, views, p);
-    let g = v.group;
-    if !sets::contains(present, p) {
-        return false;
+    let mut m: u64 = 0;
+    let mut p: usize = 0;
+    while p < n {
+        m = sets::include(m, p, equals_at(numbers, sets, bases, views, present, v, p));
+        p += 1;
     }
+    m
+}
+
+// Whether the vote v, which those in m cast, fits the joining node q.
+fn fits_node(q: usize, v: Vote, m: u64) -> bool
+    requires { ⌜ q < 64 ⌝ }
+    ensures { λ r. ⌜ r ≡ (has q (v .view ∖ v .group .set) && quorum (m ∩ v .group .set) (v .group .base)) ⌝ }
+{
+    let g = v.group;
     if sets::contains(sets::difference(v.view, g.set), q) {
-        sets::is_quorum(voters(n, numbers, sets, bases, views, present, v), g.base)
+        sets::is_quorum(sets::intersection(m, g.set), g.base)
     } else {
         false
     }
 }
 
-// The first slot whose vote fits, n if there is none.
-fn first_fit(
+// What remains of the slots `among` from the first whose vote fits. A vote is tallied once, for the lowest slot that holds it.
+fn from_fit(
     n: usize,
     q: usize,
     numbers: &[u32; 64],
@@ -348,68 +326,25 @@ fn first_fit(
     bases: &[u64; 64],
     views: &[u64; 64],
     present: u64,
-) -> usize
+    among: u64,
+) -> u64
     requires { ⌜ (n ≤ 64) × (q < 64) ⌝ }
-    ensures within { λ r. ⌜ r ≤ n ⌝ }
-    ensures before { λ r. ⌜ ((p : ℕ) → p < r → fitsAt n q (ballotsOf (now (numbers .entry)) (now (sets .entry)) (now (bases .entry)) (now (views .entry)) present) p ≡ false) ⌝ }
-    ensures found { λ r. ⌜ (r < n → fitsAt n q (ballotsOf (now (numbers .entry)) (now (sets .entry)) (now (bases .entry)) (now (views .entry)) present) r ≡ true) ⌝ }
+    requires { ⌜ ((j : ℕ) → has j among ≡ true → (j < n) × (has j present ≡ true)) ⌝ }
+    ensures within { λ r. ⌜ ((j : ℕ) → has j r ≡ true → has j among ≡ true) ⌝ }
+    ensures unfit { λ r. ⌜ ((j : ℕ) → has j among ≡ true → has j r ≡ false → fitsAt n q (ballotsOf (now (numbers .entry)) (now (sets .entry)) (now (bases .entry)) (now (views .entry)) present) j ≡ false) ⌝ }
+    ensures fit { λ r. ⌜ ((r ≡ 0 → ⊥) → fitsAt n q (ballotsOf (now (numbers .entry)) (now (sets .entry)) (now (bases .entry)) (now (views .entry)) present) (theLowest 64 (λ x. has x r)) ≡ true) ⌝ }
 {
-    let mut p: usize = 0;
-    while p < n {
-        if fits_at(n, q, numbers, sets, bases, views, present, p) {
-            return p;
+    let mut left = among;
+    while left != 0 {
+        let p = sets::lowest(left) as usize;
+        let v = vote_at(numbers, sets, bases, views, p);
+        let m = equal_votes(n, numbers, sets, bases, views, present, v);
+        if fits_node(q, v, m) {
+            return left;
         }
-        p += 1;
+        left = sets::difference(left, m);
     }
-    p
-}
-
-// Whether slot p leaves v the only vote that fits. An equal vote needs no tally of its own.
-fn agrees_at(
-    n: usize,
-    q: usize,
-    numbers: &[u32; 64],
-    sets: &[u64; 64],
-    bases: &[u64; 64],
-    views: &[u64; 64],
-    present: u64,
-    v: Vote,
-    p: usize,
-) -> bool
-    requires { ⌜ (n ≤ 64) × (q < 64) × (p < 64) ⌝ }
-    ensures { λ r. ⌜ r ≡ agreesAt n q (ballotsOf (now (numbers .entry)) (now (sets .entry)) (now (bases .entry)) (now (views .entry)) present) v p ⌝ }
-{
-    if equals_at(numbers, sets, bases, views, present, v, p) {
-        true
-    } else {
-        !fits_at(n, q, numbers, sets, bases, views, present, p)
-    }
-}
-
-// Whether v is the only vote that fits, where none fits below the slot `first`.
-fn only_fit(
-    n: usize,
-    q: usize,
-    numbers: &[u32; 64],
-    sets: &[u64; 64],
-    bases: &[u64; 64],
-    views: &[u64; 64],
-    present: u64,
-    v: Vote,
-    first: usize,
-) -> bool
-    requires { ⌜ (n ≤ 64) × (q < 64) ⌝ }
-    requires { ⌜ ((p : ℕ) → p < first → fitsAt n q (ballotsOf (now numbers) (now sets) (now bases) (now views) present) p ≡ false) ⌝ }
-    ensures { λ r. ⌜ r ≡ every n (agreesAt n q (ballotsOf (now (numbers .entry)) (now (sets .entry)) (now (bases .entry)) (now (views .entry)) present) v) ⌝ }
-{
-    let mut p = first;
-    while p < n {
-        if !agrees_at(n, q, numbers, sets, bases, views, present, v, p) {
-            return false;
-        }
-        p += 1;
-    }
-    true
+    left
 }
 
 // Rule 6. The first vote that fits stands for the others: each of them that fits must be equal to it.
@@ -425,13 +360,18 @@ pub fn joiner_decides(
     requires { ⌜ (n ≤ 64) × (q < n) ⌝ }
     ensures { λ r. ⌜ r ≡ joinerDecides (record { nodes = n }) q (ballotsOf (now (numbers .entry)) (now (sets .entry)) (now (bases .entry)) (now (views .entry)) present) ⌝ }
 {
-    let first = first_fit(n, q, numbers, sets, bases, views, present);
-    if n <= first {
+    let arrived = sets::below(n, present);
+    let rest = from_fit(n, q, numbers, sets, bases, views, present, arrived);
+    if rest == 0 {
         return State::Joining;
     }
+    let first = sets::lowest(rest) as usize;
     let v = vote_at(numbers, sets, bases, views, first);
-    if only_fit(n, q, numbers, sets, bases, views, present, v, first) {
-        member_on(v, voters(n, numbers, sets, bases, views, present, v))
+    let g = v.group;
+    let m = equal_votes(n, numbers, sets, bases, views, present, v);
+    let others = sets::difference(rest, m);
+    if from_fit(n, q, numbers, sets, bases, views, present, others) == 0 {
+        member_on(v, sets::intersection(m, g.set))
     } else {
         State::Joining
     }

@@ -1,5 +1,5 @@
 -- A test of the votes that arrived, where one slot answers for all with its vote. Assumes nothing.
-use mathlib.Core.Path.{_≡_, refl, sym, ap, ap₂, subst, _∙_}
+use mathlib.Core.Path.{_≡_, refl, sym, ap, ap₂, _∙_}
 use mathlib.Core.Bool.{Bool, true, false, not, _&&_, _||_, cond}
 use mathlib.Core.List.{List}
 use mathlib.Core.Option.{Option, none}
@@ -8,6 +8,7 @@ use lib.Dec.{ltb}
 use Rattle.sets.specs.Sets.{has, _∪_, _∩_, _∖_, those, below, any}
 use Rattle.sets.proofs.Booleans.{and-l, and-r, ltb-true, ltb-lt}
 use Rattle.sets.proofs.Membership.{has-inter, has-union, has-diff, has-none, set-ext}
+use Rattle.sets.proofs.Dropping.{drop-less}
 use Rattle.sets.proofs.Nodes.{has-those, has-below, those-in, in-those, of-those}
 use Rattle.rules.specs.declared.Vote.{Vote}
 use Rattle.rules.specs.OneCycle.{is}
@@ -15,8 +16,7 @@ use Rattle.rules.specs.Ballots.{voteAt, ballotsOf}
 use Rattle.rules.proofs.Counting.{any-none}
 use Rattle.rules.proofs.Votes.{is-eq, is-self}
 use Rattle.rules.proofs.Slots.{slot-full, slot-empty}
-use Rattle.tallies.specs.Grouped.{equalTo, Grouped, Within, spreadAt}
-use Rattle.tallies.proofs.Tallies.{diff-less}
+use Rattle.tallies.specs.Grouped.{Grouped, Within, spreadAt}
 
 module _ (numbers sets bases views : List ℕ) (n present : ℕ) (holds : Option Vote → Bool) where
   abbrev pub answers : ℕ → Bool
@@ -58,7 +58,6 @@ module _ (numbers sets bases views : List ℕ) (n present : ℕ) (holds : Option
 module _ (numbers sets bases views : List ℕ) (n members present : ℕ) (inside : Within present members) (lead : ℕ) (same : List ℕ) (grouped : Grouped numbers sets bases views n members lead same) where
   module _ (p votes : ℕ) (l : p < n) (h : has p present ≡ true) (o : votes ≡ spreadAt lead same p) where
     cast : votes ≡ those n (λ x. is (voteAt numbers sets bases views p) (ballotsOf numbers sets bases views members x))
-    unfolding equalTo
     cast = o ∙ grouped p l (inside p h)
 
     votes-own : has p votes ≡ true
@@ -75,7 +74,7 @@ module _ (numbers sets bases views : List ℕ) (n members present : ℕ) (inside
 
   module _ (holds : Option Vote → Bool) (left p votes m : ℕ) (s : Looked numbers sets bases views n present holds left m) (l : p < n) (h : has p left ≡ true) (o : votes ≡ spreadAt lead same p) (L : ℕ) (k : L ≡ left ∖ votes) where
     pub looked-less : L < left
-    looked-less = subst (λ (x : ℕ). x < left) (sym k) (diff-less p left votes h (votes-own p votes l (s .within p h .1) o))
+    looked-less = drop-less p left votes L h (votes-own p votes l (s .within p h .1) o) k
 
     pub looked-next : (M : ℕ) (r : Bool) → r ≡ answers numbers sets bases views n present holds p → M ≡ m ∪ cond r (left ∩ votes) 0 → Looked numbers sets bases views n present holds L M
     looked-next M r e f =

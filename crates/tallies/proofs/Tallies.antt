@@ -3,28 +3,28 @@ use mathlib.Core.Path.{_≡_, refl, sym, ap, ap₂, subst, _∙_}
 use mathlib.Core.Bool.{Bool, true, false, not, _&&_, _||_, cond, false≢true}
 use mathlib.Core.List.{List}
 use mathlib.Core.Option.{Option, some}
-use Prim.Native.Nat.{ℕ, zero, suc, _<_, _≤_}
+use Prim.Native.Nat.{ℕ, _<_, _≤_}
 use native.Mathlib.Omega.{arith}
 use lib.Dec.{eqb, ltb}
-use lib.Bits.{and-le-l}
 use lib.ListN.{getD}
 use Rattle.sets.specs.Sets.{has, single, _∪_, _∩_, _∖_, those, subset, lowest, any, every}
 use Rattle.sets.specs.Quorum.{quorum}
-use Rattle.sets.proofs.Booleans.{both, and-l, and-i, eqb-true}
+use Rattle.sets.proofs.Booleans.{both, and-l, eqb-true}
 use Rattle.sets.proofs.Membership.{has-inter, has-union, has-diff, has-single, has-none, some-node, set-ext, subset-in, subset-of}
+use Rattle.sets.proofs.Dropping.{drop-less}
 use Rattle.sets.proofs.Nodes.{has-those, those-in, in-those, of-those, lowest-in, lowest-least, every-i, every-e}
 use Rattle.state.specs.declared.Group.{Group}
 use Rattle.state.specs.declared.Reason.the-variants.{NoQuorum, Outvoted}
 use Rattle.state.specs.declared.State.the-variants.{Out, Joining}
 use Rattle.rules.specs.declared.Vote.{Vote}
 use Rattle.rules.specs.OneCycle.{Ballots, sameGroup, is, voters, wins, newSet, newGroup, withOwn, rival, memberOn, memberDecides, joinerDecides}
-use Rattle.rules.specs.Ballots.{voteAt, ballotsOf, fitsAt, agreesAt}
+use Rattle.rules.specs.Ballots.{voteAt, ballotsOf, fitsAt, agreesAt, equalTo}
 use Rattle.rules.proofs.Votes.{vote-self, is-eq, is-self}
 use Rattle.rules.proofs.States.{some-inj}
 use Rattle.rules.proofs.Slots.{without, slot-full, slot-empty, slots-without}
 use Rattle.rules.proofs.Own.{decides-on, decides-out}
 use Rattle.rules.proofs.Entering.{fits-full, enters-none, enters-on}
-use Rattle.tallies.specs.Grouped.{equalTo, Alike, Grouped, Within, Below, spreadAt, rivalAt, ownTally, memberWith}
+use Rattle.tallies.specs.Grouped.{Alike, Grouped, Within, spreadAt, rivalAt, ownTally, memberWith}
 
 -- tests of a slot, in the order of the masks and in that of the rules
 swap : (a b c : Bool) → (((a && b) && true) && c) ≡ (a && (c && b))
@@ -54,31 +54,13 @@ own-slot false b c = refl
 pub rival-test : (n : ℕ) (b : Ballots) (g : Group) (o : Option Vote) (v : Vote) (s : Bool) → o ≡ some v → s ≡ sameGroup g (v .group) → rival n b g o ≡ (s && wins n b v)
 rival-test n b g o v s e k = ap (rival n b g) e ∙ ap (λ (x : Bool). x && wins n b v) (sym k)
 
--- less is left without a node of it
-pub diff-less : (p a b : ℕ) → has p a ≡ true → has p b ≡ true → a ∖ b < a
-unfolding _∖_ _∩_
-diff-less p a b h k = go (a ∩ b) refl
-  where
-    go : (x : ℕ) → a ∩ b ≡ x → a ∖ b < a
-    go zero e = absurd (false≢true (sym (has-none p) ∙ ap (has p) (sym e) ∙ has-inter p a b ∙ and-i (has p a) (has p b) h k))
-    go (suc x) e = omega (arith, and-le-l a b, e)
-
 -- a part of what is inside is inside
 pub inside-less : (a b d m : ℕ) → Within a m → d ≡ a ∖ b → Within d m
 inside-less a b d m w e x h = w x (and-l (has x a) (not (has x b)) (sym (has-diff x a b) ∙ ap (has x) (sym e) ∙ h))
 
--- the lowest node of a set that is not empty
-pub lowest-node : (n m p : ℕ) → n ≤ 64 → Below n m → (m ≡ 0 → ⊥) → p ≡ lowest 64 (λ x. has x m) → (p < n) × (has p m ≡ true)
-lowest-node n m p small below some-left e =
-    let x = some-node m some-left in
-    let l : x .0 < n = below (x .0) (x .1) in
-    let k : has p m ≡ true = ap (λ (y : ℕ). has y m) e ∙ lowest-in 64 (x .0) (λ y. has y m) (omega arith) (x .1) .1 in
-    (below p k, k)
-
 module _ (numbers sets bases views : List ℕ) (n members : ℕ) where
   -- the members that cast a vote are alike
   pub equal-alike : (m : ℕ) (v : Vote) → m ≡ equalTo numbers sets bases views n members v → Alike numbers sets bases views n members m
-  unfolding equalTo
   equal-alike m v f j g h =
       let w = of-those j n (λ x. is v (ballotsOf numbers sets bases views members x)) (ap (has j) (sym f) ∙ h) in
       let z : voteAt numbers sets bases views j ≡ v = some-inj (sym (slot-full numbers sets bases views members j g) ∙ is-eq v (ballotsOf numbers sets bases views members j) (w .1)) in
@@ -89,8 +71,7 @@ module _ (numbers sets bases views : List ℕ) (n members : ℕ) where
 
   -- what is left without those that vote as its node p does
   pub left-less : (left p m L : ℕ) (v : Vote) → p < n → has p members ≡ true → has p left ≡ true → v ≡ voteAt numbers sets bases views p → m ≡ equalTo numbers sets bases views n members v → L ≡ left ∖ m → L < left
-  unfolding equalTo
-  left-less left p m L v l g h e f k = subst (λ (x : ℕ). x < left) (sym k) (diff-less p left m h own)
+  left-less left p m L v l g h e f k = drop-less p left m L h own k
     where
       own : has p m ≡ true
       own = ap (has p) f ∙ in-those p n (λ x. is v (ballotsOf numbers sets bases views members x)) l (is-self v (ballotsOf numbers sets bases views members p) (slot-full numbers sets bases views members p g ∙ ap some (sym e)))
@@ -138,7 +119,7 @@ module _ (numbers sets bases views : List ℕ) (n members present : ℕ) (inside
   arrived-is v x h = ap (is v) (slot-full numbers sets bases views members x (inside x h) ∙ sym (slot-full numbers sets bases views present x h))
 
   pub tally-voters : (v : Vote) → equalTo numbers sets bases views n members v ∩ present ∩ v .group .set ≡ voters n (ballotsOf numbers sets bases views present) v
-  unfolding equalTo voters
+  unfolding voters
   tally-voters v = set-ext (λ x.
       has-inter x (those n (sent v) ∩ present) M ∙ ap (λ (y : Bool). y && has x M) (has-inter x (those n (sent v)) present ∙ ap (λ (y : Bool). y && has x present) (has-those x n (sent v)))
       ∙ go x (has x present) refl ∙ sym (has-those x n (λ p. has p M && is v (ballotsOf numbers sets bases views present p))))
@@ -198,7 +179,6 @@ module _ (numbers sets bases views : List ℕ) (n members present : ℕ) (inside
         -- all that fit are equal to the first if they are among those with its vote
         pub enters-with : (votes : ℕ) (v : Vote) (r : Bool) → v ≡ voteAt numbers sets bases views first → votes ≡ spreadAt lead same first → r ≡ subset fit votes
             → joinerDecides (record { nodes = n }) q (ballotsOf numbers sets bases views present) ≡ cond r (memberOn (record { nodes = n }) (ballotsOf numbers sets bases views present) v) Joining
-        unfolding equalTo
         enters-with votes v r k o f =
             enters-on (record { nodes = n }) q (ballotsOf numbers sets bases views present) first v r (first-fits .0) none-before (first-fits .1)
             (slot-full numbers sets bases views present first first-present ∙ ap some (sym k)) (f ∙ ap (subset fit) alike-first ∙ both (subset fit E) (every n (agreesAt n q b v)) to from)
@@ -240,7 +220,7 @@ module _ (numbers sets bases views : List ℕ) (n members present : ℕ) (inside
       (em : m ≡ ownTally votes (own .group .set) present q) where
     -- the own vote's voters
     mine : m ≡ voters n (withOwn q own (ballotsOf numbers sets bases views present)) own
-    unfolding equalTo voters
+    unfolding voters
     mine =
         em ∙ ap (λ (x : ℕ). ownTally x M present q) (ev ∙ grouped q l i ∙ ap (equalTo numbers sets bases views n members) (sym e))
         ∙ set-ext (λ x.

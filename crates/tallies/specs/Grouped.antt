@@ -5,17 +5,13 @@ use mathlib.Core.Bool.{Bool, true, cond}
 use mathlib.Core.List.{List}
 use Prim.Native.Nat.{ℕ, _<_}
 use lib.ListN.{getD}
-use Rattle.sets.specs.Sets.{has, single, _∪_, _∩_, _∖_, those}
+use Rattle.sets.specs.Sets.{has, single, _∪_, _∩_, _∖_}
 use Rattle.state.specs.declared.Group.{Group}
 use Rattle.state.specs.declared.State.{State}
 use Rattle.state.specs.declared.State.the-variants.{Member}
 use Rattle.rules.specs.declared.Vote.{Vote}
-use Rattle.rules.specs.OneCycle.{is, rival, groupWith}
-use Rattle.rules.specs.Ballots.{voteAt, ballotsOf}
-
--- the members whose vote is v
-unfoldable pub equalTo : List ℕ → List ℕ → List ℕ → List ℕ → ℕ → ℕ → Vote → ℕ
-equalTo numbers sets bases views n members v = those n (λ x. is v (ballotsOf numbers sets bases views members x))
+use Rattle.rules.specs.OneCycle.{rival, groupWith}
+use Rattle.rules.specs.Ballots.{voteAt, ballotsOf, equalTo}
 
 -- element j of `same` where m is stored for each of its nodes
 abbrev pub spreadAt : ℕ → List ℕ → ℕ → ℕ

@@ -6,37 +6,11 @@ ghost use lib.ListN.{length, getD};
 ghost use Rattle.sets.specs.Sets.{has, _∩_, those, any};
 ghost use Rattle.rules.specs.OneCycle.{memberDecides, joinerDecides};
 ghost use Rattle.rules.specs.Ballots.{voteAt, ballotsOf, fitsAt};
-ghost use Rattle.tallies.specs.Grouped.{equalTo, Alike, Grouped, spreadAt, Within, Below, rivalAt, ownTally};
+ghost use Rattle.tallies.specs.Grouped.{Alike, Grouped, spreadAt, Within, Below, rivalAt, ownTally};
 use rules::Vote;
 use state::Group;
 use state::Reason;
 use state::State;
-
-// The members whose vote is v.
-fn equal_votes(
-    n: usize,
-    numbers: &[u32; 64],
-    sets: &[u64; 64],
-    bases: &[u64; 64],
-    views: &[u64; 64],
-    members: u64,
-    v: Vote,
-) -> u64
-    requires { ⌜ n ≤ 64 ⌝ }
-    ensures { λ r. ⌜ r ≡ equalTo (now (numbers .entry)) (now (sets .entry)) (now (bases .entry)) (now (views .entry)) n members v ⌝ }
-{
-    let mut m: u64 = 0;
-    let mut p: usize = 0;
-    while p < n {
-        m = sets::include(
-            m,
-            p,
-            steps::equals_at(numbers, sets, bases, views, members, v, p),
-        );
-        p += 1;
-    }
-    m
-}
 
 fn pick(yes: bool, a: u64, b: u64) -> u64
     ensures { λ r. ⌜ r ≡ cond yes a b ⌝ }
@@ -75,7 +49,7 @@ fn leading(
     }
     let p = sets::lowest(members) as usize;
     let v = steps::vote_at(numbers, sets, bases, views, p);
-    equal_votes(n, numbers, sets, bases, views, members, v)
+    steps::equal_votes(n, numbers, sets, bases, views, members, v)
 }
 
 // For each member the members with an equal vote: the result for its own nodes, `same` for the others. A vote is looked for once, for the lowest member
@@ -98,7 +72,7 @@ pub fn groups_of(
     while left != 0 {
         let p = sets::lowest(left) as usize;
         let v = steps::vote_at(numbers, sets, bases, views, p);
-        let m = equal_votes(n, numbers, sets, bases, views, members, v);
+        let m = steps::equal_votes(n, numbers, sets, bases, views, members, v);
         spread(n, m, same);
         left = sets::difference(left, m);
     }

@@ -1,23 +1,39 @@
 -- By the test on the place. Assumes nothing.
+use mathlib.Core.Path.{_≡_, sym, ap, _∙_}
+use mathlib.Core.Bool.{Bool, cond}
+use Prim.Native.Nat.{ℕ, _<_}
 use borrow.Author.Needs.{needs}
 use borrow.Author.Tests.{lt-ltb, le-ltb}
-use Rattle.row.specs.Gathered.{nodeOf}
+use Rattle.state.specs.declared.Node.{Node}
+use Rattle.cluster.specs.declared.Roles.{Roles}
+use Rattle.cluster.specs.declared.States.{States}
+use Rattle.cluster.specs.States.{statesOf}
+use Rattle.row.specs.Gathered.{rolesOf, placedNode, nodeOf}
 use Rattle.row.proofs.node_at.Statement.{statement}
 use Rattle.row.proofs.node_at.Tie as tie
 
-state-at-requires : tie.Need-state-at-requires
-state-at-requires c κs = search needs
+in-range : (n : ℕ) (s : States) (q : ℕ) (x r : Node) (w : Roles) → q < 64 → w ≡ rolesOf s
+    → r ≡ placedNode n (statesOf w (s .numbers) (s .sets) (s .bases)) q → r ≡ nodeOf n s q x
+unfolding nodeOf
+in-range n s q x r w l e f =
+    f ∙ ap (λ (v : Roles). placedNode n (statesOf v (s .numbers) (s .sets) (s .bases)) q) e
+    ∙ ap (λ (b : Bool). cond b (placedNode n s q) x) (sym (lt-ltb q 64 l))
 
-cast-t8 : tie.Need-cast-t8
-cast-t8 c = search needs
+roles-of-requires : tie.Need-roles-of-requires
+roles-of-requires c κs = search needs
+
+node-of-requires : tie.Need-node-of-requires
+node-of-requires c κs = search needs
 
 returns : tie.Need-returns
-unfolding nodeOf
-returns c = simp (lt-ltb _ _ (c .before .if1 .taken), c .state-at .ensures)
+returns c =
+    let w = c .before .before .before .before .before in
+    let a = w .before .before .args in
+    in-range (a .n) (a .t2) (a .q) (a .x) _ _ (w .before .if1 .taken) (w .roles-of .ensures) (c .node-of .ensures)
 
 returns-2 : tie.Need-returns-2
 unfolding nodeOf
 returns-2 c = simp (le-ltb _ _ (c .if1 .left))
 
 pub node-at-spec : {M : Type 1} → statement M
-node-at-spec = tie.close (tie.spec state-at-requires cast-t8 returns returns-2)
+node-at-spec = tie.close (tie.spec roles-of-requires node-of-requires returns returns-2)

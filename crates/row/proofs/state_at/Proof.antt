@@ -8,29 +8,26 @@ use Rattle.row.proofs.state_at.Tie as tie
 contains-requires : tie.Need-contains-requires
 contains-requires c κs = search needs
 
-mul-t7 : tie.Need-mul-t7
-mul-t7 c = search needs
+mul-t8 : tie.Need-mul-t8
+mul-t8 c = search needs
 
-element-copy-out-t10 : tie.Need-element-copy-out-t10
-element-copy-out-t10 c = search needs
+element-copy-out-t11 : tie.Need-element-copy-out-t11
+element-copy-out-t11 c = search needs
 
-mul-t11 : tie.Need-mul-t11
-mul-t11 c = search needs
+mul-t12 : tie.Need-mul-t12
+mul-t12 c = search needs
 
-element-copy-out-t14 : tie.Need-element-copy-out-t14
-element-copy-out-t14 c = search needs
+element-copy-out-t15 : tie.Need-element-copy-out-t15
+element-copy-out-t15 c = search needs
 
-mul-t15 : tie.Need-mul-t15
-mul-t15 c = search needs
+mul-t16 : tie.Need-mul-t16
+mul-t16 c = search needs
 
-element-copy-out-t18 : tie.Need-element-copy-out-t18
-element-copy-out-t18 c = search needs
+element-copy-out-t19 : tie.Need-element-copy-out-t19
+element-copy-out-t19 c = search needs
 
 contains-requires-2 : tie.Need-contains-requires-2
 contains-requires-2 c κs = search needs
-
-roles-of-requires : tie.Need-roles-of-requires
-roles-of-requires c κs = search needs
 
 out-at-requires : tie.Need-out-at-requires
 out-at-requires c κs = search needs
@@ -47,10 +44,9 @@ returns-3 : tie.Need-returns-3
 unfolding stateAt
 returns-3 c =
     simp (
-      sym (c .before .before .before .before .before .contains .ensures) ∙ c .before .before .before .before .if1 .left,
-      sym (c .before .before .before .contains2 .ensures) ∙ c .before .before .if2 .left,
+      sym (c .before .before .before .before .contains .ensures) ∙ c .before .before .before .if1 .left,
+      sym (c .before .before .contains2 .ensures) ∙ c .before .if2 .left,
       c .out-at .ensures,
-      c .before .roles-of .ensures,
     )
 
 pub state-at-spec : {M : Type 1} → statement M
@@ -58,14 +54,13 @@ state-at-spec =
     tie.close
     (tie.spec
     contains-requires
-    mul-t7
-    element-copy-out-t10
-    mul-t11
-    element-copy-out-t14
-    mul-t15
-    element-copy-out-t18
+    mul-t8
+    element-copy-out-t11
+    mul-t12
+    element-copy-out-t15
+    mul-t16
+    element-copy-out-t19
     contains-requires-2
-    roles-of-requires
     out-at-requires
     returns
     returns-2

@@ -1,48 +1,65 @@
-use mathlib.Core.Bool.{false}
+use mathlib.Core.Bool.{true, false}
 use mathlib.Core.Logic.{⊎-elim}
 use mathlib.Core.Path.{_≡_, sym, _∙_}
-use Prim.Native.Nat.{ℕ, _≤_, _<_, _-_}
+use Prim.Native.Nat.{_≤_, _<_, _-_}
 use native.Mathlib.Omega.{arith}
+use lib.ListN.{getD}
 use Rattle.sets.specs.Quorum.{quorum}
-use Rattle.sets.specs.Sets.{those}
-use Rattle.sets.proofs.Nodes.{those-none, those-next, any-i}
-use Rattle.rules.specs.Ballots.{votedFor, agreed}
-use Rattle.rules.proofs.Counting.{any-none, quorum-none, none-yet, won, lost}
+use Rattle.sets.specs.Sets.{has, those}
+use Rattle.sets.proofs.Nodes.{those-next, those-end}
+use Rattle.rules.specs.Ballots.{votedFor}
+use Rattle.rules.proofs.Counting.{quorum-none, quorum-some, none-yet}
+use Rattle.sets.proofs.Dropping.{lowest-node}
+use Rattle.steps.proofs.Candidates.{none-below, Tried, tried-none, tried-won, tried-less, tried-next, tried-end}
 use borrow.Author.Needs.{needs}
-use borrow.Author.Tests.{lt-ltb, le-ltb}
-use borrow.Author.Count.{below-none, below-more}
 use Rattle.steps.proofs.any_agreed.Statement.{statement}
 use Rattle.steps.proofs.any_agreed.Tie as tie
 
 abbrev Inv-loop : tie.InvT-loop
-Inv-loop n views among base k view end m₀ p₀ m p = (p ≤ end) × (m ≡ those p (votedFor views among view)) × (quorum m base ≡ false)
+Inv-loop n views among base left k view m₀ p₀ m p = (p ≤ n) × (m ≡ those p (votedFor views left view)) × (quorum m base ≡ false)
 
 abbrev μ-loop : tie.MeasureT-loop
-μ-loop n views among base k view end m₀ p₀ m p = end - p
+μ-loop n views among base left k view m₀ p₀ m p = n - p
 
 abbrev Inv-found : tie.InvT-found
-Inv-found n views among base k₀ k = (k ≤ n) × ((j : ℕ) → j < k → agreed n views among base j ≡ false)
+Inv-found n views among base left₀ left = Tried n views among base left
 
 abbrev μ-found : tie.MeasureT-found
-μ-found n views among base k₀ k = n - k
+μ-found n views among base left₀ left = left
+
+below-requires : tie.Need-below-requires Inv-loop μ-loop Inv-found μ-found
+below-requires c κs = search needs
 
 found-holds : tie.Need-found-holds Inv-loop μ-loop Inv-found μ-found
-found-holds c = (omega arith, below-none _)
+found-holds c = let a = c .before .args in tried-none (a .n) (a .views .now) (a .among) (a .base) (c .below .result) (c .below .ensures)
+
+is-quorum-requires : tie.Need-is-quorum-requires Inv-loop μ-loop Inv-found μ-found
+is-quorum-requires c κs = search needs
+
+lowest-requires : tie.Need-lowest-requires Inv-loop μ-loop Inv-found μ-found
+lowest-requires c κs = search needs
+
+cast-k : tie.Need-cast-k Inv-loop μ-loop Inv-found μ-found
+cast-k c = search needs
+
+-- the lowest of those left is a node
+next : (c : tie.After-lowest Inv-loop μ-loop Inv-found μ-found) → (c .lowest .result < c .before .before .before .before .before .args .n) × (has (c .lowest .result) (c .before .before .before .found .left) ≡ true)
+next c =
+    let l = c .before .before .before in
+    let s = l .before .before in
+    lowest-node (s .args .n) (l .found .left) (c .lowest .result) (s .pre) (λ j h. l .found .inv .within j h .0) (quorum-some (l .found .left) (s .args .base) (sym (c .before .before .is-quorum .ensures) ∙ c .before .if1 .taken)) (c .lowest .ensures)
 
 mul-view : tie.Need-mul-view Inv-loop μ-loop Inv-found μ-found
-mul-view c = omega arith
+mul-view c = omega (arith, next c .0, c .before .before .before .before .before .pre)
 
 element-copy-out-view : tie.Need-element-copy-out-view Inv-loop μ-loop Inv-found μ-found
-element-copy-out-view c = omega arith
-
-contains-requires : tie.Need-contains-requires Inv-loop μ-loop Inv-found μ-found
-contains-requires c κs = omega arith
-
-turns-requires : tie.Need-turns-requires Inv-loop μ-loop Inv-found μ-found
-turns-requires c κs = search needs
+element-copy-out-view c = omega (arith, next c .0, c .before .before .before .before .before .pre)
 
 loop-holds : tie.Need-loop-holds Inv-loop μ-loop Inv-found μ-found
-loop-holds c = (omega arith, those-none _, quorum-none _)
+loop-holds c =
+    let l = c .before in
+    let s = l .before .before .before .before .before in
+    (omega (arith, next l .0), none-below (s .args .views .now) (l .before .before .before .found .left) (l .lowest .result) _ (l .lowest .ensures), quorum-none _)
 
 is-for-requires : tie.Need-is-for-requires Inv-loop μ-loop Inv-found μ-found
 is-for-requires c κs = omega arith
@@ -62,33 +79,46 @@ loop-less c = omega arith
 loop-again : tie.Need-loop-again Inv-loop μ-loop Inv-found μ-found
 loop-again c =
     let l = c .before .before .before .before .before .loop in
-    (omega arith, those-next _ _ _ _ _ (l .inv .1) (c .before .before .before .is-for .ensures) (c .before .before .include .ensures), none-yet (l .p) _ _ _ (c .before .before .before .is-for .result) _ (l .inv .2) (c .before .before .include .ensures) (c .before .completes .ensures) (c .if1 .left))
+    (omega arith, those-next _ _ _ _ _ (l .inv .1) (c .before .before .before .is-for .ensures) (c .before .before .include .ensures), none-yet (l .p) _ _ _ (c .before .before .before .is-for .result) _ (l .inv .2) (c .before .before .include .ensures) (c .before .completes .ensures) (c .if2 .left))
 
-add-k : tie.Need-add-k Inv-loop μ-loop Inv-found μ-found
-add-k c = omega arith
+difference-requires : tie.Need-difference-requires Inv-loop μ-loop Inv-found μ-found
+difference-requires c κs = search needs
+
+-- all senders were looked at for the view of slot k
+tallied : (c : tie.After-difference Inv-loop μ-loop Inv-found μ-found) → c .before .before .loop .m
+    ≡ those (c .before .before .before .before .before .before .before .before .before .args .n) (votedFor (c .before .before .before .before .before .before .before .before .before .args .views .now) (c .before .before .before .before .before .before .before .found .left) (getD (c .before .before .before .before .before .before .before .before .before .args .views .now) (c .before .before .before .before .lowest .result) 0))
+tallied c =
+    let same : c .before .before .loop .p ≡ c .before .before .before .before .before .before .before .before .before .args .n = omega (arith, c .before .loop-test .left, c .before .before .loop .inv .0) in
+    those-end _ _ _ _ (c .before .before .loop .inv .1) same
 
 found-less : tie.Need-found-less Inv-loop μ-loop Inv-found μ-found
-found-less c = omega arith
+found-less c =
+    let o = c .before .before .before .before in
+    let l = o .before .before .before in
+    let a = l .before .before .args in
+    tried-less (a .n) (a .views .now) (a .among) (a .base) (l .found .left) (o .lowest .result) (l .found .inv) (next o .1) (c .before .before .loop .m) (c .difference .result) (tallied c) (c .difference .ensures)
 
 found-again : tie.Need-found-again Inv-loop μ-loop Inv-found μ-found
 found-again c =
-    let a = c .before .before .before .before .before .before .before .args in
-    let f = c .before .before .before .before .before .before .found in
-    let l = c .before .loop in
-    let k = lost (a .n) (a .views .now) (a .among) (a .base) (f .k) _ (l .p) _ (c .before .before .before .contains .ensures) (c .before .before .turns .ensures .0) in
-    (omega arith, below-more _ _ (f .inv .1) (k (l .m) (c .loop-test .left) (l .inv .0) (l .inv .1) (l .inv .2)))
+    let o = c .before .before .before .before in
+    let l = o .before .before .before in
+    let a = l .before .before .args in
+    tried-next (a .n) (a .views .now) (a .among) (a .base) (l .found .left) (o .lowest .result) (l .found .inv) (next o .1) (c .before .before .loop .m) (c .difference .result) (tallied c) (c .difference .ensures) (c .before .before .loop .inv .2)
+
+is-quorum-requires-2 : tie.Need-is-quorum-requires-2 Inv-loop μ-loop Inv-found μ-found
+is-quorum-requires-2 c κs = search needs
 
 returns : tie.Need-returns Inv-loop μ-loop Inv-found μ-found
 returns c =
-    let a = c .before .before .args in
-    let f = c .before .found in
+    let l = c .before .before .before in
+    let a = l .before .before .args in
     ⊎-elim
-    (λ w. le-ltb _ _ (w .left) ∙ sym (any-none _ _ (λ j h. f .inv .1 j (omega (arith, w .left)))))
+    (λ w. c .is-quorum2 .ensures ∙ sym (c .before .before .is-quorum .ensures) ∙ w .left ∙ sym (tried-end (a .n) (a .views .now) (a .among) (a .base) (l .found .left) (l .found .inv) (sym (c .before .before .is-quorum .ensures) ∙ w .left)))
     (λ w.
-    lt-ltb _ _ (w .0 .taken)
-    ∙ sym (any-i _ _ _ (w .0 .taken)
-    (won (a .n) (a .views .now) (a .among) (a .base) (f .k) _ (w .4 .p) _ (w .2 .ensures) (w .3 .ensures .0) _ _ _ _ (w .5 .taken) (w .4 .inv .1) (w .6 .ensures) (w .7 .ensures) (w .8 .ensures) (w .9 .taken))))
-    (c .found-test .came)
+    let o = next (record { before = record { before = c .before .before; if1 = w .0 }; lowest = w .1 }) in
+    c .is-quorum2 .ensures ∙ sym (c .before .before .is-quorum .ensures) ∙ w .0 .taken
+    ∙ sym (tried-won (a .n) (a .views .now) (a .among) (a .base) (l .found .left) (w .1 .result) (l .found .inv) (o .1) (w .3 .p) (w .3 .m) (w .6 .result) (w .5 .result) (w .7 .result) (w .4 .taken) (w .3 .inv .1) (w .5 .ensures) (w .6 .ensures) (w .7 .ensures) (w .8 .taken)))
+    (c .before .if1 .came)
 
 pub any-agreed-spec : {M : Type 1} → statement M
 any-agreed-spec =
@@ -98,11 +128,13 @@ any-agreed-spec =
     μ-loop
     Inv-found
     μ-found
+    below-requires
     found-holds
+    is-quorum-requires
+    lowest-requires
+    cast-k
     mul-view
     element-copy-out-view
-    contains-requires
-    turns-requires
     loop-holds
     is-for-requires
     include-requires
@@ -110,7 +142,8 @@ any-agreed-spec =
     add-p
     loop-less
     loop-again
-    add-k
+    difference-requires
     found-less
     found-again
+    is-quorum-requires-2
     returns)

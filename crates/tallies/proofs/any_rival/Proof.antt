@@ -6,7 +6,7 @@ use Rattle.sets.specs.Sets.{has, _∪_}
 use Rattle.sets.proofs.Nodes.{any-i}
 use Rattle.rules.specs.OneCycle.{rival}
 use Rattle.rules.specs.Ballots.{ballotsOf}
-use Rattle.tallies.proofs.Tallies.{lowest-node}
+use Rattle.sets.proofs.Dropping.{lowest-node}
 use Rattle.tallies.proofs.Looking.{Looked, looked-none, looked-less, looked-next, looked-nowhere}
 use borrow.Author.Needs.{needs}
 use Rattle.tallies.proofs.any_rival.Statement.{statement}

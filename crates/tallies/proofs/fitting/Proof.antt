@@ -5,7 +5,7 @@ use native.Mathlib.Omega.{arith}
 use Rattle.sets.specs.Sets.{has, _∪_}
 use Rattle.rules.specs.OneCycle.{fits}
 use Rattle.rules.specs.Ballots.{ballotsOf}
-use Rattle.tallies.proofs.Tallies.{lowest-node}
+use Rattle.sets.proofs.Dropping.{lowest-node}
 use Rattle.tallies.proofs.Looking.{Looked, looked-none, looked-less, looked-next, looked-end}
 use borrow.Author.Needs.{needs}
 use Rattle.tallies.proofs.fitting.Statement.{statement}

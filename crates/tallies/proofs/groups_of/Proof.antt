@@ -5,7 +5,8 @@ use native.Mathlib.Omega.{arith}
 use lib.ListN.{length}
 use borrow.Author.Needs.{needs}
 use Rattle.sets.specs.Sets.{has}
-use Rattle.tallies.proofs.Tallies.{lowest-node, equal-alike, left-less, Split, split-none, split-next, split-end}
+use Rattle.sets.proofs.Dropping.{lowest-node}
+use Rattle.tallies.proofs.Tallies.{equal-alike, left-less, Split, split-none, split-next, split-end}
 use Rattle.tallies.proofs.groups_of.Statement.{statement}
 use Rattle.tallies.proofs.groups_of.Tie as tie
 

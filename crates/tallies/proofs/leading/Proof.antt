@@ -3,7 +3,8 @@ use mathlib.Core.Path.{_≡_}
 use Prim.Native.Nat.{_<_}
 use native.Mathlib.Omega.{arith}
 use Rattle.sets.specs.Sets.{has}
-use Rattle.tallies.proofs.Tallies.{lowest-node, equal-alike, none-alike}
+use Rattle.sets.proofs.Dropping.{lowest-node}
+use Rattle.tallies.proofs.Tallies.{equal-alike, none-alike}
 use borrow.Author.Needs.{needs}
 use Rattle.tallies.proofs.leading.Statement.{statement}
 use Rattle.tallies.proofs.leading.Tie as tie

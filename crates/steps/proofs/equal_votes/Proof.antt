@@ -5,15 +5,14 @@ use Rattle.sets.specs.Sets.{those}
 use Rattle.sets.proofs.Nodes.{those-none, those-next, those-end}
 use Rattle.rules.specs.OneCycle.{is}
 use Rattle.rules.specs.Ballots.{ballotsOf}
-use Rattle.tallies.specs.Grouped.{equalTo}
-use Rattle.tallies.proofs.equal_votes.Statement.{statement}
-use Rattle.tallies.proofs.equal_votes.Tie as tie
+use Rattle.steps.proofs.equal_votes.Statement.{statement}
+use Rattle.steps.proofs.equal_votes.Tie as tie
 
 abbrev Inv-loop : tie.InvT-loop
-Inv-loop n numbers sets bases views members v m₀ p₀ m p = (p ≤ n) × (m ≡ those p (λ x. is v (ballotsOf numbers sets bases views members x)))
+Inv-loop n numbers sets bases views present v m₀ p₀ m p = (p ≤ n) × (m ≡ those p (λ x. is v (ballotsOf numbers sets bases views present x)))
 
 abbrev μ-loop : tie.MeasureT-loop
-μ-loop n numbers sets bases views members v m₀ p₀ m p = n - p
+μ-loop n numbers sets bases views present v m₀ p₀ m p = n - p
 
 loop-holds : tie.Need-loop-holds Inv-loop μ-loop
 loop-holds c = (omega arith, those-none _)
@@ -34,7 +33,6 @@ loop-again : tie.Need-loop-again Inv-loop μ-loop
 loop-again c = (omega arith, those-next _ _ _ _ _ (c .before .before .before .loop .inv .1) (c .before .equals-at .ensures) (c .include .ensures))
 
 returns : tie.Need-returns Inv-loop μ-loop
-unfolding equalTo
 returns c = let same : c .before .loop .p ≡ c .before .before .args .n = omega arith in those-end _ _ _ _ (c .before .loop .inv .1) same
 
 pub equal-votes-spec : {M : Type 1} → statement M

@@ -7,14 +7,14 @@ use denote.Ref.{now}
 use Rattle.rules.specs.Faults.{Row}
 use Rattle.cluster.specs.States.{rowOf}
 use Rattle.runs.proofs.Ran.{Going, going-begun, going-done, going-there, going-past, going-next, states-formed}
-use Rattle.runs.proofs.run.Statement.{statement}
-use Rattle.runs.proofs.run.Tie as tie
+use Rattle.runs.proofs.run_framed.Statement.{statement}
+use Rattle.runs.proofs.run_framed.Tie as tie
 
 abbrev Inv-loop : tie.InvT-loop
-Inv-loop framed n s states₀ at₀ k₀ states at k = Going n (rowOf n states₀) s states at k
+Inv-loop n s states₀ cursor₀ k₀ states cursor k = Going n (rowOf n states₀) s states cursor k
 
 abbrev μ-loop : tie.MeasureT-loop
-μ-loop framed n s states₀ at₀ k₀ states at k = length s - at
+μ-loop n s states₀ cursor₀ k₀ states cursor k = length s - cursor
 
 abbrev nodes : tie.At-loop Inv-loop μ-loop → ℕ
 nodes a = a .before .before .args .n
@@ -39,35 +39,38 @@ part-rest-start c = omega arith
 part-rest-end : tie.Need-part-rest-end Inv-loop μ-loop
 part-rest-end c = omega arith
 
+cycle-count-requires : tie.Need-cycle-count-requires Inv-loop μ-loop
+cycle-count-requires c κs = c .before .before .loop .inv .counted
+
 cycle-faults-requires : tie.Need-cycle-faults-requires Inv-loop μ-loop
 cycle-faults-requires c κs =
-    let t = c .before in
+    let t = c .before .before in
     let a = t .before in
-    going-there (nodes a) (begun a) (table a) (a .loop .states) (a .loop .at) (a .loop .k) (a .loop .inv) (t .loop-test .taken)
+    going-there (nodes a) (begun a) (table a) (a .loop .states) (a .loop .cursor) (a .loop .k) (a .loop .inv) (t .loop-test .taken)
 
-one-cycle-requires : tie.Need-one-cycle-requires Inv-loop μ-loop
-one-cycle-requires c κs =
-    let a = c .before .before .before in
-    ((a .before .before .pre .0 .0, a .loop .inv .counted), states-formed (nodes a) (a .loop .states) (a .loop .inv .formed))
+cycle-requires : tie.Need-cycle-requires Inv-loop μ-loop
+cycle-requires c κs =
+    let a = c .before .before .before .before in
+    ((a .before .before .pre .0 .0, c .before .cycle-count .ensures .1), states-formed (nodes a) (a .loop .states) (a .loop .inv .formed))
 
 cycle-length-requires : tie.Need-cycle-length-requires Inv-loop μ-loop
 cycle-length-requires c κs =
-    let t = c .before .before .before in
+    let t = c .before .before .before .before in
     let a = t .before in
-    going-there (nodes a) (begun a) (table a) (a .loop .states) (a .loop .at) (a .loop .k) (a .loop .inv) (t .loop-test .taken) .0
+    going-there (nodes a) (begun a) (table a) (a .loop .states) (a .loop .cursor) (a .loop .k) (a .loop .inv) (t .loop-test .taken) .0
 
 abbrev turn : tie.After-cycle-length Inv-loop μ-loop → tie.In-loop Inv-loop μ-loop
-turn c = c .before .before .before .before
+turn c = c .before .before .before .before .before
 
 past : (c : tie.After-cycle-length Inv-loop μ-loop)
-    → (36 ≤ c .cycle-length .result) × (turn c .before .loop .at + c .cycle-length .result ≤ length (table (turn c .before)))
+    → (36 ≤ c .cycle-length .result) × (turn c .before .loop .cursor + c .cycle-length .result ≤ length (table (turn c .before)))
 past c =
     let t = turn c in
     let a = t .before in
-    going-past (nodes a) (begun a) (table a) (a .loop .states) (a .loop .at) (a .loop .k) (a .loop .inv) (t .loop-test .taken) _ (c .cycle-length .ensures)
+    going-past (nodes a) (begun a) (table a) (a .loop .states) (a .loop .cursor) (a .loop .k) (a .loop .inv) (t .loop-test .taken) _ (c .cycle-length .ensures)
 
-add-at : tie.Need-add-at Inv-loop μ-loop
-add-at c = let t = past c in omega arith
+add-cursor : tie.Need-add-cursor Inv-loop μ-loop
+add-cursor c = let t = past c in omega arith
 
 add-k : tie.Need-add-k Inv-loop μ-loop
 add-k c = let t = past c in let few = turn c .before .loop .inv .few in omega arith
@@ -79,16 +82,16 @@ loop-again : tie.Need-loop-again Inv-loop μ-loop
 loop-again c =
     let t = turn c in
     let a = t .before in
-    going-next (nodes a) (begun a) (table a) (a .loop .states) (a .loop .at) (a .loop .k) (a .loop .inv) (t .loop-test .taken)
-    _ _ _ (c .before .before .cycle-faults .ensures) (c .before .one-cycle .ensures) (c .cycle-length .ensures)
+    going-next (nodes a) (begun a) (table a) (a .loop .states) (a .loop .cursor) (a .loop .k) (a .loop .inv) (t .loop-test .taken)
+    _ _ _ (c .before .before .cycle-faults .ensures) (c .before .cycle .ensures) (c .cycle-length .ensures)
 
 returns : tie.Need-returns Inv-loop μ-loop
 returns c =
     let a = c .before in
-    going-done (nodes a) (begun a) (table a) (a .loop .states) (a .loop .at) (a .loop .k) (a .loop .inv) (c .loop-test .left)
+    going-done (nodes a) (begun a) (table a) (a .loop .states) (a .loop .cursor) (a .loop .k) (a .loop .inv) (c .loop-test .left)
 
-pub run-spec : {M : Type 1} → statement M
-run-spec =
+pub run-framed-spec : {M : Type 1} → statement M
+run-framed-spec =
     tie.close
     (tie.spec
     Inv-loop
@@ -97,10 +100,11 @@ run-spec =
     sub-rest
     part-rest-start
     part-rest-end
+    cycle-count-requires
     cycle-faults-requires
-    one-cycle-requires
+    cycle-requires
     cycle-length-requires
-    add-at
+    add-cursor
     add-k
     loop-less
     loop-again
