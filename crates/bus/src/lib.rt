@@ -165,7 +165,16 @@ fn member_decides(
     let sets = arrived.sets;
     let bases = arrived.bases;
     let views = arrived.views;
-    let after = steps::member_decides(n, q, own, &numbers, &sets, &bases, &views, arrived.present);
+    let after = decision::member_decides(
+        n,
+        q,
+        own,
+        &numbers,
+        &sets,
+        &bases,
+        &views,
+        arrived.present,
+    );
     after
 }
 
@@ -180,7 +189,7 @@ fn joiner_decides(n: usize, count: u32, reach: u64, a: &[u8], b: &[u8], q: usize
     let sets = arrived.sets;
     let bases = arrived.bases;
     let views = arrived.views;
-    let after = steps::joiner_decides(n, q, &numbers, &sets, &bases, &views, arrived.present);
+    let after = decision::joiner_decides(n, q, &numbers, &sets, &bases, &views, arrived.present);
     after
 }
 

@@ -106,10 +106,18 @@ fn next_state(n: Node, heard0: u64, heard1: u64, votes: &[u8], arrived: u64) -> 
     );
     match s {
         State::Out(r) => State::Out(r),
-        State::Joining => steps::joiner_decides(nodes, q, &numbers, &sets, &bases, &views, present),
+        State::Joining => decision::joiner_decides(
+            nodes,
+            q,
+            &numbers,
+            &sets,
+            &bases,
+            &views,
+            present,
+        ),
         State::Member(g) => {
             let own = own_vote(n, g, heard0, heard1);
-            steps::member_decides(nodes, q, own, &numbers, &sets, &bases, &views, present)
+            decision::member_decides(nodes, q, own, &numbers, &sets, &bases, &views, present)
         }
     }
 }

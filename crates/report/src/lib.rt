@@ -149,7 +149,7 @@ pub fn open(
     ensures { λ r. ⌜ Gives printed 12 (now (left .entry)) (now (out .entry)) at (now (out .exit)) r (held (now (numbers .exit)) (now (sets .exit)) (now (bases .exit))) ⌝ }
 {
     let header = put_header(out, at);
-    let refusal = table::start_refusal(false, 0, left);
+    let refusal = first_record::start_refusal(false, 0, left);
     if refusal != 0 {
         let end = put_refusal(out, header, refusal);
         return Piece {
@@ -159,9 +159,15 @@ pub fn open(
             over: true,
         };
     }
-    let nodes = table::start_count(left) as usize;
+    let nodes = first_record::start_count(left) as usize;
     Piece {
-        session: begin(nodes, table::start_founding(left), numbers, sets, bases),
+        session: begin(
+            nodes,
+            first_record::start_founding(left),
+            numbers,
+            sets,
+            bases,
+        ),
         taken: 12,
         at: header,
         over: false,
@@ -202,7 +208,7 @@ fn run_cycle(
     let watch = z.watch;
     let mut unheard = [0u64; 64];
     let mut missed = [0u64; 64];
-    table::cycle_missed(left, &mut unheard, &mut missed);
+    records::cycle_missed(left, &mut unheard, &mut missed);
     let marks = marks_at(left);
     let turn = reference::step(
         nodes,
@@ -225,7 +231,7 @@ fn run_cycle(
             roles: after,
             watch: next,
         },
-        taken: table::cycle_length(left),
+        taken: records::cycle_length(left),
         at: end,
         over: false,
     }
@@ -254,7 +260,7 @@ pub fn turn(
             over: true,
         };
     }
-    let refusal = table::cycle_refusal(z.nodes, z.cycle, left);
+    let refusal = records::cycle_refusal(z.nodes, z.cycle, left);
     if refusal != 0 {
         let end = put_refusal(out, at, refusal);
         return Piece {

@@ -47,7 +47,7 @@ quorum-none B = no (quorum 0 B) (λ e. let w = quorum-meet 0 0 B none-in none-in
     none-in : _⊆_ 0 B
     none-in q h = absurd (false≢true (sym (has-none q) ∙ h))
 
-pub quorum-some : (S B : ℕ) → quorum S B ≡ true → S ≡ 0 → ⊥
+quorum-some : (S B : ℕ) → quorum S B ≡ true → S ≡ 0 → ⊥
 quorum-some S B e z = false≢true (sym (quorum-none B) ∙ ap (λ (x : ℕ). quorum x B) (sym z) ∙ e)
 
 pub quorum-node : (S B : ℕ) → quorum S B ≡ true → (q : ℕ) × (has q S ≡ true)

@@ -40,7 +40,7 @@ fn is_longer(s: &[u8]) -> bool
     if s.len() < 36 {
         return false;
     }
-    table::cycle_length(s) < s.len()
+    records::cycle_length(s) < s.len()
 }
 
 // Refusals 1, 3 and 4 of a single cycle.
@@ -88,7 +88,7 @@ fn plain_cycle(
     ensures { λ r. ⌜ rowOf n (statesOf r (now (numbers .exit)) (now (sets .exit)) (now (bases .exit))) ≡ theCycle (record { nodes = n }) (faultsAt (now (s .entry))) (rowOf n (statesOf w (now (numbers .entry)) (now (sets .entry)) (now (bases .entry)))) ⌝ }
     ensures { λ _. ⌜ (now (unheard .exit) ≡ replicate 64 0) × (now (missed .exit) ≡ replicate 64 0) ⌝ }
 {
-    table::cycle_missed(s, unheard, missed);
+    records::cycle_missed(s, unheard, missed);
     let m = Marks {
         stop: bigendian::read8(s, 3),
         start: bigendian::read8(s, 11),
@@ -133,7 +133,7 @@ fn run_plain(n: usize, start: States, s: &[u8]) -> States
             &mut missed,
             rest,
         );
-        at += table::cycle_length(rest);
+        at += records::cycle_length(rest);
     }
     States {
         members: w.members,
@@ -157,8 +157,8 @@ fn run_framed(n: usize, start: States, s: &[u8]) -> States
     let mut k: u64 = 1;
     while cursor < s.len() {
         let rest = &s[cursor..];
-        states = bus::cycle(n, cycle_count(k), states, table::cycle_faults(rest));
-        cursor += table::cycle_length(rest);
+        states = bus::cycle(n, cycle_count(k), states, records::cycle_faults(rest));
+        cursor += records::cycle_length(rest);
         k += 1;
     }
     states
@@ -196,14 +196,14 @@ fn cycle_answer(n: u32, len: usize, g: Gathered, s: &[u8]) -> Outcome
     if status != 0 {
         return refused(status, g.states);
     }
-    let refusal = table::cycle_refusal(n as usize, 1, s);
+    let refusal = records::cycle_refusal(n as usize, 1, s);
     if refusal != 0 {
         return refused(refusal, g.states);
     }
     Outcome {
         status: 0,
         nodes: n as u8,
-        states: cluster::cycle(n as usize, g.states, table::cycle_faults(s)),
+        states: cluster::cycle(n as usize, g.states, records::cycle_faults(s)),
     }
 }
 
@@ -212,12 +212,12 @@ fn run_answer(framed: bool, len: usize, lent: States, s: &[u8]) -> Outcome
     ensures answered { λ r. ⌜ r .status ≡ tableOf true len (now (s .entry)) .cycles .refusal ⌝ }
     ensures left { λ r. ⌜ (r .status ≡ 0 → Leaves (r .nodes) (r .states) len (ranTo (tableOf true len (now (s .entry))))) ⌝ }
 {
-    let refusal = table::table_refusal(true, len, s);
+    let refusal = records::table_refusal(true, len, s);
     if refusal != 0 {
         return refused(refusal, lent);
     }
-    let n = table::start_count(s);
-    let begun = cluster::begin(n as usize, table::start_founding(s));
+    let n = first_record::start_count(s);
+    let begun = cluster::begin(n as usize, first_record::start_founding(s));
     Outcome {
         status: 0,
         nodes: n,

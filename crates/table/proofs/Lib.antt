@@ -1,4 +1,4 @@
-mod Refusals
-mod Missed
+pub mod Refusals
+pub mod Missed
 pub mod Laws
 pub mod Cursor

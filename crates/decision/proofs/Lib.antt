@@ -1,0 +1,2 @@
+mod Candidates
+mod Fitting
