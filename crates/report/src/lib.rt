@@ -208,7 +208,7 @@ fn run_cycle(
     let watch = z.watch;
     let mut unheard = [0u64; 64];
     let mut missed = [0u64; 64];
-    records::cycle_missed(left, &mut unheard, &mut missed);
+    faults::cycle_missed(left, &mut unheard, &mut missed);
     let marks = marks_at(left);
     let turn = reference::step(
         nodes,

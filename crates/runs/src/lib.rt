@@ -88,7 +88,7 @@ fn plain_cycle(
     ensures { λ r. ⌜ rowOf n (statesOf r (now (numbers .exit)) (now (sets .exit)) (now (bases .exit))) ≡ theCycle (record { nodes = n }) (faultsAt (now (s .entry))) (rowOf n (statesOf w (now (numbers .entry)) (now (sets .entry)) (now (bases .entry)))) ⌝ }
     ensures { λ _. ⌜ (now (unheard .exit) ≡ replicate 64 0) × (now (missed .exit) ≡ replicate 64 0) ⌝ }
 {
-    records::cycle_missed(s, unheard, missed);
+    faults::cycle_missed(s, unheard, missed);
     let m = Marks {
         stop: bigendian::read8(s, 3),
         start: bigendian::read8(s, 11),
@@ -157,7 +157,7 @@ fn run_framed(n: usize, start: States, s: &[u8]) -> States
     let mut k: u64 = 1;
     while cursor < s.len() {
         let rest = &s[cursor..];
-        states = bus::cycle(n, cycle_count(k), states, records::cycle_faults(rest));
+        states = bus::cycle(n, cycle_count(k), states, faults::cycle_faults(rest));
         cursor += records::cycle_length(rest);
         k += 1;
     }
@@ -203,7 +203,7 @@ fn cycle_answer(n: u32, len: usize, g: Gathered, s: &[u8]) -> Outcome
     Outcome {
         status: 0,
         nodes: n as u8,
-        states: cluster::cycle(n as usize, g.states, records::cycle_faults(s)),
+        states: cluster::cycle(n as usize, g.states, faults::cycle_faults(s)),
     }
 }
 

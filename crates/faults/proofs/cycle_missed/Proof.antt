@@ -5,8 +5,8 @@ use native.Mathlib.Omega.{arith}
 use Rattle.rules.specs.Faults.{tabulate}
 use Rattle.table.specs.Records.{missedOf}
 use Rattle.table.proofs.Missed.{row-none, heartbeat-turn, vote-turn, missed-end}
-use Rattle.records.proofs.cycle_missed.Statement.{statement}
-use Rattle.records.proofs.cycle_missed.Tie as tie
+use Rattle.faults.proofs.cycle_missed.Statement.{statement}
+use Rattle.faults.proofs.cycle_missed.Tie as tie
 
 abbrev Inv-loop : tie.InvT-loop
 Inv-loop s heartbeats₀ votes₀ count i₀ heartbeats votes i =

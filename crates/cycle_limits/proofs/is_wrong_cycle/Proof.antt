@@ -3,8 +3,8 @@ use native.Mathlib.Omega.{arith}
 use borrow.Author.Tests.{lt-ltb, le-ltb}
 use Rattle.table.specs.Records.{wrongCycle}
 use Rattle.table.proofs.Refusals.{wrong-few}
-use Rattle.records.proofs.is_wrong_cycle.Statement.{statement}
-use Rattle.records.proofs.is_wrong_cycle.Tie as tie
+use Rattle.cycle_limits.proofs.is_wrong_cycle.Statement.{statement}
+use Rattle.cycle_limits.proofs.is_wrong_cycle.Tie as tie
 
 returns : tie.Need-returns
 unfolding wrongCycle

@@ -1,7 +1,7 @@
 use native.Mathlib.Omega.{arith}
 use borrow.Author.Tests.{eq-eqb, ne-eqb}
-use Rattle.records.proofs.note.Statement.{statement}
-use Rattle.records.proofs.note.Tie as tie
+use Rattle.faults.proofs.note.Statement.{statement}
+use Rattle.faults.proofs.note.Tie as tie
 
 cast-missed : tie.Need-cast-missed
 cast-missed c = omega arith

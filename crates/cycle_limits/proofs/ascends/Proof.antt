@@ -1,7 +1,7 @@
 use native.Mathlib.Omega.{arith}
 use borrow.Author.Tests.{eq-eqb, ne-eqb}
-use Rattle.records.proofs.ascends.Statement.{statement}
-use Rattle.records.proofs.ascends.Tie as tie
+use Rattle.cycle_limits.proofs.ascends.Statement.{statement}
+use Rattle.cycle_limits.proofs.ascends.Tie as tie
 
 returns : tie.Need-returns
 returns c = simp (eq-eqb _ _ (c .if1 .taken))

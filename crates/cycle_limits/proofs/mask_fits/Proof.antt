@@ -1,8 +1,8 @@
 use mathlib.Core.Path.{sym, _∙_}
 use native.Mathlib.Omega.{arith}
 use borrow.Author.Tests.{eq-eqb, ne-eqb}
-use Rattle.records.proofs.mask_fits.Statement.{statement}
-use Rattle.records.proofs.mask_fits.Tie as tie
+use Rattle.cycle_limits.proofs.mask_fits.Statement.{statement}
+use Rattle.cycle_limits.proofs.mask_fits.Tie as tie
 
 returns : tie.Need-returns
 returns c = simp (eq-eqb _ _ (c .if1 .taken))

@@ -1,7 +1,7 @@
 use native.Mathlib.Omega.{arith}
 use borrow.Author.Tests.{eq-eqb, ne-eqb}
-use Rattle.records.proofs.place_fits.Statement.{statement}
-use Rattle.records.proofs.place_fits.Tie as tie
+use Rattle.cycle_limits.proofs.place_fits.Statement.{statement}
+use Rattle.cycle_limits.proofs.place_fits.Tie as tie
 
 returns : tie.Need-returns
 returns c = simp (ne-eqb _ _ (c .if1 .taken))

@@ -1,8 +1,8 @@
 -- `table::cycle_faults` meets its contract. Assumes nothing.
 use borrow.Author.Needs.{needs}
 use Rattle.table.proofs.Missed.{faults-are}
-use Rattle.records.proofs.cycle_faults.Statement.{statement}
-use Rattle.records.proofs.cycle_faults.Tie as tie
+use Rattle.faults.proofs.cycle_faults.Statement.{statement}
+use Rattle.faults.proofs.cycle_faults.Tie as tie
 
 cycle-missed-requires : tie.Need-cycle-missed-requires
 cycle-missed-requires c κs = search needs

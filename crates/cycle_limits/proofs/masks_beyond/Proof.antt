@@ -6,8 +6,8 @@ use denote.Ref.{now}
 use Rattle.bigendian.specs.BigEndian.{numberAt}
 use Rattle.table.specs.Records.{beyond, masksBeyond}
 use Rattle.table.proofs.Refusals.{mask-test}
-use Rattle.records.proofs.masks_beyond.Statement.{statement}
-use Rattle.records.proofs.masks_beyond.Tie as tie
+use Rattle.cycle_limits.proofs.masks_beyond.Statement.{statement}
+use Rattle.cycle_limits.proofs.masks_beyond.Tie as tie
 
 -- a mask with no bit at n or above, and what the test of each left
 abbrev Kept : tie.Start → ℕ → Type 0

@@ -2,8 +2,8 @@
 use native.Mathlib.Omega.{arith}
 use borrow.Author.Tests.{not-true, not-false}
 use Rattle.table.proofs.Refusals.{entry-misplaced, entry-mask, entry-order}
-use Rattle.records.proofs.entry_fits.Statement.{statement}
-use Rattle.records.proofs.entry_fits.Tie as tie
+use Rattle.cycle_limits.proofs.entry_fits.Statement.{statement}
+use Rattle.cycle_limits.proofs.entry_fits.Tie as tie
 
 mul-first : tie.Need-mul-first
 mul-first c = omega arith

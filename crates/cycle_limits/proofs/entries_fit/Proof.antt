@@ -7,8 +7,8 @@ use borrow.Author.Tests.{not-true, not-false}
 use Rattle.sets.specs.Sets.{every}
 use Rattle.table.specs.Records.{goodEntry}
 use Rattle.table.proofs.Refusals.{every-none, every-next, every-fails, every-end}
-use Rattle.records.proofs.entries_fit.Statement.{statement}
-use Rattle.records.proofs.entries_fit.Tie as tie
+use Rattle.cycle_limits.proofs.entries_fit.Statement.{statement}
+use Rattle.cycle_limits.proofs.entries_fit.Tie as tie
 
 abbrev Inv-loop : tie.InvT-loop
 Inv-loop n s count i₀ i = (i ≤ count) × (every i (goodEntry n s) ≡ true)
