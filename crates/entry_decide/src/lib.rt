@@ -130,14 +130,14 @@ pub fn decide(state: &mut [u8], heard0: u64, heard1: u64, votes: &[u8], arrived:
     if votes.len() != 1792 {
         return 3;
     }
-    match state::decode(state) {
+    match decoding::decode(state) {
         Decoded::Good(n) => {
             let next = Node {
                 state: next_state(n, heard0, heard1, votes, arrived),
                 id: n.id,
                 nodes: n.nodes,
             };
-            bytes::copy(&state::encode(next), state);
+            bytes::copy(&encoding::encode(next), state);
             0
         }
         Decoded::WrongLength => 3,

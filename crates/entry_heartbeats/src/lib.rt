@@ -188,7 +188,7 @@ pub fn send(
     if frame.len() != 10 {
         return 3;
     }
-    match state::decode(state) {
+    match decoding::decode(state) {
         Decoded::Good(n) => {
             send_of(n, sync, startup, cycle, channel, frame, sent);
             0

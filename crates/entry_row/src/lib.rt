@@ -34,7 +34,7 @@ fn node_in(images: &[u8], q: usize) -> Node
 {
     let at = 24 * q;
     let end = at + 24;
-    match state::decode(&images[at..end]) {
+    match decoding::decode(&images[at..end]) {
         Decoded::Good(x) => x,
         Decoded::WrongLength => nobody(),
         Decoded::Malformed => nobody(),
@@ -115,7 +115,7 @@ fn put_image(images: &mut [u8], q: usize, x: Node)
 {
     let at = 24 * q;
     let end = at + 24;
-    bytes::copy(&state::encode(x), &mut images[at..end]);
+    bytes::copy(&encoding::encode(x), &mut images[at..end]);
 }
 
 // The values as a row of n images.

@@ -73,7 +73,7 @@ pub fn begin(n: u32, node: u32, founding: u64, state: &mut [u8]) -> u32
     if status != 0 {
         return status;
     }
-    let image = state::encode(Node {
+    let image = encoding::encode(Node {
         state: initial(founding, node as usize),
         id: node as u8,
         nodes: n as u8,
@@ -98,9 +98,9 @@ fn rule_one(stop: bool, start: bool, state: &mut [u8]) -> u32
     ensures { λ r. ⌜ r ≡ imageStatus (now (state .entry)) ⌝ }
     ensures { λ _. ⌜ now (state .exit) ≡ ruleOneOf stop start (decoded (now (state .entry))) (now (state .entry)) ⌝ }
 {
-    match state::decode(state) {
+    match decoding::decode(state) {
         Decoded::Good(n) => {
-            let image = state::encode(stopped_and_started(stop, start, n));
+            let image = encoding::encode(stopped_and_started(stop, start, n));
             bytes::copy(&image, state);
             0
         }

@@ -46,7 +46,7 @@ pub fn view(state: &[u8], heard0: u64, heard1: u64, view: &mut u64) -> u32
     ensures { λ r. ⌜ r ≡ imageStatus (now (state .entry)) ⌝ }
     ensures { λ _. ⌜ now (view .exit) ≡ viewFrom (decoded (now (state .entry))) heard0 heard1 (now (view .entry)) ⌝ }
 {
-    match state::decode(state) {
+    match decoding::decode(state) {
         Decoded::Good(n) => {
             *view = view_of(n, heard0, heard1);
             0
@@ -161,7 +161,7 @@ pub fn send(
     if frame.len() != 36 {
         return 3;
     }
-    match state::decode(state) {
+    match decoding::decode(state) {
         Decoded::Good(n) => {
             send_of(n, heard0, heard1, cycle, channel, frame, sent);
             0

@@ -43,7 +43,7 @@ fn state_formed(id: u8, n: u8, s: State) -> bool
     match s {
         State::Out(_) => true,
         State::Joining => true,
-        State::Member(g) => state::sets_formed(id, n, g.set, g.base),
+        State::Member(g) => decoding::sets_formed(id, n, g.set, g.base),
     }
 }
 
@@ -51,7 +51,7 @@ fn state_formed(id: u8, n: u8, s: State) -> bool
 pub fn in_place(n: u8, q: usize, x: Node) -> bool
     ensures { λ r. ⌜ r ≡ inPlace n q x ⌝ }
 {
-    if !state::place_formed(x.id, x.nodes) {
+    if !decoding::place_formed(x.id, x.nodes) {
         return false;
     }
     let s = x.state;

@@ -7,10 +7,10 @@ use native.Mathlib.Omega.{arith}
 use lib.ListN.{length}
 use denote.Ref.{now}
 use borrow.Author.Tests.{not-true, not-false}
 use Rattle.state.proofs.Fields.{three, placeAt, place-bounds, wrong-length, no-place, kind-unknown, of-out, of-joining, of-member}
 use borrow.Author.Needs.{needs}
-use Rattle.state.proofs.decode.Statement.{statement}
-use Rattle.state.proofs.decode.Tie as tie
+use Rattle.decoding.proofs.decode.Statement.{statement}
+use Rattle.decoding.proofs.decode.Tie as tie
 
 -- the image, and what is known of it where the kind is looked at
 abbrev image : tie.After-group-at → List ℕ

@@ -1,6 +1,6 @@
 use borrow.Author.Needs.{needs}
-use Rattle.state.proofs.group_at.Statement.{statement}
-use Rattle.state.proofs.group_at.Tie as tie
+use Rattle.decoding.proofs.group_at.Statement.{statement}
+use Rattle.decoding.proofs.group_at.Tie as tie
 
 read4-requires : tie.Need-read4-requires
 read4-requires c κs = search needs

@@ -1,7 +1,7 @@
 use Rattle.state.specs.Image.{imageOf}
 use borrow.Author.Needs.{needs}
-use Rattle.state.proofs.encode.Statement.{statement}
-use Rattle.state.proofs.encode.Tie as tie
+use Rattle.encoding.proofs.encode.Statement.{statement}
+use Rattle.encoding.proofs.encode.Tie as tie
 
 enum-known-s : tie.Need-enum-known-s
 enum-known-s c = search needs

@@ -4,8 +4,8 @@ use mathlib.Core.Bool.{_&&_}
 use Prim.Native.Nat.{ℕ}
 use lib.Dec.{eqb}
 use borrow.Author.Tests.{eq-eqb, ne-eqb}
-use Rattle.state.proofs.is_zero.Statement.{statement}
-use Rattle.state.proofs.is_zero.Tie as tie
+use Rattle.decoding.proofs.is_zero.Statement.{statement}
+use Rattle.decoding.proofs.is_zero.Tie as tie
 
 last : (G M B : ℕ) → G ≡ 0 → M ≡ 0 → eqb B 0 ≡ (eqb G 0 && eqb M 0 && eqb B 0)
 last G M B g m = rw (g, m)

@@ -1,8 +1,8 @@
 use borrow.Author.Tests.{le-ltb}
 use Rattle.state.proofs.Fields.{three}
 use borrow.Author.Needs.{needs}
-use Rattle.state.proofs.out_node.Statement.{statement}
-use Rattle.state.proofs.out_node.Tie as tie
+use Rattle.decoding.proofs.out_node.Statement.{statement}
+use Rattle.decoding.proofs.out_node.Tie as tie
 
 is-zero-requires : tie.Need-is-zero-requires
 is-zero-requires c κs = search needs

@@ -1,7 +1,7 @@
 use borrow.Author.Tests.{le-leb, lt-leb}
 use Rattle.state.specs.State.{formedPlace}
-use Rattle.state.proofs.place_formed.Statement.{statement}
-use Rattle.state.proofs.place_formed.Tie as tie
+use Rattle.decoding.proofs.place_formed.Statement.{statement}
+use Rattle.decoding.proofs.place_formed.Tie as tie
 
 returns : tie.Need-returns
 unfolding formedPlace

@@ -1,7 +1,7 @@
 use borrow.Author.Tests.{ne-eqb}
 use borrow.Author.Needs.{needs}
-use Rattle.state.proofs.joining_node.Statement.{statement}
-use Rattle.state.proofs.joining_node.Tie as tie
+use Rattle.decoding.proofs.joining_node.Statement.{statement}
+use Rattle.decoding.proofs.joining_node.Tie as tie
 
 is-zero-requires : tie.Need-is-zero-requires
 is-zero-requires c κs = search needs

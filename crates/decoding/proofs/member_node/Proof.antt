@@ -1,7 +1,7 @@
 use borrow.Author.Tests.{ne-eqb}
 use borrow.Author.Needs.{needs}
-use Rattle.state.proofs.member_node.Statement.{statement}
-use Rattle.state.proofs.member_node.Tie as tie
+use Rattle.decoding.proofs.member_node.Statement.{statement}
+use Rattle.decoding.proofs.member_node.Tie as tie
 
 sets-formed-requires : tie.Need-sets-formed-requires
 sets-formed-requires c κs = search needs

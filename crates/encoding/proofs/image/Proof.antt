@@ -1,8 +1,8 @@
 use native.Mathlib.Omega.{arith}
 use Rattle.bigendian.specs.BigEndian.{bytesOf}
 use borrow.Author.Needs.{needs}
-use Rattle.state.proofs.image.Statement.{statement}
-use Rattle.state.proofs.image.Tie as tie
+use Rattle.encoding.proofs.image.Statement.{statement}
+use Rattle.encoding.proofs.image.Tie as tie
 
 write4-requires : tie.Need-write4-requires
 write4-requires c κs = search needs

@@ -1,9 +1,9 @@
 use mathlib.Core.Path.{sym, _∙_}
 use borrow.Author.Tests.{not-true, not-false}
 use Rattle.state.specs.State.{formedSets}
 use borrow.Author.Needs.{needs}
-use Rattle.state.proofs.sets_formed.Statement.{statement}
-use Rattle.state.proofs.sets_formed.Tie as tie
+use Rattle.decoding.proofs.sets_formed.Statement.{statement}
+use Rattle.decoding.proofs.sets_formed.Tie as tie
 
 contains-requires : tie.Need-contains-requires
 contains-requires c κs = search needs

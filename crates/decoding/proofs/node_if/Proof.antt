@@ -1,6 +1,6 @@
 use borrow.Author.Needs.{needs}
-use Rattle.state.proofs.node_if.Statement.{statement}
-use Rattle.state.proofs.node_if.Tie as tie
+use Rattle.decoding.proofs.node_if.Statement.{statement}
+use Rattle.decoding.proofs.node_if.Tie as tie
 
 returns : tie.Need-returns
 returns c = simp (c .if1 .taken)

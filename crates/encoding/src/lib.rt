@@ -1,0 +1,75 @@
+// A node's 24-byte image.
+ghost use mathlib.Core.Path.{_≡_};
+ghost use Rattle.state.specs.State.{reasonCode};
+ghost use Rattle.state.specs.Image.{layout, imageOf, noGroup};
+use state::Group;
+use state::Node;
+use state::Reason;
+use state::State;
+
+fn reason_code(r: Reason) -> u8
+    ensures { λ c. ⌜ c ≡ reasonCode r ⌝ }
+{
+    match r {
+        Reason::Stopped => 0,
+        Reason::NoQuorum => 1,
+        Reason::Outvoted => 2,
+    }
+}
+
+// What stands in the image of a node with no group.
+fn no_group() -> Group
+    ensures { λ r. ⌜ r ≡ noGroup ⌝ }
+{
+    Group {
+        number: 0,
+        set: 0,
+        base: 0,
+    }
+}
+
+fn image(kind: u8, reason: u8, id: u8, n: u8, g: Group) -> [u8; 24]
+    ensures { λ r. ⌜ r ≡ layout kind reason id n g ⌝ }
+{
+    let g4 = bigendian::write4(g.number);
+    let m8 = bigendian::write8(g.set);
+    let b8 = bigendian::write8(g.base);
+    [
+        kind,
+        reason,
+        id,
+        n,
+        g4[0],
+        g4[1],
+        g4[2],
+        g4[3],
+        m8[0],
+        m8[1],
+        m8[2],
+        m8[3],
+        m8[4],
+        m8[5],
+        m8[6],
+        m8[7],
+        b8[0],
+        b8[1],
+        b8[2],
+        b8[3],
+        b8[4],
+        b8[5],
+        b8[6],
+        b8[7],
+    ]
+}
+
+// The image of a node.
+pub fn encode(n: Node) -> [u8; 24]
+    ensures { λ r. ⌜ r ≡ imageOf n ⌝ }
+{
+    let s = n.state;
+    match s {
+        State::Out(r) => image(0, reason_code(r), n.id, n.nodes, no_group()),
+        State::Joining => image(1, 0, n.id, n.nodes, no_group()),
+        State::Member(g) => image(2, 0, n.id, n.nodes, g),
+    }
+}
