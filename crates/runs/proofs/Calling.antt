@@ -29,8 +29,9 @@ use Rattle.row.proofs.Meaning.{gathered-states, gathered-good}
 use Rattle.calls.specs.declared.Task.{Task}
 use Rattle.calls.specs.declared.Task.the-variants.{Run}
 use Rattle.calls.specs.Calls.{clusterOf, rowStatus, cycleStatus, cycleLeft, runStatus, ranTo, runLeft, callStatus, callLeft}
-use Rattle.runs.specs.Answered.{countByte, GatheredFrom, rowRefusal, Leaves, rowAfter}
-use Rattle.runs.proofs.Ran.{after-row, states-formed}
+use Rattle.turns.specs.After.{rowAfter}
+use Rattle.runs.specs.Answered.{countByte, GatheredFrom, rowRefusal, Leaves}
+use Rattle.turns.proofs.Ran.{after-row, states-formed}
 
 -- ---- the row of a single cycle
 

@@ -3,14 +3,11 @@
 use mathlib.Core.Path.{_≡_}
 use mathlib.Core.Bool.{Bool, not, _||_, cond}
 use mathlib.Core.List.{List, [], _∷_}
-use Prim.Native.Nat.{ℕ, _-_, _%_, _≤_}
+use Prim.Native.Nat.{ℕ, _≤_}
 use lib.Dec.{eqb, leb, ltb}
 use lib.ListN.{length}
 use Rattle.refusal.specs.Refusal.{when, first}
 use Rattle.state.specs.declared.Node.{Node}
-use Rattle.rules.specs.declared.Faults.{Faults}
-use Rattle.rules.specs.OneCycle.{Config}
-use Rattle.rules.specs.Faults.{Row, cycle}
 use Rattle.table.specs.Records.{cycleLength}
 use Rattle.cluster.specs.declared.States.{States}
 use Rattle.cluster.specs.States.{rowOf}
@@ -21,10 +18,6 @@ use Rattle.row.specs.Gathered.{nothingOf, gathered}
 -- N as the entries of a row hold it; 0 for a number that no cluster has
 unfoldable pub countByte : ℕ → ℕ
 countByte n = cond (leb n 64) n 0
-
--- "Cycle n of a run has cycle count n - 1 modulo 64"
-abbrev pub cycleCount : ℕ → ℕ
-cycleCount n = (n - 1) % 64
 
 -- g is what was gathered of a row with these entries, for a cluster of n
 abbrev pub GatheredFrom : ℕ → Gathered → ℕ → List Node → Type 0
@@ -38,8 +31,3 @@ rowRefusal n len good s =
 -- the states s of n nodes are those of a row of so many entries
 abbrev pub Leaves : ℕ → States → ℕ → List Node → Type 0
 Leaves n s len nodes = (n ≡ len) × (n ≤ 64) × (nodesOf n (rowOf n s) ≡ nodes)
-
--- the row after a list of cycles
-unfoldable pub rowAfter : Config → Row → List Faults → Row
-rowAfter C row [] = row
-rowAfter C row (c ∷ cs) = rowAfter C (cycle C c row) cs

@@ -21,7 +21,7 @@ use Rattle.table.proofs.Cursor.{left, from, from-end, from-refused, from-there,
 use Rattle.cluster.specs.declared.States.{States}
 use Rattle.cluster.specs.States.{faultsOf, stateAt, rowOf}
 use Rattle.formed.proofs.Formed.{FormedRow, cycle-formed}
-use Rattle.runs.specs.Answered.{rowAfter}
+use Rattle.turns.specs.After.{rowAfter}
 
 abbrev sized : ℕ → Config
 sized n = record { nodes = n }

@@ -6,9 +6,9 @@ use lib.ListN.{length}
 use denote.Ref.{now}
 use Rattle.rules.specs.Faults.{Row}
 use Rattle.cluster.specs.States.{rowOf}
-use Rattle.runs.proofs.Ran.{Going, going-begun, going-done, going-there, going-past, going-next, states-formed}
-use Rattle.runs.proofs.run_framed.Statement.{statement}
-use Rattle.runs.proofs.run_framed.Tie as tie
+use Rattle.turns.proofs.Ran.{Going, going-begun, going-done, going-there, going-past, going-next, states-formed}
+use Rattle.framed_runs.proofs.run_framed.Statement.{statement}
+use Rattle.framed_runs.proofs.run_framed.Tie as tie
 
 abbrev Inv-loop : tie.InvT-loop
 Inv-loop n s states₀ cursor₀ k₀ states cursor k = Going n (rowOf n states₀) s states cursor k

@@ -8,9 +8,9 @@ use denote.Ref.{now}
 use Rattle.rules.specs.Faults.{Row}
 use Rattle.cluster.specs.declared.States.{States}
 use Rattle.cluster.specs.States.{statesOf, rowOf}
-use Rattle.runs.proofs.Ran.{Passing, going-begun, going-done, going-there, going-past, going-next}
-use Rattle.runs.proofs.run_plain.Statement.{statement}
-use Rattle.runs.proofs.run_plain.Tie as tie
+use Rattle.turns.proofs.Ran.{Passing, going-begun, going-done, going-there, going-past, going-next}
+use Rattle.plain_runs.proofs.run_plain.Statement.{statement}
+use Rattle.plain_runs.proofs.run_plain.Tie as tie
 
 abbrev Inv-loop : tie.InvT-loop
 Inv-loop n s w₀ numbers₀ sets₀ bases₀ unheard₀ missed₀ at₀ w numbers sets bases unheard missed at =

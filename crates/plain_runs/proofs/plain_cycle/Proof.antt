@@ -5,9 +5,9 @@ use denote.Ref.{now}
 use Rattle.rules.specs.Faults.{Row, cycle}
 use Rattle.table.specs.Records.{faultsAt}
 use Rattle.cluster.specs.States.{statesOf, rowOf}
-use Rattle.runs.proofs.Ran.{cycle-read, none-missed}
-use Rattle.runs.proofs.plain_cycle.Statement.{statement}
-use Rattle.runs.proofs.plain_cycle.Tie as tie
+use Rattle.turns.proofs.Ran.{cycle-read, none-missed}
+use Rattle.plain_runs.proofs.plain_cycle.Statement.{statement}
+use Rattle.plain_runs.proofs.plain_cycle.Tie as tie
 
 cycle-missed-requires : tie.Need-cycle-missed-requires
 cycle-missed-requires c κs = let s = c .before .before .before in ((s .pre .0 .1, s .pre .0 .2), s .pre .1)

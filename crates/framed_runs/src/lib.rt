@@ -1,0 +1,38 @@
+// A run through frames, on both channels.
+ghost use mathlib.Core.Path.{_≡_};
+ghost use mathlib.Core.Bool.{true};
+ghost use Prim.Native.Nat.{ℕ, _≤_, _<_};
+ghost use lib.ListN.{length};
+ghost use Rattle.state.specs.State.{formedState};
+ghost use Rattle.table.specs.Table.{cyclesIn};
+ghost use Rattle.cluster.specs.States.{stateAt, rowOf};
+ghost use Rattle.turns.specs.After.{rowAfter};
+ghost use Rattle.framed_runs.specs.Count.{cycleCount};
+use cluster::States;
+
+// The cycle count of cycle k of a run, as its frames have it.
+fn cycle_count(k: u64) -> u32
+    requires { ⌜ 0 < k ⌝ }
+    ensures { λ r. ⌜ r ≡ cycleCount k ⌝ }
+    ensures { λ r. ⌜ r < 64 ⌝ }
+{
+    ((k - 1) % 64) as u32
+}
+
+// A run through frames, whose cost is far above that of such copies.
+pub fn run_framed(n: usize, start: States, s: &[u8]) -> States
+    requires { ⌜ (n ≤ 64) × (cyclesIn (length (now s)) n 1 (now s) .refusal ≡ 0) ⌝ }
+    requires { ⌜ ((q : ℕ) → q < n → formedState q n (stateAt start q) ≡ true) ⌝ }
+    ensures { λ r. ⌜ rowOf n r ≡ rowAfter (record { nodes = n }) (rowOf n start) (cyclesIn (length (now (s .entry))) n 1 (now (s .entry)) .whole) ⌝ }
+{
+    let mut states = start;
+    let mut cursor: usize = 0;
+    let mut k: u64 = 1;
+    while cursor < s.len() {
+        let rest = &s[cursor..];
+        states = bus::cycle(n, cycle_count(k), states, faults::cycle_faults(rest));
+        cursor += records::cycle_length(rest);
+        k += 1;
+    }
+    states
+}
