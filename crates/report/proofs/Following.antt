@@ -10,7 +10,7 @@ use Rattle.rules.specs.Reference.{Cluster, beginning, step}
 use Rattle.table.specs.Records.{countAt, foundingAt, startRefusal, cycleLength, cycleRefusal, faultsAt}
 use Rattle.table.specs.Table.{Cycles, withCycle, cyclesIn, tableOf}
 use Rattle.table.proofs.Laws.{noCycle, cycles-end, cycles-refused, cycles-next, enough, table-refused, table-cycles}
-use Rattle.report.specs.Printed.{headerLine, line, lines, refusedLine, reported, ofNodes, printed}
+use Rattle.printed.specs.Printed.{headerLine, line, lines, refusedLine, reported, ofNodes, printed}
 use Rattle.report.specs.Pieces.{following}
 
 module _ (n k : ℕ) (b : Cluster) where

@@ -21,7 +21,7 @@ use Rattle.reference.specs.declared.Watch.{Watch}
 use Rattle.reference.specs.Watched.{referenceOf, clusterOf, haltedIn, enteredIn}
 use Rattle.report.specs.declared.Session.{Session}
 use Rattle.report.specs.declared.Piece.{Piece}
-use Rattle.report.specs.Printed.{headerLine, fields, line, refusedLine, ofNodes, printed}
+use Rattle.printed.specs.Printed.{headerLine, fields, line, refusedLine, ofNodes, printed}
 use Rattle.report.specs.Seen.{Sees}
 use Rattle.report.specs.Pieces.{marksAt, Groups, nodesOf, standing, following, remaining, Sound, Begun, Gives}
 use Rattle.report.proofs.Windows.{seen-shorter, seen-end, seen-length, seen-faults, seen-refusal, seen-count, seen-founding, seen-start}

@@ -1,6 +1,4 @@
-mod Lengths
 mod Windows
 mod Following
 mod Giving
 pub mod Pieces
-mod Worked

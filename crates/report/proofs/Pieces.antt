@@ -7,7 +7,7 @@ use Prim.Native.Nat.{ℕ, _≤_}
 use lib.ListN.{length, drop}
 use Rattle.text.proofs.Appending.{inside}
 use Rattle.report.specs.declared.Piece.{Piece}
-use Rattle.report.specs.Printed.{printed}
+use Rattle.printed.specs.Printed.{printed}
 use Rattle.report.specs.Seen.{Sees}
 use Rattle.report.specs.Pieces.{Groups, remaining, Gives}
 

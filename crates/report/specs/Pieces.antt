@@ -15,7 +15,7 @@ use Rattle.cluster.specs.States.{statesOf}
 use Rattle.reference.specs.Watched.{clusterOf}
 use Rattle.report.specs.declared.Session.{Session}
 use Rattle.report.specs.declared.Piece.{Piece}
-use Rattle.report.specs.Printed.{ofNodes, reported}
+use Rattle.printed.specs.Printed.{ofNodes, reported}
 use Rattle.report.specs.Seen.{Sees}
 
 -- the four masks of a cycle's record

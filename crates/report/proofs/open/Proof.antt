@@ -5,7 +5,7 @@ use denote.Ref.{now}
 use native.Mathlib.Omega.{arith}
 use Rattle.text.proofs.Appending.{leaves}
 use Rattle.table.proofs.Laws.{begins}
-use Rattle.report.proofs.Lengths.{header-length}
+use Rattle.printed.proofs.Lengths.{header-length}
 use Rattle.report.proofs.Giving.{opens-refused, opens}
 use Rattle.report.proofs.open.Statement.{statement}
 use Rattle.report.proofs.open.Tie as tie

@@ -8,7 +8,7 @@ use lib.ListN.{length, length-append}
 use Rattle.state.specs.declared.Group.{Group}
 use Rattle.text.specs.Text.{ascii, hexText, decimalText}
 use Rattle.text.proofs.Digits.{hex-length, decimal-length}
-use Rattle.report.specs.Printed.{headerLine, promiseText, groupText}
+use Rattle.printed.specs.Printed.{headerLine, promiseText, groupText}
 
 both : (t u : List ℕ) (m n : ℕ) → length t ≤ m → length u ≤ n → length (t ++ u) ≤ m + n
 both t u m n h l = omega (arith, length-append t u)

@@ -8,10 +8,10 @@ use Rattle.state.specs.declared.Group.{Group}
 use Rattle.text.specs.Text.{ascii, hexText, decimalText}
 use Rattle.text.proofs.Digits.{decimal-length}
 use Rattle.text.proofs.Appending.{same, then, leaves}
-use Rattle.report.specs.Printed.{groupText}
+use Rattle.printed.specs.Printed.{groupText}
 use native.Mathlib.Omega.{arith}
-use Rattle.report.proofs.put_group.Statement.{statement}
-use Rattle.report.proofs.put_group.Tie as tie
+use Rattle.lines.proofs.put_group.Statement.{statement}
+use Rattle.lines.proofs.put_group.Tie as tie
 
 slice-aggregate-put : tie.Need-slice-aggregate-put
 slice-aggregate-put c = omega arith

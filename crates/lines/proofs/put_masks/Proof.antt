@@ -2,10 +2,10 @@
 use Rattle.text.specs.Text.{ascii}
 use Rattle.text.proofs.Digits.{hex-length}
 use Rattle.text.proofs.Appending.{then, leaves}
-use Rattle.report.specs.Printed.{masksText}
+use Rattle.printed.specs.Printed.{masksText}
 use native.Mathlib.Omega.{arith}
-use Rattle.report.proofs.put_masks.Statement.{statement}
-use Rattle.report.proofs.put_masks.Tie as tie
+use Rattle.lines.proofs.put_masks.Statement.{statement}
+use Rattle.lines.proofs.put_masks.Tie as tie
 
 put-byte-requires : tie.Need-put-byte-requires
 put-byte-requires c κs = omega arith

@@ -7,10 +7,10 @@ use borrow.Author.Tests.{eq-eqb, ne-eqb}
 use Rattle.text.specs.Text.{ascii, decimalText}
 use Rattle.text.proofs.Digits.{decimal-length}
 use Rattle.text.proofs.Appending.{none, same, then, leaves}
-use Rattle.report.specs.Printed.{refusedLine}
+use Rattle.printed.specs.Printed.{refusedLine}
 use native.Mathlib.Omega.{arith}
-use Rattle.report.proofs.put_refusal.Statement.{statement}
-use Rattle.report.proofs.put_refusal.Tie as tie
+use Rattle.lines.proofs.put_refusal.Statement.{statement}
+use Rattle.lines.proofs.put_refusal.Tie as tie
 
 -- the line of a refusal, where there is one
 some-refused : (r : ℕ) → (r ≡ 0 → ⊥) → refusedLine r ≡ ascii "refused " ++ (decimalText r ++ ascii "\n")

@@ -1,11 +1,11 @@
 -- `report::put_line` meets its contract: one append after the other. Assumes nothing.
 use Rattle.text.proofs.Digits.{decimal-length}
 use Rattle.text.proofs.Appending.{then, leaves}
-use Rattle.report.specs.Printed.{fields}
-use Rattle.report.proofs.Lengths.{promise-length, group-length}
+use Rattle.printed.specs.Printed.{fields}
+use Rattle.printed.proofs.Lengths.{promise-length, group-length}
 use native.Mathlib.Omega.{arith}
-use Rattle.report.proofs.put_line.Statement.{statement}
-use Rattle.report.proofs.put_line.Tie as tie
+use Rattle.lines.proofs.put_line.Statement.{statement}
+use Rattle.lines.proofs.put_line.Tie as tie
 
 put-decimal-requires : tie.Need-put-decimal-requires
 put-decimal-requires c κs = omega arith

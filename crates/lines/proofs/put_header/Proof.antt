@@ -1,10 +1,10 @@
 -- `report::put_header` meets its contract. Assumes nothing.
 use Rattle.text.specs.Text.{ascii}
 use Rattle.text.proofs.Appending.{then}
-use Rattle.report.specs.Printed.{headerLine}
+use Rattle.printed.specs.Printed.{headerLine}
 use native.Mathlib.Omega.{arith}
-use Rattle.report.proofs.put_header.Statement.{statement}
-use Rattle.report.proofs.put_header.Tie as tie
+use Rattle.lines.proofs.put_header.Statement.{statement}
+use Rattle.lines.proofs.put_header.Tie as tie
 
 slice-aggregate-put : tie.Need-slice-aggregate-put
 slice-aggregate-put c = omega arith

@@ -15,7 +15,7 @@ use Rattle.table.specs.Records.{mark, marked, startRefusal, goodEntry, masksBey
 use Rattle.table.specs.Table.{cyclesIn, tableOf}
 use Rattle.reference.specs.Watched.{haltedIn, enteredIn}
 use Rattle.text.specs.Text.{ascii, glyph, digits, hexText, places, decimalText}
-use Rattle.report.specs.Printed.{headerLine, promiseText, groupText, masksText, fields, line, lines, refusedLine, reported, printed}
+use Rattle.printed.specs.Printed.{headerLine, promiseText, groupText, masksText, fields, line, lines, refusedLine, reported, printed}
 
 abbrev start : ℕ → ℕ → List ℕ
 start n founding = mark ++ (1 ∷ n ∷ bytesOf 8 founding)

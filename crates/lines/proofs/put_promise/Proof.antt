@@ -2,10 +2,10 @@
 use mathlib.Core.Path.{sym, ap}
 use Rattle.text.specs.Text.{ascii}
 use Rattle.text.proofs.Appending.{same}
-use Rattle.report.specs.Printed.{promiseText}
+use Rattle.printed.specs.Printed.{promiseText}
 use native.Mathlib.Omega.{arith}
-use Rattle.report.proofs.put_promise.Statement.{statement}
-use Rattle.report.proofs.put_promise.Tie as tie
+use Rattle.lines.proofs.put_promise.Statement.{statement}
+use Rattle.lines.proofs.put_promise.Tie as tie
 
 slice-aggregate-put : tie.Need-slice-aggregate-put
 slice-aggregate-put c = omega arith
