@@ -4,17 +4,8 @@ ghost use mathlib.Core.Path.{_≡_};
 ghost use Rattle.state.specs.Image.{decoded};
 ghost use Rattle.lent.specs.Refusals.{imageStatus};
 ghost use Rattle.entry_states.specs.States.{beginStatus, beginLeft, stopLeft, startLeft};
-ghost use Rattle.entry_heartbeats.specs.Heartbeats.{
-  writeHeartbeatStatus,
-  writeHeartbeatLeft,
-  sendHeartbeatStatus,
-  sendHeartbeatLeft,
-  sendHeartbeatSent,
-  readHeartbeatStatus,
-  readHeartbeatJoin,
-  receiveHeartbeatStatus,
-  receiveHeartbeatHeard,
-};
+ghost use Rattle.entry_heartbeats.specs.Heartbeats.{writeHeartbeatStatus, writeHeartbeatLeft, sendHeartbeatStatus, sendHeartbeatLeft, sendHeartbeatSent};
+ghost use Rattle.entry_hearing.specs.Hearing.{readHeartbeatStatus, readHeartbeatJoin, receiveHeartbeatStatus, receiveHeartbeatHeard};
 ghost use Rattle.entry_votes.specs.Votes.{viewFrom, voteOf, writeVoteStatus, writeVoteLeft, sendVoteStatus, sendVoteLeft, sendVoteSent};
 ghost use Rattle.entry_arrivals.specs.Arrivals.{readVoteStatus, readVoteLeft, receiveVoteStatus, receiveVoteLeft, receiveVoteArrived};
 ghost use Rattle.entry_decide.specs.Decide.{decideStatus, decideLeft};
@@ -97,7 +88,7 @@ pub extern "C" fn gm_read_heartbeat(
     ensures { λ r. ⌜ r ≡ readHeartbeatStatus n node cycle channel (now (frame .entry)) ⌝ }
     ensures { λ _. ⌜ now (join .exit) ≡ readHeartbeatJoin n node cycle channel (now (frame .entry)) (now (join .entry)) ⌝ }
 {
-    entry_heartbeats::read(n, node, cycle, channel, frame, join)
+    entry_hearing::read(n, node, cycle, channel, frame, join)
 }
 
 // Both copies of a node's heartbeat: missed, a member's or a joining node's.
@@ -113,7 +104,7 @@ pub extern "C" fn gm_receive_heartbeat(
     ensures { λ r. ⌜ r ≡ receiveHeartbeatStatus n node cycle ⌝ }
     ensures { λ _. ⌜ now (heard .exit) ≡ receiveHeartbeatHeard n node cycle (now (a .entry)) (now (b .entry)) (now (heard .entry)) ⌝ }
 {
-    entry_heartbeats::receive(n, node, cycle, a, b, heard)
+    entry_hearing::receive(n, node, cycle, a, b, heard)
 }
 
 // Rule 3: the view of a node, 0 if it is no member.

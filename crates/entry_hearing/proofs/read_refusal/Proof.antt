@@ -1,9 +1,9 @@
 use mathlib.Core.Path.{sym, _∙_}
 use Rattle.refusal.specs.Refusal.{first}
-use Rattle.entry_heartbeats.specs.Heartbeats.{readStatus}
+use Rattle.entry_hearing.specs.Hearing.{readStatus}
 use borrow.Author.Needs.{needs}
-use Rattle.entry_heartbeats.proofs.read_refusal.Statement.{statement}
-use Rattle.entry_heartbeats.proofs.read_refusal.Tie as tie
+use Rattle.entry_hearing.proofs.read_refusal.Statement.{statement}
+use Rattle.entry_hearing.proofs.read_refusal.Tie as tie
 
 wrong-count-requires : tie.Need-wrong-count-requires
 wrong-count-requires c κs = search needs
