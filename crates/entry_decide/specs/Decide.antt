@@ -18,7 +18,7 @@ use Rattle.rules.specs.OneCycle.{Ballots, memberDecides, joinerDecides}
 use Rattle.frames.specs.Written.{formedVote}
 use Rattle.refusal.specs.Refusal.{when, first, unless}
 use Rattle.lent.specs.Refusals.{wrongLength, malformed}
-use Rattle.entry_votes.specs.Votes.{ownView}
+use Rattle.entry_voting.specs.Voting.{ownView}
 
 -- the vote in slot p of the buffer
 unfoldable pub slotVote : List ℕ → ℕ → Vote

@@ -14,7 +14,7 @@ ghost use Rattle.entry_decide.specs.Decide.{
   decideStatus,
   decideLeft,
 };
-use entry_votes::own_vote;
+use entry_voting::own_vote;
 use rules::Vote;
 use state::Decoded;
 use state::Group;

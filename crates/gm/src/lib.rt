@@ -6,7 +6,8 @@ ghost use Rattle.lent.specs.Refusals.{imageStatus};
 ghost use Rattle.entry_states.specs.States.{beginStatus, beginLeft, stopLeft, startLeft};
 ghost use Rattle.entry_heartbeats.specs.Heartbeats.{writeHeartbeatStatus, writeHeartbeatLeft, sendHeartbeatStatus, sendHeartbeatLeft, sendHeartbeatSent};
 ghost use Rattle.entry_hearing.specs.Hearing.{readHeartbeatStatus, readHeartbeatJoin, receiveHeartbeatStatus, receiveHeartbeatHeard};
-ghost use Rattle.entry_votes.specs.Votes.{viewFrom, voteOf, writeVoteStatus, writeVoteLeft, sendVoteStatus, sendVoteLeft, sendVoteSent};
+ghost use Rattle.entry_votes.specs.Votes.{voteOf, writeVoteStatus, writeVoteLeft};
+ghost use Rattle.entry_voting.specs.Voting.{viewFrom, sendVoteStatus, sendVoteLeft, sendVoteSent};
 ghost use Rattle.entry_arrivals.specs.Arrivals.{readVoteStatus, readVoteLeft, receiveVoteStatus, receiveVoteLeft, receiveVoteArrived};
 ghost use Rattle.entry_decide.specs.Decide.{decideStatus, decideLeft};
 ghost use Rattle.entry_row.specs.Images.{imagesStatus, imagesLeft};
@@ -113,7 +114,7 @@ pub extern "C" fn gm_view(state: &[u8], heard0: u64, heard1: u64, view: &mut u64
     ensures { λ r. ⌜ r ≡ imageStatus (now (state .entry)) ⌝ }
     ensures { λ _. ⌜ now (view .exit) ≡ viewFrom (decoded (now (state .entry))) heard0 heard1 (now (view .entry)) ⌝ }
 {
-    entry_votes::view(state, heard0, heard1, view)
+    entry_voting::view(state, heard0, heard1, view)
 }
 
 // A vote from numbers, into 36 bytes.
@@ -150,7 +151,7 @@ pub extern "C" fn gm_send_vote(
     ensures { λ _. ⌜ now (frame .exit) ≡ sendVoteLeft (now (state .entry)) heard0 heard1 cycle channel (now (frame .entry)) ⌝ }
     ensures { λ _. ⌜ now (sent .exit) ≡ sendVoteSent (now (state .entry)) cycle channel (now (frame .entry)) (now (sent .entry)) ⌝ }
 {
-    entry_votes::send(state, heard0, heard1, cycle, channel, frame, sent)
+    entry_voting::send(state, heard0, heard1, cycle, channel, frame, sent)
 }
 
 // One copy of a node's vote: its 28 bytes.

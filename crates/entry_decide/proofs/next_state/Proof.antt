@@ -9,7 +9,7 @@ use Rattle.state.specs.declared.Node.{Node}
 use Rattle.rules.specs.declared.Vote.{Vote}
 use Rattle.rules.specs.OneCycle.{Ballots, memberDecides, joinerDecides}
 use Rattle.rules.specs.Ballots.{ballotsOf}
-use Rattle.entry_votes.specs.Votes.{ownView}
+use Rattle.entry_voting.specs.Voting.{ownView}
 use Rattle.entry_decide.specs.Decide.{bufferBallots, decision}
 use Rattle.entry_decide.proofs.Buffers.{same-ballots}
 use borrow.Author.Needs.{needs}

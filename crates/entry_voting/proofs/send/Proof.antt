@@ -17,10 +17,10 @@ use Rattle.state.specs.Image.{decoded, refusal}
 use Rattle.refusal.proofs.Laws.{here, next, unless-done, unless-refused}
 use Rattle.lent.specs.Refusals.{wrongCycle, wrongChannel}
 use Rattle.lent.proofs.Images.{good-place, lentConditions, other-length, by-image}
-use Rattle.entry_votes.specs.Votes.{votesByte, votedOf, voteIn, voteFrom, sendVoteStatus, sendVoteLeft, sendVoteSent}
+use Rattle.entry_voting.specs.Voting.{votesByte, votedOf, voteIn, voteFrom, sendVoteStatus, sendVoteLeft, sendVoteSent}
 use borrow.Author.Needs.{needs}
-use Rattle.entry_votes.proofs.send.Statement.{statement}
-use Rattle.entry_votes.proofs.send.Tie as tie
+use Rattle.entry_voting.proofs.send.Statement.{statement}
+use Rattle.entry_voting.proofs.send.Tie as tie
 
 abbrev numbersWrong : ℕ → ℕ → Bool
 numbersWrong cycle channel = wrongCycle cycle || wrongChannel channel

@@ -3,8 +3,8 @@ use Prim.Native.Nat.{ℕ}
 use Rattle.state.specs.declared.Group.{Group}
 use Rattle.rules.specs.declared.Vote.{Vote}
 use borrow.Author.Needs.{needs}
-use Rattle.entry_votes.proofs.own_vote.Statement.{statement}
-use Rattle.entry_votes.proofs.own_vote.Tie as tie
+use Rattle.entry_voting.proofs.own_vote.Statement.{statement}
+use Rattle.entry_voting.proofs.own_vote.Tie as tie
 
 with-view : (g : Group) {x y : ℕ} → x ≡ y → _≡_ {A = Vote} (record { group = g; view = x }) (record { group = g; view = y })
 with-view g e = λ i. record { group = g; view = e i }

@@ -5,10 +5,10 @@ use Rattle.state.specs.declared.State.{State}
 use Rattle.state.specs.declared.State.the-variants.{Member}
 use Rattle.state.specs.declared.Node.{Node}
 use Rattle.rules.specs.declared.Vote.{Vote}
-use Rattle.entry_votes.specs.Votes.{ownView, viewIn}
+use Rattle.entry_voting.specs.Voting.{ownView, viewIn}
 use borrow.Author.Needs.{needs}
-use Rattle.entry_votes.proofs.view_of.Statement.{statement}
-use Rattle.entry_votes.proofs.view_of.Tie as tie
+use Rattle.entry_voting.proofs.view_of.Statement.{statement}
+use Rattle.entry_voting.proofs.view_of.Tie as tie
 
 member-view : (n : Node) (g : Group) (v : Vote) (heard0 heard1 : ℕ) → n .state ≡ Member g → v ≡ record { group = g; view = ownView n heard0 heard1 g }
     → v .view ≡ viewIn n (n .state) heard0 heard1

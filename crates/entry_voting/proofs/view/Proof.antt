@@ -5,11 +5,11 @@ use Rattle.state.specs.declared.Node.{Node}
 use Rattle.state.specs.declared.Decoded.the-variants.{Good, WrongLength, Malformed}
 use Rattle.state.specs.Image.{decoded}
 use Rattle.lent.specs.Refusals.{imageStatus}
-use Rattle.entry_votes.specs.Votes.{viewIn, viewFrom}
+use Rattle.entry_voting.specs.Voting.{viewIn, viewFrom}
 use Rattle.lent.proofs.Images.{good-place}
 use borrow.Author.Needs.{needs}
-use Rattle.entry_votes.proofs.view.Statement.{statement}
-use Rattle.entry_votes.proofs.view.Tie as tie
+use Rattle.entry_voting.proofs.view.Statement.{statement}
+use Rattle.entry_voting.proofs.view.Tie as tie
 
 seen : (s : List ℕ) (n : Node) (heard0 heard1 view r : ℕ) → decoded s ≡ Good n → r ≡ viewIn n (n .state) heard0 heard1
     → (0 ≡ imageStatus s) × (r ≡ viewFrom (decoded s) heard0 heard1 view)

@@ -11,10 +11,11 @@ use Rattle.rules.specs.declared.Vote.{Vote}
 use Rattle.frames.specs.Written.{voteFrame}
 use Rattle.frames.proofs.Lengths.{length-vote}
 use Rattle.lent.proofs.Copies.{copied}
-use Rattle.entry_votes.specs.Votes.{ownView, votesByte, voteIn}
+use Rattle.entry_voting.specs.Voting.{ownView}
+use Rattle.entry_voting.specs.Voting.{votesByte, voteIn}
 use borrow.Author.Needs.{needs}
-use Rattle.entry_votes.proofs.send_of.Statement.{statement}
-use Rattle.entry_votes.proofs.send_of.Tie as tie
+use Rattle.entry_voting.proofs.send_of.Statement.{statement}
+use Rattle.entry_voting.proofs.send_of.Tie as tie
 
 voted : (n : Node) (heard0 heard1 cycle channel : ℕ) (f : List ℕ) (g : Group) (v : Vote) (a : List ℕ) {left : List ℕ} → length f ≡ 36 → n .state ≡ Member g
     → v ≡ record { group = g; view = ownView n heard0 heard1 g } → a ≡ voteFrame (n .id) v cycle channel → left ≡ take (length a) a ++ drop (length a) f
