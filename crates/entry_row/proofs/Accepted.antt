@@ -24,8 +24,9 @@ use Rattle.calls.specs.declared.Task.{Task}
 use Rattle.calls.specs.declared.Task.the-variants.{Cycle, Run, FramedRun}
 use Rattle.calls.specs.Calls.{rowStatus, cycleStatus, runStatus, callStatus, callLeft}
 use Rattle.runs.specs.Answered.{countByte, GatheredFrom, Leaves}
-use Rattle.entry_row.specs.Images.{nodeIn, entriesIn, nodesIn, imagesOf, imagesStatus, imagesLeft}
-use Rattle.entry_row.proofs.Images.{entries-all}
+use Rattle.images.specs.Images.{nodeIn, entriesIn, nodesIn, imagesOf}
+use Rattle.entry_row.specs.OnImages.{imagesStatus, imagesLeft}
+use Rattle.images.proofs.Images.{entries-all}
 
 -- ---- a row on which a call is not refused has entries
 

@@ -1,3 +1,1 @@
-pub mod Images
-mod Walks
 mod Accepted

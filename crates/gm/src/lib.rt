@@ -10,7 +10,7 @@ ghost use Rattle.entry_votes.specs.Votes.{voteOf, writeVoteStatus, writeVoteLef
 ghost use Rattle.entry_voting.specs.Voting.{viewFrom, sendVoteStatus, sendVoteLeft, sendVoteSent};
 ghost use Rattle.entry_arrivals.specs.Arrivals.{readVoteStatus, readVoteLeft, receiveVoteStatus, receiveVoteLeft, receiveVoteArrived};
 ghost use Rattle.entry_decide.specs.Decide.{decideStatus, decideLeft};
-ghost use Rattle.entry_row.specs.Images.{imagesStatus, imagesLeft};
+ghost use Rattle.entry_row.specs.OnImages.{imagesStatus, imagesLeft};
 use calls::Task;
 
 // Puts a node at the beginning.

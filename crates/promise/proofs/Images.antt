@@ -13,8 +13,9 @@ use Rattle.state.specs.declared.Node.{Node}
 use Rattle.calls.specs.Histories.{Call, status, left, History, historyOf, rowAfter, historyAfter, Stands, Begun, at-beginning, by-a-run, Promised}
 use Rattle.calls.proofs.OverCalls.{stands-length, refused-left, stands-after, begun-stands, over-calls}
 use Rattle.calls.proofs.Standing.{stands-in-order}
-use Rattle.entry_row.specs.Images.{nodesIn, imagesOf, imagesStatus, imagesLeft}
-use Rattle.entry_row.proofs.Images.{nodes-images}
+use Rattle.images.specs.Images.{nodesIn, imagesOf}
+use Rattle.entry_row.specs.OnImages.{imagesStatus, imagesLeft}
+use Rattle.images.proofs.Images.{nodes-images}
 use Rattle.gm.proofs.gm_cycle.Statement as gm-cycle-says
 use Rattle.gm.proofs.gm_cycle.Met as gm-cycle-met
 use Rattle.gm.proofs.gm_run.Statement as gm-run-says

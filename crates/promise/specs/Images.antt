@@ -7,7 +7,7 @@ use Prim.Native.Nat.{ℕ}
 use denote.Ref.{now}
 use Rattle.calls.specs.declared.Task.the-variants.{Cycle, Run, FramedRun}
 use Rattle.calls.specs.Histories.{Call, History, historyAfter, Begun, Promised}
-use Rattle.entry_row.specs.Images.{nodesIn}
+use Rattle.images.specs.Images.{nodesIn}
 use Rattle.gm.proofs.gm_cycle.Reads as gm-cycle
 use Rattle.gm.proofs.gm_run.Reads as gm-run
 use Rattle.gm.proofs.gm_run_frames.Reads as gm-run-frames

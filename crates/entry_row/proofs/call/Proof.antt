@@ -1,6 +1,7 @@
 use mathlib.Core.Path.{_≡_, sym, _∙_}
 use Rattle.runs.specs.Answered.{GatheredFrom}
-use Rattle.entry_row.specs.Images.{nodesIn, imagesStatus}
+use Rattle.images.specs.Images.{nodesIn}
+use Rattle.entry_row.specs.OnImages.{imagesStatus}
 use Rattle.entry_row.proofs.Accepted.{whole-images, images-done, images-kept, from-images}
 use borrow.Author.Needs.{needs}
 use Rattle.entry_row.proofs.call.Statement.{statement}

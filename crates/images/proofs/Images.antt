@@ -17,7 +17,7 @@ use Rattle.state.proofs.RoundTrip.{image-length, round-trip}
 use Rattle.rules.specs.Faults.{tabulate}
 use Rattle.rules.proofs.Rows.{tabulate-ext}
 use Rattle.row.specs.Row.{inPlace, inOrder}
-use Rattle.entry_row.specs.Images.{nodeOr, nodeIn, entriesIn, nodesIn, imagesOf}
+use Rattle.images.specs.Images.{nodeOr, nodeIn, entriesIn, nodesIn, imagesOf}
 
 -- ---- how many images there are
 module _ (s : List ℕ) where

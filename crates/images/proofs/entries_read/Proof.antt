@@ -3,8 +3,8 @@ use mathlib.Core.Bool.{Bool, cond}
 use Prim.Native.Nat.{ℕ, _≤_, _<_}
 use lib.Dec.{ltb}
 use borrow.Author.Tests.{lt-ltb, le-ltb}
-use Rattle.entry_row.proofs.entries_read.Statement.{statement}
-use Rattle.entry_row.proofs.entries_read.Tie as tie
+use Rattle.images.proofs.entries_read.Statement.{statement}
+use Rattle.images.proofs.entries_read.Tie as tie
 
 few : (count k : ℕ) → count ≡ k → count < 64 → count ≡ cond (ltb k 64) k 64
 few count k e l = ap (λ (b : Bool). cond b count 64) (sym (lt-ltb count 64 l)) ∙ ap (λ (j : ℕ). cond (ltb j 64) j 64) e

@@ -3,11 +3,11 @@ use mathlib.Core.List.{List}
 use Prim.Native.Nat.{ℕ, _*_}
 use lib.ListN.{length}
 use Rattle.state.proofs.RoundTrip.{image-length}
-use Rattle.entry_row.specs.Images.{withImage}
-use Rattle.entry_row.proofs.Walks.{part-copied}
+use Rattle.images.specs.Images.{withImage}
+use Rattle.images.proofs.Walks.{part-copied}
 use borrow.Author.Needs.{needs}
-use Rattle.entry_row.proofs.put_image.Statement.{statement}
-use Rattle.entry_row.proofs.put_image.Tie as tie
+use Rattle.images.proofs.put_image.Statement.{statement}
+use Rattle.images.proofs.put_image.Tie as tie
 
 mul-at : tie.Need-mul-at
 mul-at c = search needs

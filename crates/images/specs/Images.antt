@@ -1,13 +1,11 @@
 -- Paper 01: "The press host is written in C and calls the node end with numbers and byte buffers only. For a run the caller lends the states of all units
--- as one row, one entry per unit." For C the row is N images of 24 bytes, one after the other. What a call on it answers and leaves is what the call on the
--- nodes gives, through the image.
+-- as one row, one entry per unit." For C the row is N images of 24 bytes, one after the other.
 -- Assumes nothing.
 use mathlib.Core.Bool.{cond}
 use mathlib.Core.List.{List, [], _∷_, _++_}
 use Prim.Native.Nat.{ℕ, _+_, _*_, _/_, _%_}
 use lib.Dec.{eqb}
 use lib.ListN.{length, take, drop}
-use Rattle.refusal.specs.Refusal.{unless}
 use Rattle.state.specs.declared.Reason.the-variants.{Stopped}
 use Rattle.state.specs.declared.State.the-variants.{Out}
 use Rattle.state.specs.declared.Node.{Node}
@@ -15,8 +13,6 @@ use Rattle.state.specs.declared.Decoded.{Decoded}
 use Rattle.state.specs.declared.Decoded.the-variants.{Good, WrongLength, Malformed}
 use Rattle.state.specs.Image.{imageOf, decoded}
 use Rattle.rules.specs.Faults.{tabulate}
-use Rattle.calls.specs.declared.Task.{Task}
-use Rattle.calls.specs.Calls.{callStatus, callLeft}
 
 -- "4: a state image not well formed, or in a row an entry q that is not node q of that N": such an image stands for a node of no place
 abbrev pub noNode : Node
@@ -46,12 +42,3 @@ withImage q image s = take (24 * q) s ++ (image ++ drop (24 * q + 24) s)
 unfoldable pub imagesOf : List Node → List ℕ
 imagesOf [] = []
 imagesOf (x ∷ xs) = imageOf x ++ imagesOf xs
-
--- ---- a call on a row of images
-
-unfoldable pub imagesStatus : Task → ℕ → List ℕ → List ℕ → ℕ
-imagesStatus task n row s = callStatus task n (nodesIn row) s
-
--- "A refusal returns only its number; states and buffers do not change."
-unfoldable pub imagesLeft : Task → ℕ → List ℕ → List ℕ → List ℕ
-imagesLeft task n row s = unless (imagesStatus task n row s) (imagesOf (callLeft task n (nodesIn row) s)) row

@@ -4,11 +4,11 @@ use native.Mathlib.Omega.{arith}
 use lib.ListN.{length, length-replicate}
 use Rattle.rules.specs.Faults.{tabulate}
 use Rattle.row.specs.Gathered.{nothingOf, gathered}
-use Rattle.entry_row.specs.Images.{nodeIn, entriesIn, nodesIn}
-use Rattle.entry_row.proofs.Images.{entries-fit}
-use Rattle.entry_row.proofs.Walks.{found, found-none, found-next, put-lengths, read-bounds, gathered-next, gathered-read}
-use Rattle.entry_row.proofs.gather.Statement.{statement}
-use Rattle.entry_row.proofs.gather.Tie as tie
+use Rattle.images.specs.Images.{nodeIn, entriesIn, nodesIn}
+use Rattle.images.proofs.Images.{entries-fit}
+use Rattle.images.proofs.Walks.{found, found-none, found-next, put-lengths, read-bounds, gathered-next, gathered-read}
+use Rattle.images.proofs.gather.Statement.{statement}
+use Rattle.images.proofs.gather.Tie as tie
 
 abbrev Inv-loop : tie.InvT-loop
 Inv-loop n images count numbers₀ sets₀ bases₀ w₀ good₀ q₀ numbers sets bases w good q =

@@ -2,10 +2,10 @@ use mathlib.Core.Path.{_≡_, ap, _∙_}
 use Prim.Native.Nat.{ℕ, _-_, _≤_}
 use native.Mathlib.Omega.{arith}
 use lib.ListN.{length}
-use Rattle.entry_row.specs.Images.{imagesOf}
-use Rattle.entry_row.proofs.Walks.{Written, written-none, written-next, written-length, written-all, placed, is-placed, all-placed}
-use Rattle.entry_row.proofs.scatter.Statement.{statement}
-use Rattle.entry_row.proofs.scatter.Tie as tie
+use Rattle.images.specs.Images.{imagesOf}
+use Rattle.images.proofs.Walks.{Written, written-none, written-next, written-length, written-all, placed, is-placed, all-placed}
+use Rattle.images.proofs.scatter.Statement.{statement}
+use Rattle.images.proofs.scatter.Tie as tie
 
 abbrev Inv-loop : tie.InvT-loop
 Inv-loop n images₀ s w count q₀ images q = (q ≤ count) × (images ≡ Written q (placed n s) images₀)

@@ -1,8 +1,8 @@
 use mathlib.Core.Path.{_∙_}
-use Rattle.entry_row.proofs.Walks.{node-found}
+use Rattle.images.proofs.Walks.{node-found}
 use borrow.Author.Needs.{needs}
-use Rattle.entry_row.proofs.node_in.Statement.{statement}
-use Rattle.entry_row.proofs.node_in.Tie as tie
+use Rattle.images.proofs.node_in.Statement.{statement}
+use Rattle.images.proofs.node_in.Tie as tie
 
 mul-at : tie.Need-mul-at
 mul-at c = search needs

@@ -28,8 +28,8 @@ use Rattle.row.specs.declared.Gathered.{Gathered}
 use Rattle.row.specs.Row.{nodesOf, inPlace}
 use Rattle.row.specs.Gathered.{rolesOf, withNode, nothingOf, pushOf, gathered, placedNode}
 use Rattle.row.proofs.Meaning.{push-in}
-use Rattle.entry_row.specs.Images.{nodeOr, nodeIn, withImage, imagesOf}
-use Rattle.entry_row.proofs.Images.{length-images}
+use Rattle.images.specs.Images.{nodeOr, nodeIn, withImage, imagesOf}
+use Rattle.images.proofs.Images.{length-images}
 
 -- ---- the node of image q, by what reading the image finds
 pub node-found : (s : List ℕ) (q : ℕ) (d r : Decoded) → d ≡ decoded (take (24 * q + 24 - 24 * q) (drop (24 * q) s)) → d ≡ r → nodeOr r ≡ nodeIn s q

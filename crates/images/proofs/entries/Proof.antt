@@ -1,7 +1,7 @@
 use mathlib.Core.Path.{sym}
-use Rattle.entry_row.proofs.Images.{entries-whole, entries-none}
-use Rattle.entry_row.proofs.entries.Statement.{statement}
-use Rattle.entry_row.proofs.entries.Tie as tie
+use Rattle.images.proofs.Images.{entries-whole, entries-none}
+use Rattle.images.proofs.entries.Statement.{statement}
+use Rattle.images.proofs.entries.Tie as tie
 
 returns : tie.Need-returns
 returns c = sym (entries-whole (c .before .args .images .now) (c .if1 .taken))
