@@ -2,9 +2,9 @@
 ghost use Prim.Native.Nat.{_+_, _≤_};
 ghost use lib.ListN.{length};
 ghost use Rattle.text.specs.Text.{Appended};
-ghost use Rattle.reference.specs.Watched.{referenceOf};
+ghost use Rattle.watched.specs.Watched.{referenceOf};
 ghost use Rattle.printed.specs.Printed.{headerLine, promiseText, groupText, masksText, fields, refusedLine};
-use reference::Watch;
+use watched::Watch;
 
 fn put_promise(out: &mut [u8], at: usize, kept: bool) -> usize
     requires { ⌜ at + 8 ≤ length (now out) ⌝ }

@@ -13,7 +13,7 @@ use Rattle.rules.specs.Faults.{tabulate, founding, reaches, disturbed, ruleOne,
 use Rattle.rules.specs.Reference.{beginning, steady, keeps, step}
 use Rattle.table.specs.Records.{mark, marked, startRefusal, goodEntry, masksBeyond, wrongCycle, cycleRefusal, missedOf, faultsAt}
 use Rattle.table.specs.Table.{cyclesIn, tableOf}
-use Rattle.reference.specs.Watched.{haltedIn, enteredIn}
+use Rattle.watched.specs.Watched.{haltedIn, enteredIn}
 use Rattle.text.specs.Text.{ascii, glyph, digits, hexText, places, decimalText}
 use Rattle.printed.specs.Printed.{headerLine, promiseText, groupText, masksText, fields, line, lines, refusedLine, reported, printed}
 

@@ -11,7 +11,7 @@ use Rattle.rules.specs.declared.Faults.{Faults}
 use Rattle.rules.specs.OneCycle.{Config}
 use Rattle.rules.specs.Reference.{Cluster, beginning, keeps, step}
 use Rattle.table.specs.Table.{Cycles, tableOf}
-use Rattle.reference.specs.Watched.{haltedIn, enteredIn}
+use Rattle.watched.specs.Watched.{haltedIn, enteredIn}
 
 -- "The header line is always printed."
 unfoldable pub headerLine : List ℕ

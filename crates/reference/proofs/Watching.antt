@@ -27,8 +27,8 @@ use Rattle.cluster.specs.declared.States.{States}
 use Rattle.cluster.specs.States.{groupAt, stateAt, rowOf}
 use Rattle.cluster.specs.Decided.{rolesAfter}
 use Rattle.cluster.proofs.Whole.{rolesOf, member-role, members-high, joining-high, sends-member, sends-join}
-use Rattle.reference.specs.declared.Watch.{Watch}
-use Rattle.reference.specs.Watched.{referenceOf, clusterOf, missesAt, haltedIn, enteredIn}
+use Rattle.watched.specs.declared.Watch.{Watch}
+use Rattle.watched.specs.Watched.{referenceOf, clusterOf, missesAt, haltedIn, enteredIn}
 
 -- ---- the nodes that a cycle disturbs
 

@@ -17,8 +17,8 @@ use Rattle.table.proofs.Laws.{accepted, begins}
 use Rattle.cluster.specs.declared.Marks.{Marks}
 use Rattle.cluster.specs.declared.Roles.{Roles}
 use Rattle.cluster.specs.States.{statesOf, faultsOf, rowOf}
-use Rattle.reference.specs.declared.Watch.{Watch}
-use Rattle.reference.specs.Watched.{referenceOf, clusterOf, haltedIn, enteredIn}
+use Rattle.watched.specs.declared.Watch.{Watch}
+use Rattle.watched.specs.Watched.{referenceOf, clusterOf, haltedIn, enteredIn}
 use Rattle.report.specs.declared.Session.{Session}
 use Rattle.report.specs.declared.Piece.{Piece}
 use Rattle.printed.specs.Printed.{headerLine, fields, line, refusedLine, ofNodes, printed}

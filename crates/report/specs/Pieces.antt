@@ -12,7 +12,7 @@ use Rattle.table.specs.Table.{cyclesIn}
 use Rattle.cluster.specs.declared.Marks.{Marks}
 use Rattle.cluster.specs.declared.States.{States}
 use Rattle.cluster.specs.States.{statesOf}
-use Rattle.reference.specs.Watched.{clusterOf}
+use Rattle.watched.specs.Watched.{clusterOf}
 use Rattle.report.specs.declared.Session.{Session}
 use Rattle.report.specs.declared.Piece.{Piece}
 use Rattle.printed.specs.Printed.{ofNodes, reported}

@@ -7,7 +7,7 @@ ghost use Rattle.printed.specs.Printed.{printed};
 ghost use Rattle.report.specs.Pieces.{marksAt, held, remaining, Sound, Begun, Gives};
 use cluster::Marks;
 use cluster::Roles;
-use reference::Watch;
+use watched::Watch;
 
 // A table's run between two cycles: the number of nodes, the number of the next cycle, who is what, and what is watched. The caller holds the
 // groups of the nodes, in three arrays.

@@ -7,7 +7,7 @@ use Rattle.rules.specs.Faults.{disturbed}
 use Rattle.rules.specs.Reference.{steady}
 use Rattle.cluster.specs.declared.States.{States}
 use Rattle.cluster.specs.States.{statesOf, faultsOf}
-use Rattle.reference.specs.Watched.{clusterOf}
+use Rattle.watched.specs.Watched.{clusterOf}
 use Rattle.reference.proofs.Watching.{disturbed-are, steady-are, kept-is, first-in, stepped, halted-are, entered-are}
 use borrow.Author.Needs.{needs}
 use Rattle.reference.proofs.step.Statement.{statement}

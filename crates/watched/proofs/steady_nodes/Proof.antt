@@ -2,8 +2,8 @@ use mathlib.Core.Path.{ap, _∙_}
 use Prim.Native.Nat.{ℕ}
 use Rattle.sets.specs.Sets.{_∖_, below}
 use borrow.Author.Needs.{needs}
-use Rattle.reference.proofs.steady_nodes.Statement.{statement}
-use Rattle.reference.proofs.steady_nodes.Tie as tie
+use Rattle.watched.proofs.steady_nodes.Statement.{statement}
+use Rattle.watched.proofs.steady_nodes.Tie as tie
 
 difference-requires : tie.Need-difference-requires
 difference-requires c κs = search needs

@@ -1,8 +1,8 @@
 use mathlib.Core.Path.{sym, _∙_}
 use Rattle.rules.proofs.Counting.{and-taken, and-left}
 use borrow.Author.Needs.{needs}
-use Rattle.reference.proofs.keeps.Statement.{statement}
-use Rattle.reference.proofs.keeps.Tie as tie
+use Rattle.watched.proofs.keeps.Statement.{statement}
+use Rattle.watched.proofs.keeps.Tie as tie
 
 is-quorum-requires : tie.Need-is-quorum-requires
 is-quorum-requires c κs = search needs

@@ -4,8 +4,8 @@ use Prim.Native.Nat.{ℕ}
 use lib.Dec.{eqb}
 use Rattle.sets.specs.Sets.{_∖_}
 use borrow.Author.Needs.{needs}
-use Rattle.reference.proofs.misses_other.Statement.{statement}
-use Rattle.reference.proofs.misses_other.Tie as tie
+use Rattle.watched.proofs.misses_other.Statement.{statement}
+use Rattle.watched.proofs.misses_other.Tie as tie
 
 single-requires : tie.Need-single-requires
 single-requires c κs = search needs

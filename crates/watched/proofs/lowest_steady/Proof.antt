@@ -1,8 +1,8 @@
 use mathlib.Core.Path.{sym, _∙_}
 use Rattle.rules.proofs.Counting.{cond-taken, cond-left}
 use borrow.Author.Needs.{needs}
-use Rattle.reference.proofs.lowest_steady.Statement.{statement}
-use Rattle.reference.proofs.lowest_steady.Tie as tie
+use Rattle.watched.proofs.lowest_steady.Statement.{statement}
+use Rattle.watched.proofs.lowest_steady.Tie as tie
 
 lowest-requires : tie.Need-lowest-requires
 lowest-requires c κs = search needs

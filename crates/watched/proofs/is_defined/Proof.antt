@@ -1,8 +1,8 @@
 use mathlib.Core.Path.{sym, _∙_}
 use Rattle.rules.proofs.Counting.{and-taken, and-left}
 use borrow.Author.Needs.{needs}
-use Rattle.reference.proofs.is_defined.Statement.{statement}
-use Rattle.reference.proofs.is_defined.Tie as tie
+use Rattle.watched.proofs.is_defined.Statement.{statement}
+use Rattle.watched.proofs.is_defined.Tie as tie
 
 contains-requires : tie.Need-contains-requires
 contains-requires c κs = search needs

@@ -14,7 +14,7 @@ use Rattle.rules.specs.Faults.{Row, at, missesOther, ruleOne, cycle}
 use Rattle.rules.specs.Reference.{Cluster}
 use Rattle.cluster.specs.declared.States.{States}
 use Rattle.cluster.specs.States.{rowOf}
-use Rattle.reference.specs.declared.Watch.{Watch}
+use Rattle.watched.specs.declared.Watch.{Watch}
 
 -- the reference group, none where it is undefined
 abbrev pub referenceOf : Watch → Option Group

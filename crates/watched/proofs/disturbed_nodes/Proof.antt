@@ -4,9 +4,9 @@ use native.Mathlib.Omega.{arith}
 use borrow.Author.Needs.{needs}
 use Rattle.sets.specs.Sets.{_∪_, those}
 use Rattle.sets.proofs.Nodes.{those-none, those-next, those-end}
-use Rattle.reference.specs.Watched.{missesAt}
-use Rattle.reference.proofs.disturbed_nodes.Statement.{statement}
-use Rattle.reference.proofs.disturbed_nodes.Tie as tie
+use Rattle.watched.specs.Watched.{missesAt}
+use Rattle.watched.proofs.disturbed_nodes.Statement.{statement}
+use Rattle.watched.proofs.disturbed_nodes.Tie as tie
 
 abbrev Inv-loop : tie.InvT-loop
 Inv-loop n marked heartbeats votes m₀ q₀ m q = (q ≤ n) × (m ≡ those q (missesAt heartbeats votes))
