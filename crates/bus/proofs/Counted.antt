@@ -21,10 +21,10 @@ use Rattle.frames.specs.Written.{voteFrame, formedVote}
 use Rattle.frames.specs.Read.{wrongLength, faultOf, readVote, receiveVote}
 use Rattle.frames.proofs.Lengths.{length-vote}
 use Rattle.frames.proofs.RoundTrip.{vote-back}
-use Rattle.cluster.specs.declared.Roles.{Roles}
-use Rattle.cluster.specs.declared.States.{States}
-use Rattle.cluster.specs.States.{stateAt}
-use Rattle.cluster.specs.Decided.{outAt, decidedAt}
+use Rattle.roles.specs.declared.Roles.{Roles}
+use Rattle.roles.specs.declared.States.{States}
+use Rattle.roles.specs.States.{stateAt}
+use Rattle.roles.specs.Decided.{outAt, decidedAt}
 use Rattle.channels.specs.Channels.{channelOf, voteSent, copyOf, voteRead, received, ballotsRead, decidedRead}
 use Rattle.channels.proofs.Carried.{Carries, carries}
 

@@ -20,10 +20,10 @@ use Rattle.rules.specs.OneCycle.{viewOf}
 use Rattle.rules.specs.Ballots.{voteAt}
 use Rattle.rules.proofs.Votes.{has-view}
 use Rattle.frames.specs.Written.{formedVote}
-use Rattle.cluster.specs.declared.Roles.{Roles}
-use Rattle.cluster.specs.declared.States.{States}
-use Rattle.cluster.specs.States.{groupAt, stateAt}
-use Rattle.cluster.specs.Decided.{rolesAfter}
+use Rattle.roles.specs.declared.Roles.{Roles}
+use Rattle.roles.specs.declared.States.{States}
+use Rattle.roles.specs.States.{groupAt, stateAt}
+use Rattle.roles.specs.Decided.{rolesAfter}
 
 -- a view holds its node, and nothing at n or above
 view-own : (n q M h0 h1 : ℕ) → has q (viewOf n q M h0 h1) ≡ true

@@ -9,12 +9,12 @@ ghost use Rattle.rules.specs.OneCycle.{memberDecides, joinerDecides};
 ghost use Rattle.rules.specs.Ballots.{voteAt, ballotsOf};
 ghost use Rattle.rules.specs.Faults.{cycle as theCycle};
 ghost use Rattle.frames.specs.Written.{formedVote};
-ghost use Rattle.cluster.specs.States.{stateAt, rowOf};
-ghost use Rattle.cluster.specs.Decided.{decidedAt};
+ghost use Rattle.roles.specs.States.{stateAt, rowOf};
+ghost use Rattle.roles.specs.Decided.{decidedAt};
 ghost use Rattle.channels.specs.Channels.{withSent, channelOf, voteSent, voteRead, isWhole, voteIn, ballotsRead, decidedRead};
-use cluster::Roles;
-use cluster::States;
 use frames::VoteReceived;
+use roles::Roles;
+use roles::States;
 use rules::Faults;
 use rules::Vote;
 use state::Group;
@@ -217,7 +217,7 @@ fn decide(
     } else if sets::contains(w.joining, q) {
         joiner_decides(n, count, reach, a, b, q)
     } else {
-        cluster::out_at(w, q)
+        roles::out_at(w, q)
     }
 }
 
@@ -252,8 +252,8 @@ fn decisions(
     while q < n {
         let reach = sets::difference(sent, missed[q]);
         let d = decide(n, count, w, reach, numbers, sets, bases, views, a, b, q);
-        let g = cluster::held_by(d);
-        next = cluster::with_state(next, q, d);
+        let g = roles::held_by(d);
+        next = roles::with_state(next, q, d);
         new_numbers[q] = g.number;
         new_sets[q] = g.set;
         new_bases[q] = g.base;
@@ -311,7 +311,7 @@ pub fn cycle(n: usize, count: u32, s: States, f: Faults) -> States
     requires { ⌜ ((q : ℕ) → q < n → formedState q n (stateAt s q) ≡ true) ⌝ }
     ensures { λ r. ⌜ rowOf n r ≡ theCycle (record { nodes = n }) f (rowOf n s) ⌝ }
 {
-    let w = cluster::rule_one(
+    let w = roles::rule_one(
         n,
         Roles {
             members: s.members,

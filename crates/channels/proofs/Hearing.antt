@@ -20,8 +20,8 @@ use Rattle.frames.specs.Written.{heartbeatFrame}
 use Rattle.frames.specs.Read.{wrongLength, faultOf, readHeartbeat, receiveHeartbeat}
 use Rattle.frames.proofs.Lengths.{length-heartbeat}
 use Rattle.frames.proofs.RoundTrip.{heartbeat-back}
-use Rattle.cluster.specs.declared.Roles.{Roles}
-use Rattle.cluster.specs.Decided.{viewAt}
+use Rattle.roles.specs.declared.Roles.{Roles}
+use Rattle.roles.specs.Decided.{viewAt}
 use Rattle.channels.specs.Channels.{channelOf, heartbeatSent, copyOf, heartbeatRead, isAlive, isJoin, aliveRead, joinRead, viewRead}
 use Rattle.channels.proofs.Carried.{Carries, carries}
 

@@ -17,8 +17,8 @@ use Rattle.frames.specs.declared.VoteReceived.{VoteReceived}
 use Rattle.frames.specs.declared.VoteReceived.the-variants as votes
 use Rattle.frames.specs.Written.{heartbeatFrame, voteFrame}
 use Rattle.frames.specs.Read.{readHeartbeat, readVote, receiveHeartbeat, receiveVote}
-use Rattle.cluster.specs.declared.Roles.{Roles}
-use Rattle.cluster.specs.Decided.{outAt}
+use Rattle.roles.specs.declared.Roles.{Roles}
+use Rattle.roles.specs.Decided.{outAt}
 
 -- ---- a channel: a slot of 36 bytes for each of 64 nodes, a frame at the beginning of its sender's
 

@@ -4,10 +4,10 @@ ghost use mathlib.Core.Bool.{true, false, cond};
 ghost use Prim.Native.Nat.{ℕ, _<_, _≤_};
 ghost use lib.ListN.{length, getD};
 ghost use Rattle.sets.specs.Sets.{has, _∖_};
-ghost use Rattle.cluster.specs.Decided.{viewAt};
+ghost use Rattle.roles.specs.Decided.{viewAt};
 ghost use Rattle.channels.specs.Channels.{withFrame, withSent, channelOf, heartbeatSent, heartbeatRead, isAlive, isJoin, aliveRead, joinRead, viewRead};
-use cluster::Roles;
 use frames::HeartbeatReceived;
+use roles::Roles;
 
 // The heartbeats that a unit received: those with join 0 and those with join 1.
 struct Heard {

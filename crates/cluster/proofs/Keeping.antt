@@ -20,10 +20,11 @@ use Rattle.rules.specs.Ballots.{voteAt, ballotsOf, equalTo}
 use Rattle.rules.proofs.Votes.{is-eq}
 use Rattle.rules.proofs.States.{none-some, some-inj}
 use Rattle.rules.proofs.Slots.{slot-full, slot-empty}
-use Rattle.cluster.specs.declared.Roles.{Roles}
+use Rattle.roles.specs.declared.Roles.{Roles}
 use Rattle.cluster.specs.declared.Kept.{Kept}
 use Rattle.tallies.specs.Grouped.{Grouped, Within, spreadAt, rivalAt, ownTally, memberWith}
-use Rattle.cluster.specs.Decided.{decidedAt, Worth, heldBy}
+use Rattle.roles.specs.Decided.{decidedAt, heldBy}
+use Rattle.cluster.specs.Follows.{Worth}
 use Rattle.tallies.proofs.Tallies.{goes-on, halts}
 
 module _ (numbers sets bases views : List ℕ) (n : ℕ) (w : Roles) where

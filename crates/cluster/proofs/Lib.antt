@@ -1,3 +1,1 @@
 mod Keeping
-pub mod Deciding
-pub mod Whole

@@ -3,65 +3,17 @@ ghost use mathlib.Core.Path.{_≡_};
 ghost use Prim.Native.Nat.{ℕ, _<_, _≤_};
 ghost use lib.ListN.{length, getD};
 ghost use Rattle.sets.specs.Sets.{_∖_};
-ghost use Rattle.rules.specs.Faults.{founding as theFounding, cycle as theCycle};
+ghost use Rattle.rules.specs.Faults.{cycle as theCycle};
 ghost use Rattle.tallies.specs.Grouped.{Grouped, Within};
-ghost use Rattle.cluster.specs.States.{statesOf, faultsOf, stateAt, rowOf};
-ghost use Rattle.cluster.specs.Decided.{rolesAfter, viewAt, outAt, decidedAt, follows as doesFollow, Worth, heldBy, isNoQuorum, isOutvoted, withState, withMember};
+ghost use Rattle.roles.specs.States.{statesOf, faultsOf, stateAt, rowOf};
+ghost use Rattle.roles.specs.Decided.{viewAt, decidedAt};
+ghost use Rattle.cluster.specs.Follows.{follows as doesFollow, Worth, withMember};
+use roles::Marks;
+use roles::Roles;
+use roles::States;
 use rules::Faults;
 use state::Group;
-use state::Reason;
 use state::State;
-
-// The states of all nodes: who is a member, who is joining, who is out for want of a quorum or outvoted (the others are out, stopped), and the group that
-// each member holds. Masks and arrays, so that a cycle works on all nodes at once.
-pub struct States {
-    pub members: u64,
-    pub joining: u64,
-    pub no_quorum: u64,
-    pub outvoted: u64,
-    pub numbers: [u32; 64],
-    pub sets: [u64; 64],
-    pub bases: [u64; 64],
-}
-
-// All nodes at the beginning.
-pub fn begin(n: usize, founding: u64) -> States
-    requires { ⌜ n ≤ 64 ⌝ }
-    ensures { λ r. ⌜ rowOf n r ≡ theFounding n 0 founding ⌝ }
-{
-    States {
-        members: founding,
-        joining: 0,
-        no_quorum: 0,
-        outvoted: 0,
-        numbers: [0u32; 64],
-        sets: [founding; 64],
-        bases: [founding; 64],
-    }
-}
-
-// The masks of the states alone: rule 1 leaves the groups as they are.
-pub struct Roles {
-    pub members: u64,
-    pub joining: u64,
-    pub no_quorum: u64,
-    pub outvoted: u64,
-}
-
-// Rule 1 of all nodes: the stop comes before the start.
-pub fn rule_one(n: usize, w: Roles, stop: u64, start: u64) -> Roles
-    requires { ⌜ n ≤ 64 ⌝ }
-    ensures { λ r. ⌜ r ≡ rolesAfter n w stop start ⌝ }
-{
-    let members = sets::below(n, sets::difference(w.members, stop));
-    let waiting = sets::union(start, sets::difference(w.joining, stop));
-    Roles {
-        members,
-        joining: sets::below(n, sets::difference(waiting, members)),
-        no_quorum: sets::difference(w.no_quorum, stop),
-        outvoted: sets::difference(w.outvoted, stop),
-    }
-}
 
 // Rule 3 of all nodes, of the members and the joining nodes whose heartbeats go out. Views of nodes that are no members are made too, and not used.
 fn views_of(
@@ -81,19 +33,6 @@ fn views_of(
         let heard1 = sets::difference(joining, missed[p]);
         views[p] = steps::view(n, p, sets[p], heard0, heard1);
         p += 1;
-    }
-}
-
-pub fn out_at(w: Roles, q: usize) -> State
-    requires { ⌜ q < 64 ⌝ }
-    ensures { λ r. ⌜ r ≡ outAt w q ⌝ }
-{
-    if sets::contains(w.no_quorum, q) {
-        State::Out(Reason::NoQuorum)
-    } else if sets::contains(w.outvoted, q) {
-        State::Out(Reason::Outvoted)
-    } else {
-        State::Out(Reason::Stopped)
     }
 }
 
@@ -142,66 +81,7 @@ fn decide(
             present,
         )
     } else {
-        out_at(w, q)
-    }
-}
-
-pub fn held_by(s: State) -> Group
-    ensures { λ r. ⌜ r ≡ heldBy s ⌝ }
-{
-    match s {
-        State::Out(_) => Group {
-            number: 0,
-            set: 0,
-            base: 0,
-        },
-        State::Joining => Group {
-            number: 0,
-            set: 0,
-            base: 0,
-        },
-        State::Member(g) => g,
-    }
-}
-
-fn is_no_quorum(s: State) -> bool
-    ensures { λ r. ⌜ r ≡ isNoQuorum s ⌝ }
-{
-    match s {
-        State::Out(r) => match r {
-            Reason::Stopped => false,
-            Reason::NoQuorum => true,
-            Reason::Outvoted => false,
-        },
-        State::Joining => false,
-        State::Member(_) => false,
-    }
-}
-
-fn is_outvoted(s: State) -> bool
-    ensures { λ r. ⌜ r ≡ isOutvoted s ⌝ }
-{
-    match s {
-        State::Out(r) => match r {
-            Reason::Stopped => false,
-            Reason::NoQuorum => false,
-            Reason::Outvoted => true,
-        },
-        State::Joining => false,
-        State::Member(_) => false,
-    }
-}
-
-// The masks with the state d of node q added.
-pub fn with_state(w: Roles, q: usize, d: State) -> Roles
-    requires { ⌜ q < 64 ⌝ }
-    ensures { λ r. ⌜ r ≡ withState w q d ⌝ }
-{
-    Roles {
-        members: sets::include(w.members, q, steps::sends_member(d)),
-        joining: sets::include(w.joining, q, steps::sends_join(d)),
-        no_quorum: sets::include(w.no_quorum, q, is_no_quorum(d)),
-        outvoted: sets::include(w.outvoted, q, is_outvoted(d)),
+        roles::out_at(w, q)
     }
 }
 
@@ -287,7 +167,7 @@ fn keep(
         votes,
         set,
         counted: tallies::own_tally(votes, set, present, q),
-        group: held_by(d),
+        group: roles::held_by(d),
     }
 }
 
@@ -328,8 +208,8 @@ fn decisions(
         } else {
             let d = decide(n, q, numbers, sets, bases, views, lead, same, w, came);
             k = keep(n, q, numbers, sets, bases, views, lead, same, w, came, d, k);
-            g = held_by(d);
-            next = with_state(next, q, d);
+            g = roles::held_by(d);
+            next = roles::with_state(next, q, d);
         }
         new_numbers[q] = g.number;
         new_sets[q] = g.set;
@@ -337,14 +217,6 @@ fn decisions(
         q += 1;
     }
     next
-}
-
-// What befalls a cycle apart from what each node misses: the nodes that stop and start, and those whose frames are lost in sending.
-pub struct Marks {
-    pub stop: u64,
-    pub start: u64,
-    pub heartbeat_lost: u64,
-    pub vote_lost: u64,
 }
 
 // One cycle of nodes with the roles w: the roles after it, and in place their groups. What node q misses is in the elements q of `unheard` and `missed`.
@@ -361,7 +233,7 @@ pub fn advance<'a>(
     requires { ⌜ n ≤ 64 ⌝ }
     ensures { λ r. ⌜ rowOf n (statesOf r (now (numbers .exit)) (now (sets .exit)) (now (bases .exit))) ≡ theCycle (record { nodes = n }) (faultsOf m (now (unheard .entry)) (now (missed .entry))) (rowOf n (statesOf w (now (numbers .entry)) (now (sets .entry)) (now (bases .entry)))) ⌝ }
 {
-    let v = rule_one(n, w, m.stop, m.start);
+    let v = roles::rule_one(n, w, m.stop, m.start);
     let mut views = [0u64; 64];
     views_of(
         n,

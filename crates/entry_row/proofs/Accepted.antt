@@ -15,8 +15,8 @@ use Rattle.table.specs.Records.{countAt, startRefusal, cycleLength, cycleRefusa
 use Rattle.table.specs.Table.{cyclesIn, tableOf}
 use Rattle.table.proofs.Laws.{begins}
 use Rattle.rules.proofs.Rows.{length-tabulate}
-use Rattle.cluster.specs.declared.States.{States}
-use Rattle.cluster.specs.States.{rowOf}
+use Rattle.roles.specs.declared.States.{States}
+use Rattle.roles.specs.States.{rowOf}
 use Rattle.row.specs.declared.Gathered.{Gathered}
 use Rattle.row.specs.Row.{nodesOf, inOrder}
 use Rattle.row.specs.Gathered.{nothingOf, gathered}

@@ -5,10 +5,10 @@ ghost use Prim.Native.Nat.{ℕ, _≤_, _<_};
 ghost use lib.ListN.{length};
 ghost use Rattle.state.specs.State.{formedState};
 ghost use Rattle.table.specs.Table.{cyclesIn};
-ghost use Rattle.cluster.specs.States.{stateAt, rowOf};
+ghost use Rattle.roles.specs.States.{stateAt, rowOf};
 ghost use Rattle.turns.specs.After.{rowAfter};
 ghost use Rattle.framed_runs.specs.Count.{cycleCount};
-use cluster::States;
+use roles::States;
 
 // The cycle count of cycle k of a run, as its frames have it.
 fn cycle_count(k: u64) -> u32

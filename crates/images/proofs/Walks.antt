@@ -20,10 +20,10 @@ use Rattle.state.specs.Image.{imageOf, decoded}
 use Rattle.rules.specs.OneCycle.{stopped}
 use Rattle.rules.specs.Faults.{at, tabulate}
 use Rattle.rules.proofs.Rows.{get-tabulate, length-tabulate}
-use Rattle.cluster.specs.declared.Roles.{Roles}
-use Rattle.cluster.specs.declared.States.{States}
-use Rattle.cluster.specs.Decided.{heldBy}
-use Rattle.cluster.specs.States.{statesOf, stateAt, rowOf}
+use Rattle.roles.specs.declared.Roles.{Roles}
+use Rattle.roles.specs.declared.States.{States}
+use Rattle.roles.specs.Decided.{heldBy}
+use Rattle.roles.specs.States.{statesOf, stateAt, rowOf}
 use Rattle.row.specs.declared.Gathered.{Gathered}
 use Rattle.row.specs.Row.{nodesOf, inPlace}
 use Rattle.row.specs.Gathered.{rolesOf, withNode, nothingOf, pushOf, gathered, placedNode}

@@ -7,11 +7,11 @@ ghost use Rattle.state.specs.State.{formedState};
 ghost use Rattle.rules.specs.Faults.{cycle as theCycle};
 ghost use Rattle.table.specs.Records.{cycleLength, faultsAt};
 ghost use Rattle.table.specs.Table.{cyclesIn};
-ghost use Rattle.cluster.specs.States.{statesOf, stateAt, rowOf};
+ghost use Rattle.roles.specs.States.{statesOf, stateAt, rowOf};
 ghost use Rattle.turns.specs.After.{rowAfter};
-use cluster::Marks;
-use cluster::Roles;
-use cluster::States;
+use roles::Marks;
+use roles::Roles;
+use roles::States;
 
 // The cycle of a record on the fault table alone: the roles after it, and in place the groups. The arrays for what is missed are zeros before and after it:
 // they are cleared only where the record has entries.

@@ -22,11 +22,11 @@ use Rattle.rules.specs.Faults.{Row, at, heartbeatsMissed, votesMissed, missesOt
 use Rattle.rules.specs.Reference.{Cluster, steady, keepsWith, keeps, referenceAfter, step}
 use Rattle.rules.proofs.Rows.{get-tabulate}
 use Rattle.rules.proofs.Counting.{quorum-node}
-use Rattle.cluster.specs.declared.Roles.{Roles}
-use Rattle.cluster.specs.declared.States.{States}
-use Rattle.cluster.specs.States.{groupAt, stateAt, rowOf}
-use Rattle.cluster.specs.Decided.{rolesAfter}
-use Rattle.cluster.proofs.Whole.{rolesOf, member-role, members-high, joining-high, sends-member, sends-join}
+use Rattle.roles.specs.declared.Roles.{Roles}
+use Rattle.roles.specs.declared.States.{States}
+use Rattle.roles.specs.States.{groupAt, stateAt, rowOf}
+use Rattle.roles.specs.Decided.{rolesAfter}
+use Rattle.roles.proofs.Whole.{rolesOf, member-role, members-high, joining-high, sends-member, sends-join}
 use Rattle.watched.specs.declared.Watch.{Watch}
 use Rattle.watched.specs.Watched.{referenceOf, clusterOf, missesAt, haltedIn, enteredIn}
 

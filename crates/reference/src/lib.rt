@@ -3,11 +3,11 @@ ghost use mathlib.Core.Path.{_≡_};
 ghost use Prim.Native.Nat.{ℕ, _≤_};
 ghost use Rattle.rules.specs.Faults.{founding as theFounding};
 ghost use Rattle.rules.specs.Reference.{beginning, keeps as theKeeps, step as theStep};
-ghost use Rattle.cluster.specs.declared.States.{States as TheStates};
-ghost use Rattle.cluster.specs.States.{statesOf, faultsOf, rowOf};
+ghost use Rattle.roles.specs.declared.States.{States as TheStates};
+ghost use Rattle.roles.specs.States.{statesOf, faultsOf, rowOf};
 ghost use Rattle.watched.specs.Watched.{clusterOf, haltedIn, enteredIn};
-use cluster::Marks;
-use cluster::Roles;
+use roles::Marks;
+use roles::Roles;
 use state::Group;
 use watched::Watch;
 
@@ -57,7 +57,7 @@ pub fn step<'a>(
     let disturbed = watched::disturbed_nodes(n, marked, unheard, missed);
     let steady = watched::steady_nodes(n, w, disturbed);
     let kept = watched::keeps(w, steady);
-    let before = cluster::rule_one(n, z, m.stop, m.start);
+    let before = roles::rule_one(n, z, m.stop, m.start);
     let after = cluster::advance(n, z, numbers, sets, bases, m, unheard, missed);
     let first = watched::lowest_steady(kept, steady);
     let defined = watched::is_defined(kept, after.members, first);

@@ -14,9 +14,9 @@ use Rattle.rules.specs.declared.Faults.{Faults}
 use Rattle.rules.specs.Reference.{Cluster, beginning, keeps, step}
 use Rattle.table.specs.Records.{countAt, foundingAt, startRefusal, cycleLength, cycleRefusal, faultsAt}
 use Rattle.table.proofs.Laws.{accepted, begins}
-use Rattle.cluster.specs.declared.Marks.{Marks}
-use Rattle.cluster.specs.declared.Roles.{Roles}
-use Rattle.cluster.specs.States.{statesOf, faultsOf, rowOf}
+use Rattle.roles.specs.declared.Marks.{Marks}
+use Rattle.roles.specs.declared.Roles.{Roles}
+use Rattle.roles.specs.States.{statesOf, faultsOf, rowOf}
 use Rattle.watched.specs.declared.Watch.{Watch}
 use Rattle.watched.specs.Watched.{referenceOf, clusterOf, haltedIn, enteredIn}
 use Rattle.report.specs.declared.Session.{Session}

@@ -9,9 +9,9 @@ use Rattle.text.specs.Text.{Appended}
 use Rattle.rules.specs.Reference.{Cluster, beginning}
 use Rattle.table.specs.Records.{faultsAt}
 use Rattle.table.specs.Table.{cyclesIn}
-use Rattle.cluster.specs.declared.Marks.{Marks}
-use Rattle.cluster.specs.declared.States.{States}
-use Rattle.cluster.specs.States.{statesOf}
+use Rattle.roles.specs.declared.Marks.{Marks}
+use Rattle.roles.specs.declared.States.{States}
+use Rattle.roles.specs.States.{statesOf}
 use Rattle.watched.specs.Watched.{clusterOf}
 use Rattle.report.specs.declared.Session.{Session}
 use Rattle.report.specs.declared.Piece.{Piece}

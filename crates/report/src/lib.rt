@@ -5,8 +5,8 @@ ghost use lib.ListN.{length};
 ghost use Rattle.table.specs.Records.{cycleRefusal};
 ghost use Rattle.printed.specs.Printed.{printed};
 ghost use Rattle.report.specs.Pieces.{marksAt, held, remaining, Sound, Begun, Gives};
-use cluster::Marks;
-use cluster::Roles;
+use roles::Marks;
+use roles::Roles;
 use watched::Watch;
 
 // A table's run between two cycles: the number of nodes, the number of the next cycle, who is what, and what is watched. The caller holds the
@@ -37,7 +37,7 @@ fn begin(
     requires { ⌜ nodes ≤ 64 ⌝ }
     ensures { λ r. ⌜ Begun nodes founding r (held (now (numbers .exit)) (now (sets .exit)) (now (bases .exit))) ⌝ }
 {
-    let states = cluster::begin(nodes, founding);
+    let states = roles::begin(nodes, founding);
     let watch = reference::begin(founding);
     let first_numbers = states.numbers;
     let first_sets = states.sets;

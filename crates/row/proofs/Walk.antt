@@ -15,12 +15,12 @@ use denote.Struct.Laws as LL
 use Rattle.state.specs.declared.Reason.the-variants.{Stopped}
 use Rattle.state.specs.declared.State.the-variants.{Out}
 use Rattle.state.specs.declared.Node.{Node}
-use Rattle.cluster.specs.declared.States.{States}
+use Rattle.roles.specs.declared.States.{States}
 use Rattle.row.specs.declared.Gathered.{Gathered}
 use Rattle.state.proofs.Node as N
 use Rattle.state.proofs.Node.Laws as N′
-use Rattle.cluster.proofs.States as S
-use Rattle.cluster.proofs.States.Laws as S′
+use Rattle.roles.proofs.States as S
+use Rattle.roles.proofs.States.Laws as S′
 use Rattle.row.proofs.Gathered as G
 use Rattle.row.proofs.Gathered.Laws as G′
 

@@ -7,10 +7,10 @@ use lib.Dec.{ltb}
 use lib.ListN.{set, replicate}
 use Rattle.state.specs.declared.State.{State}
 use Rattle.state.specs.declared.Node.{Node}
-use Rattle.cluster.specs.declared.Roles.{Roles}
-use Rattle.cluster.specs.declared.States.{States}
-use Rattle.cluster.specs.Decided.{heldBy, withState}
-use Rattle.cluster.specs.States.{stateAt}
+use Rattle.roles.specs.declared.Roles.{Roles}
+use Rattle.roles.specs.declared.States.{States}
+use Rattle.roles.specs.Decided.{heldBy, withState}
+use Rattle.roles.specs.States.{stateAt}
 use Rattle.row.specs.declared.Gathered.{Gathered}
 use Rattle.row.specs.Row.{inPlace}
 

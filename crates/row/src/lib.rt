@@ -3,11 +3,11 @@ ghost use mathlib.Core.Path.{_≡_};
 ghost use Prim.Native.Nat.{_<_, _≤_};
 ghost use lib.ListN.{length};
 ghost use Rattle.state.specs.State.{formedState};
-ghost use Rattle.cluster.specs.States.{statesOf, stateAt};
+ghost use Rattle.roles.specs.States.{statesOf, stateAt};
 ghost use Rattle.row.specs.Row.{inPlace};
 ghost use Rattle.row.specs.Gathered.{rolesOf, withNode, nothingOf, pushOf, gathered, placedNode, nodeOf, each};
-use cluster::Roles;
-use cluster::States;
+use roles::Roles;
+use roles::States;
 use state::Group;
 use state::Node;
 use state::State;
@@ -87,11 +87,11 @@ pub fn put_state(
     requires { ⌜ (q < 64) × (length (now numbers) ≡ 64) × (length (now sets) ≡ 64) × (length (now bases) ≡ 64) ⌝ }
     ensures { λ r. ⌜ statesOf r (now (numbers .exit)) (now (sets .exit)) (now (bases .exit)) ≡ withNode (statesOf w (now (numbers .entry)) (now (sets .entry)) (now (bases .entry))) q d ⌝ }
 {
-    let g = cluster::held_by(d);
+    let g = roles::held_by(d);
     numbers[q] = g.number;
     sets[q] = g.set;
     bases[q] = g.base;
-    cluster::with_state(w, q, d)
+    roles::with_state(w, q, d)
 }
 
 // The states with that of node q put in.
@@ -161,7 +161,7 @@ fn state_at<'a>(
     } else if sets::contains(w.joining, q) {
         State::Joining
     } else {
-        cluster::out_at(w, q)
+        roles::out_at(w, q)
     }
 }
 

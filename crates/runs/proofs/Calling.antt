@@ -20,8 +20,8 @@ use Rattle.table.specs.Records.{countAt, foundingAt, startRefusal, cycleLength,
 use Rattle.table.specs.Table.{Cycles, tableOf}
 use Rattle.table.proofs.Laws.{Begins, begins}
 use Rattle.table.proofs.Cursor.{left, from, table-stops, table-goes-on}
-use Rattle.cluster.specs.declared.States.{States}
-use Rattle.cluster.specs.States.{stateAt, rowOf}
+use Rattle.roles.specs.declared.States.{States}
+use Rattle.roles.specs.States.{stateAt, rowOf}
 use Rattle.formed.proofs.Formed.{FormedRow, founding-formed}
 use Rattle.row.specs.declared.Gathered.{Gathered}
 use Rattle.row.specs.Row.{statesOf, nodesOf, inOrder}

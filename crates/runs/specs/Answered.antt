@@ -9,8 +9,8 @@ use lib.ListN.{length}
 use Rattle.refusal.specs.Refusal.{when, first}
 use Rattle.state.specs.declared.Node.{Node}
 use Rattle.table.specs.Records.{cycleLength}
-use Rattle.cluster.specs.declared.States.{States}
-use Rattle.cluster.specs.States.{rowOf}
+use Rattle.roles.specs.declared.States.{States}
+use Rattle.roles.specs.States.{rowOf}
 use Rattle.row.specs.declared.Gathered.{Gathered}
 use Rattle.row.specs.Row.{nodesOf}
 use Rattle.row.specs.Gathered.{nothingOf, gathered}

@@ -9,12 +9,12 @@ ghost use Rattle.state.specs.declared.Node.{Node};
 ghost use Rattle.state.specs.State.{formedState};
 ghost use Rattle.table.specs.Records.{cycleLength};
 ghost use Rattle.table.specs.Table.{cyclesIn, tableOf};
-ghost use Rattle.cluster.specs.States.{stateAt, rowOf};
+ghost use Rattle.roles.specs.States.{stateAt, rowOf};
 ghost use Rattle.calls.specs.Calls.{cycleStatus, cycleLeft, ranTo, callStatus, callLeft};
 ghost use Rattle.turns.specs.After.{rowAfter};
 ghost use Rattle.runs.specs.Answered.{countByte, GatheredFrom, rowRefusal, Leaves};
 use calls::Task;
-use cluster::States;
+use roles::States;
 use row::Gathered;
 
 // What a call answers; where it is not refused, N and the states that it leaves.
@@ -113,7 +113,7 @@ fn run_answer(framed: bool, len: usize, lent: States, s: &[u8]) -> Outcome
         return refused(refusal, lent);
     }
     let n = first_record::start_count(s);
-    let begun = cluster::begin(n as usize, first_record::start_founding(s));
+    let begun = roles::begin(n as usize, first_record::start_founding(s));
     Outcome {
         status: 0,
         nodes: n,

@@ -18,8 +18,8 @@ use Rattle.table.specs.Records.{entriesAt, cycleLength, cycleRefusal, missedOf,
 use Rattle.table.specs.Table.{Cycles}
 use Rattle.table.proofs.Laws.{accepted}
 use Rattle.table.proofs.Cursor.{left, from, from-end, from-refused, from-there, from-next}
-use Rattle.cluster.specs.declared.States.{States}
-use Rattle.cluster.specs.States.{faultsOf, stateAt, rowOf}
+use Rattle.roles.specs.declared.States.{States}
+use Rattle.roles.specs.States.{faultsOf, stateAt, rowOf}
 use Rattle.formed.proofs.Formed.{FormedRow, cycle-formed}
 use Rattle.turns.specs.After.{rowAfter}
 

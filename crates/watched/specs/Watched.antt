@@ -12,8 +12,8 @@ use Rattle.rules.specs.declared.Faults.{Faults}
 use Rattle.rules.specs.OneCycle.{Config, sendsMember, sendsJoin}
 use Rattle.rules.specs.Faults.{Row, at, missesOther, ruleOne, cycle}
 use Rattle.rules.specs.Reference.{Cluster}
-use Rattle.cluster.specs.declared.States.{States}
-use Rattle.cluster.specs.States.{rowOf}
+use Rattle.roles.specs.declared.States.{States}
+use Rattle.roles.specs.States.{rowOf}
 use Rattle.watched.specs.declared.Watch.{Watch}
 
 -- the reference group, none where it is undefined

@@ -4,7 +4,7 @@ use native.Mathlib.Omega.{arith}
 use lib.ListN.{getD}
 use borrow.Author.Needs.{needs}
 use Rattle.sets.specs.Sets.{_∖_}
-use Rattle.cluster.proofs.Deciding.{Holds, holds-none, holds-next, holds-state}
+use Rattle.roles.proofs.Deciding.{Holds, holds-none, holds-next, holds-state}
 use Rattle.channels.specs.Channels.{decidedRead}
 use Rattle.bus.proofs.decisions.Statement.{statement}
 use Rattle.bus.proofs.decisions.Tie as tie

@@ -1,5 +1,5 @@
 use mathlib.Core.Path.{sym, _∙_}
-use Rattle.cluster.specs.Decided.{decidedAt}
+use Rattle.roles.specs.Decided.{decidedAt}
 use borrow.Author.Needs.{needs}
 use Rattle.cluster.proofs.decide.Statement.{statement}
 use Rattle.cluster.proofs.decide.Tie as tie

@@ -8,10 +8,11 @@ use Rattle.sets.specs.Sets.{_∖_}
 use Rattle.state.specs.declared.State.{State}
 use Rattle.state.specs.declared.State.the-variants.{Member}
 use Rattle.tallies.specs.Grouped.{Within}
-use Rattle.cluster.specs.Decided.{decidedAt, Worth}
+use Rattle.roles.specs.Decided.{decidedAt}
+use Rattle.cluster.specs.Follows.{Worth}
 use Rattle.tallies.proofs.Tallies.{inside-less}
 use Rattle.cluster.proofs.Keeping.{worth-none}
-use Rattle.cluster.proofs.Deciding.{Holds, holds-none, holds-next, holds-state}
+use Rattle.roles.proofs.Deciding.{Holds, holds-none, holds-next, holds-state}
 use Rattle.cluster.proofs.decisions.Statement.{statement}
 use Rattle.cluster.proofs.decisions.Tie as tie
 

@@ -5,7 +5,7 @@ use lib.ListN.{length, getD, length-set}
 use borrow.Author.Needs.{needs}
 use borrow.Author.Count.{below-none}
 use Rattle.rules.specs.OneCycle.{viewOf}
-use Rattle.cluster.specs.Decided.{viewAt}
+use Rattle.roles.specs.Decided.{viewAt}
 use Rattle.tallies.proofs.Arrays.{stored}
 use Rattle.cluster.proofs.views_of.Statement.{statement}
 use Rattle.cluster.proofs.views_of.Tie as tie

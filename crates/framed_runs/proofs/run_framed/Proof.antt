@@ -5,7 +5,7 @@ use native.Mathlib.Omega.{arith}
 use lib.ListN.{length}
 use denote.Ref.{now}
 use Rattle.rules.specs.Faults.{Row}
-use Rattle.cluster.specs.States.{rowOf}
+use Rattle.roles.specs.States.{rowOf}
 use Rattle.turns.proofs.Ran.{Going, going-begun, going-done, going-there, going-past, going-next, states-formed}
 use Rattle.framed_runs.proofs.run_framed.Statement.{statement}
 use Rattle.framed_runs.proofs.run_framed.Tie as tie

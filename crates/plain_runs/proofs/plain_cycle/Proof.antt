@@ -4,7 +4,7 @@ use native.Mathlib.Omega.{arith}
 use denote.Ref.{now}
 use Rattle.rules.specs.Faults.{Row, cycle}
 use Rattle.table.specs.Records.{faultsAt}
-use Rattle.cluster.specs.States.{statesOf, rowOf}
+use Rattle.roles.specs.States.{statesOf, rowOf}
 use Rattle.turns.proofs.Ran.{cycle-read, none-missed}
 use Rattle.plain_runs.proofs.plain_cycle.Statement.{statement}
 use Rattle.plain_runs.proofs.plain_cycle.Tie as tie

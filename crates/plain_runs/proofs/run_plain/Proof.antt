@@ -6,8 +6,8 @@ use native.Mathlib.Omega.{arith}
 use lib.ListN.{length}
 use denote.Ref.{now}
 use Rattle.rules.specs.Faults.{Row}
-use Rattle.cluster.specs.declared.States.{States}
-use Rattle.cluster.specs.States.{statesOf, rowOf}
+use Rattle.roles.specs.declared.States.{States}
+use Rattle.roles.specs.States.{statesOf, rowOf}
 use Rattle.turns.proofs.Ran.{Passing, going-begun, going-done, going-there, going-past, going-next}
 use Rattle.plain_runs.proofs.run_plain.Statement.{statement}
 use Rattle.plain_runs.proofs.run_plain.Tie as tie

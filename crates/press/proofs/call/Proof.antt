@@ -43,7 +43,7 @@ use denote.Triple.Clauses.{ensured, atExit, lasts}
 use denote.Triple.Walked.{says, Stays, stay-none, stay-none-slice, stay-slice, walkOf, goes-none, goes-none-slice, goes-slice, Walks, ends-at, walked, walk-meets}
 use denote.Exit.{yes}
 use Rattle.state.specs.declared.Node.{Node}
-use Rattle.cluster.specs.declared.States.{States}
+use Rattle.roles.specs.declared.States.{States}
 use Rattle.calls.specs.declared.Task.{Task}
 use Rattle.calls.specs.Calls.{callStatus, callLeft}
 use Rattle.row.specs.declared.Gathered.{Gathered}
@@ -51,8 +51,8 @@ use Rattle.row.specs.Gathered.{nothingOf, gathered, nodeOf, each}
 use Rattle.runs.specs.declared.Outcome.{Outcome}
 use Rattle.runs.specs.Answered.{countByte, GatheredFrom, Leaves}
 use Rattle.state.proofs.Node as N
-use Rattle.cluster.proofs.States as S
-use Rattle.cluster.proofs.States.Laws as S′
+use Rattle.roles.proofs.States as S
+use Rattle.roles.proofs.States.Laws as S′
 use Rattle.calls.proofs.Task as K
 use Rattle.calls.proofs.Task.Laws as K′
 use Rattle.row.proofs.Gathered as G

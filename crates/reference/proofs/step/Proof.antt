@@ -5,8 +5,8 @@ use Rattle.sets.specs.Sets.{_∪_, those}
 use Rattle.rules.specs.declared.Faults.{Faults}
 use Rattle.rules.specs.Faults.{disturbed}
 use Rattle.rules.specs.Reference.{steady}
-use Rattle.cluster.specs.declared.States.{States}
-use Rattle.cluster.specs.States.{statesOf, faultsOf}
+use Rattle.roles.specs.declared.States.{States}
+use Rattle.roles.specs.States.{statesOf, faultsOf}
 use Rattle.watched.specs.Watched.{clusterOf}
 use Rattle.reference.proofs.Watching.{disturbed-are, steady-are, kept-is, first-in, stepped, halted-are, entered-are}
 use borrow.Author.Needs.{needs}

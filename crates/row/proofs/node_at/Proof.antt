@@ -5,9 +5,9 @@ use Prim.Native.Nat.{ℕ, _<_}
 use borrow.Author.Needs.{needs}
 use borrow.Author.Tests.{lt-ltb, le-ltb}
 use Rattle.state.specs.declared.Node.{Node}
-use Rattle.cluster.specs.declared.Roles.{Roles}
-use Rattle.cluster.specs.declared.States.{States}
-use Rattle.cluster.specs.States.{statesOf}
+use Rattle.roles.specs.declared.Roles.{Roles}
+use Rattle.roles.specs.declared.States.{States}
+use Rattle.roles.specs.States.{statesOf}
 use Rattle.row.specs.Gathered.{rolesOf, placedNode, nodeOf}
 use Rattle.row.proofs.node_at.Statement.{statement}
 use Rattle.row.proofs.node_at.Tie as tie

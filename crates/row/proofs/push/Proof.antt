@@ -5,7 +5,7 @@ use Prim.Native.Nat.{ℕ, _<_}
 use borrow.Author.Needs.{needs}
 use borrow.Author.Tests.{lt-ltb, le-ltb}
 use Rattle.state.specs.declared.Node.{Node}
-use Rattle.cluster.specs.declared.States.{States}
+use Rattle.roles.specs.declared.States.{States}
 use Rattle.row.specs.declared.Gathered.{Gathered}
 use Rattle.row.specs.Row.{inPlace}
 use Rattle.row.specs.Gathered.{withNode, pushOf}

@@ -6,10 +6,10 @@ use lib.ListN.{set}
 use borrow.Author.Needs.{needs}
 use Rattle.state.specs.declared.Group.{Group}
 use Rattle.state.specs.declared.State.{State}
-use Rattle.cluster.specs.declared.Roles.{Roles}
-use Rattle.cluster.specs.declared.States.{States}
-use Rattle.cluster.specs.Decided.{heldBy, withState}
-use Rattle.cluster.specs.States.{statesOf}
+use Rattle.roles.specs.declared.Roles.{Roles}
+use Rattle.roles.specs.declared.States.{States}
+use Rattle.roles.specs.Decided.{heldBy, withState}
+use Rattle.roles.specs.States.{statesOf}
 use Rattle.row.specs.Gathered.{withNode}
 use Rattle.row.proofs.put_state.Statement.{statement}
 use Rattle.row.proofs.put_state.Tie as tie

@@ -48,12 +48,12 @@ use denote.Triple.Clauses.{ensured, lasts}
 use denote.Triple.Walked.{says, Stays, stay-none, stay-slice, walkOf, goes-none, goes-slice, Walks, ends-at, walked, walk-meets}
 use denote.Exit.{yes}
 use Rattle.state.specs.declared.Node.{Node}
-use Rattle.cluster.specs.declared.States.{States}
+use Rattle.roles.specs.declared.States.{States}
 use Rattle.row.specs.Gathered.{nodeOf, each}
 use Rattle.state.proofs.Node as N
 use Rattle.state.proofs.Node.Laws as N′
-use Rattle.cluster.proofs.States as S
-use Rattle.cluster.proofs.States.Laws as S′
+use Rattle.roles.proofs.States as S
+use Rattle.roles.proofs.States.Laws as S′
 use Rattle.row.proofs.Lists.{upto, upto-none, upto-length, upto-next, upto-set, upto-all, each-length}
 use Rattle.row.proofs.Walk.{blank, mach, IsNode, IsStates, node-makes, states-makes, node-typed, states-typed, far, after}
 use Rattle.row.proofs.node_at as node-at

@@ -3,9 +3,9 @@ use mathlib.Core.Path.{_≡_, ap, _∙_}
 use Prim.Native.Nat.{ℕ}
 use borrow.Author.Needs.{needs}
 use Rattle.state.specs.declared.State.{State}
-use Rattle.cluster.specs.declared.Roles.{Roles}
-use Rattle.cluster.specs.declared.States.{States}
-use Rattle.cluster.specs.States.{statesOf}
+use Rattle.roles.specs.declared.Roles.{Roles}
+use Rattle.roles.specs.declared.States.{States}
+use Rattle.roles.specs.States.{statesOf}
 use Rattle.row.specs.Gathered.{rolesOf, withNode}
 use Rattle.row.proofs.with_node.Statement.{statement}
 use Rattle.row.proofs.with_node.Tie as tie

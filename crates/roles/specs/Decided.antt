@@ -1,10 +1,8 @@
 -- What each node makes of the votes, and the masks of the states.
 -- Assumes nothing.
-use mathlib.Core.Path.{_≡_}
-use mathlib.Core.Bool.{Bool, true, false, _&&_, cond}
+use mathlib.Core.Bool.{Bool, true, false, cond}
 use mathlib.Core.List.{List}
-use Prim.Native.Nat.{ℕ, _<_}
-use lib.Dec.{eqb}
+use Prim.Native.Nat.{ℕ}
 use lib.ListN.{getD}
 use Rattle.sets.specs.Sets.{has, single, _∪_, _∖_, below}
 use Rattle.state.specs.declared.Reason.the-variants.{Stopped, NoQuorum, Outvoted}
@@ -13,9 +11,7 @@ use Rattle.state.specs.declared.State.{State}
 use Rattle.state.specs.declared.State.the-variants.{Out, Joining, Member}
 use Rattle.rules.specs.OneCycle.{sendsMember, sendsJoin, viewOf, memberDecides, joinerDecides}
 use Rattle.rules.specs.Ballots.{voteAt, ballotsOf}
-use Rattle.cluster.specs.declared.Roles.{Roles}
-use Rattle.cluster.specs.declared.Kept.{Kept}
-use Rattle.tallies.specs.Grouped.{Within, ownTally}
+use Rattle.roles.specs.declared.Roles.{Roles}
 
 -- rule 1 of all nodes: a stopped node leaves every set, and then a started one that is no member is joining
 unfoldable pub rolesAfter : ℕ → Roles → ℕ → ℕ → Roles
@@ -43,15 +39,6 @@ decidedAt numbers sets bases views n w present q =
     cond (has q (w .members)) (memberDecides (record { nodes = n }) q (voteAt numbers sets bases views q) (ballotsOf numbers sets bases views present))
     (cond (has q (w .joining)) (joinerDecides (record { nodes = n }) q (ballotsOf numbers sets bases views present))
     (outAt w q))
-
--- whether q cast the vote of the member that is kept and counts the same votes
-abbrev pub follows : Kept → ℕ → ℕ → Bool
-follows k present q = has q (k .votes) && eqb (ownTally (k .votes) (k .set) present q) (k .counted)
-
--- what is kept is worth: whoever follows decides the same
-abbrev pub Worth : List ℕ → List ℕ → List ℕ → List ℕ → ℕ → Roles → Kept → Type 0
-Worth numbers sets bases views n w k =
-    (q present : ℕ) → q < n → Within present (w .members) → follows k present q ≡ true → decidedAt numbers sets bases views n w present q ≡ Member (k .group)
 
 -- the group that a state holds, zeros if it holds none; and whether it is out for want of a quorum, or outvoted
 abbrev pub heldBy : State → Group
@@ -82,8 +69,3 @@ withState w q d =
       «no_quorum» = cond (isNoQuorum d) (single q ∪ w .«no_quorum») (w .«no_quorum»);
       outvoted = cond (isOutvoted d) (single q ∪ w .outvoted) (w .outvoted);
     }
-
--- the masks with node q added as a member
-abbrev pub withMember : Roles → ℕ → Roles
-withMember w q =
-    record { members = single q ∪ w .members; joining = w .joining; «no_quorum» = w .«no_quorum»; outvoted = w .outvoted }

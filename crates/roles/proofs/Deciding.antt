@@ -13,9 +13,9 @@ use Rattle.state.specs.declared.Group.{Group}
 use Rattle.state.specs.declared.State.{State}
 use Rattle.state.specs.declared.State.the-variants.{Out, Joining, Member}
 use Rattle.rules.specs.OneCycle.{sendsMember, sendsJoin}
-use Rattle.cluster.specs.declared.Roles.{Roles}
-use Rattle.cluster.specs.States.{stateAt}
-use Rattle.cluster.specs.Decided.{heldBy, isNoQuorum, isOutvoted, withState}
+use Rattle.roles.specs.declared.Roles.{Roles}
+use Rattle.roles.specs.States.{stateAt}
+use Rattle.roles.specs.Decided.{heldBy, isNoQuorum, isOutvoted, withState}
 use Rattle.tallies.proofs.Arrays.{stored}
 
 -- the masks w and the arrays hold the states D of the nodes below q

@@ -1,7 +1,7 @@
-use Rattle.cluster.specs.Decided.{rolesAfter}
+use Rattle.roles.specs.Decided.{rolesAfter}
 use borrow.Author.Needs.{needs}
-use Rattle.cluster.proofs.rule_one.Statement.{statement}
-use Rattle.cluster.proofs.rule_one.Tie as tie
+use Rattle.roles.proofs.rule_one.Statement.{statement}
+use Rattle.roles.proofs.rule_one.Tie as tie
 
 difference-requires : tie.Need-difference-requires
 difference-requires c κs = search needs

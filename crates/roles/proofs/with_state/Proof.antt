@@ -1,6 +1,6 @@
 use borrow.Author.Needs.{needs}
-use Rattle.cluster.proofs.with_state.Statement.{statement}
-use Rattle.cluster.proofs.with_state.Tie as tie
+use Rattle.roles.proofs.with_state.Statement.{statement}
+use Rattle.roles.proofs.with_state.Tie as tie
 
 sends-member-requires : tie.Need-sends-member-requires
 sends-member-requires c κs = search needs

@@ -11,9 +11,9 @@ use Rattle.state.specs.declared.State.{State}
 use Rattle.state.specs.declared.State.the-variants.{Out, Joining, Member}
 use Rattle.rules.specs.declared.Faults.{Faults}
 use Rattle.rules.specs.Faults.{Row, tabulate}
-use Rattle.cluster.specs.declared.Marks.{Marks}
-use Rattle.cluster.specs.declared.Roles.{Roles}
-use Rattle.cluster.specs.declared.States.{States}
+use Rattle.roles.specs.declared.Marks.{Marks}
+use Rattle.roles.specs.declared.Roles.{Roles}
+use Rattle.roles.specs.declared.States.{States}
 
 -- the states of masks and arrays, and the faults of marks and of what each node misses
 abbrev pub statesOf : Roles → List ℕ → List ℕ → List ℕ → States

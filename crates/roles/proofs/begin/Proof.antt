@@ -6,10 +6,10 @@ use Rattle.sets.proofs.Membership.{has-none}
 use Rattle.state.specs.State.{initial}
 use Rattle.rules.specs.Faults.{founding}
 use Rattle.rules.proofs.Rows.{tabulate-ext}
-use Rattle.cluster.specs.declared.States.{States}
-use Rattle.cluster.specs.States.{stateAt, rowOf}
-use Rattle.cluster.proofs.begin.Statement.{statement}
-use Rattle.cluster.proofs.begin.Tie as tie
+use Rattle.roles.specs.declared.States.{States}
+use Rattle.roles.specs.States.{stateAt, rowOf}
+use Rattle.roles.proofs.begin.Statement.{statement}
+use Rattle.roles.proofs.begin.Tie as tie
 
 -- the founders hold the founding group, and nobody else is anything
 abbrev founders : ℕ → States

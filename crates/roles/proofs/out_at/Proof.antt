@@ -1,7 +1,7 @@
 use mathlib.Core.Path.{sym, _∙_}
 use borrow.Author.Needs.{needs}
-use Rattle.cluster.proofs.out_at.Statement.{statement}
-use Rattle.cluster.proofs.out_at.Tie as tie
+use Rattle.roles.proofs.out_at.Statement.{statement}
+use Rattle.roles.proofs.out_at.Tie as tie
 
 contains-requires : tie.Need-contains-requires
 contains-requires c κs = search needs

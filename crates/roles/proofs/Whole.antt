@@ -20,11 +20,11 @@ use Rattle.rules.specs.OneCycle.{Config, Ballots, stopped, stopIf, startIf, sto
 use Rattle.rules.specs.Faults.{Row, at, heartbeatsMissed, votesMissed, reaches, ruleOne, heard, ownVote, voteOf, votes, arriveIf, arrivedAt, decides, decisions, cycle}
 use Rattle.rules.specs.Ballots.{voteAt, ballotsOf}
 use Rattle.rules.proofs.Rows.{get-tabulate, get-tabulate-out, tabulate-ext}
-use Rattle.cluster.specs.declared.Roles.{Roles}
-use Rattle.cluster.specs.declared.States.{States}
-use Rattle.cluster.specs.States.{groupAt, stateAt, rowOf}
+use Rattle.roles.specs.declared.Roles.{Roles}
+use Rattle.roles.specs.declared.States.{States}
+use Rattle.roles.specs.States.{groupAt, stateAt, rowOf}
 use Rattle.tallies.specs.Grouped.{Below}
-use Rattle.cluster.specs.Decided.{rolesAfter, viewAt, outAt, decidedAt}
+use Rattle.roles.specs.Decided.{rolesAfter, viewAt, outAt, decidedAt}
 
 -- the masks of the states
 abbrev pub rolesOf : States → Roles

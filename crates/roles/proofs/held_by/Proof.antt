@@ -1,6 +1,6 @@
 use borrow.Author.Needs.{needs}
-use Rattle.cluster.proofs.held_by.Statement.{statement}
-use Rattle.cluster.proofs.held_by.Tie as tie
+use Rattle.roles.proofs.held_by.Statement.{statement}
+use Rattle.roles.proofs.held_by.Tie as tie
 
 enum-told : tie.Need-enum-told
 enum-told c = search needs
