@@ -1,3 +1,2 @@
-mod Filled
 mod Counted
 mod Formed

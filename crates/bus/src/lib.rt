@@ -1,150 +1,22 @@
 // One cycle of all nodes run through frames: what a unit counts is what it reads on the two channels.
 ghost use mathlib.Core.Path.{_≡_};
-ghost use mathlib.Core.Bool.{true, false};
+ghost use mathlib.Core.Bool.{true};
 ghost use Prim.Native.Nat.{ℕ, _^_, _<_, _≤_};
 ghost use lib.ListN.{length, getD};
 ghost use Rattle.sets.specs.Sets.{has, _∖_};
 ghost use Rattle.state.specs.State.{formedState};
 ghost use Rattle.rules.specs.OneCycle.{memberDecides, joinerDecides};
-ghost use Rattle.rules.specs.Ballots.{voteAt, ballotsOf};
+ghost use Rattle.rules.specs.Ballots.{voteAt};
 ghost use Rattle.rules.specs.Faults.{cycle as theCycle};
 ghost use Rattle.frames.specs.Written.{formedVote};
 ghost use Rattle.roles.specs.States.{stateAt, rowOf};
 ghost use Rattle.roles.specs.Decided.{decidedAt};
-ghost use Rattle.channels.specs.Channels.{withSent, channelOf, voteSent, voteRead, isWhole, voteIn, ballotsRead, decidedRead};
-use frames::VoteReceived;
+ghost use Rattle.channels.specs.Channels.{ballotsRead, decidedRead};
 use roles::Roles;
 use roles::States;
 use rules::Faults;
 use rules::Vote;
-use state::Group;
 use state::State;
-
-// The votes that a unit received, a slot for each sender, and the mask of the slots that hold one.
-struct Arrived {
-    present: u64,
-    numbers: [u32; 64],
-    sets: [u64; 64],
-    bases: [u64; 64],
-    views: [u64; 64],
-}
-
-// Rule 4: the vote of node q, if it casts one.
-fn put_vote(
-    all: [u8; 2304],
-    numbers: &[u32; 64],
-    sets: &[u64; 64],
-    bases: &[u64; 64],
-    views: &[u64; 64],
-    members: u64,
-    count: u32,
-    channel: u32,
-    q: usize,
-) -> [u8; 2304]
-    requires { ⌜ (q < 64) × (count < 64) ⌝ }
-    ensures { λ r. ⌜ r ≡ withSent q (voteSent (now (numbers .entry)) (now (sets .entry)) (now (bases .entry)) (now (views .entry)) members count channel q) all ⌝ }
-{
-    let v = steps::vote_at(numbers, sets, bases, views, q);
-    if sets::contains(members, q) {
-        channels::put(all, q, &writing::write_vote(q as u32, v, count, channel))
-    } else {
-        all
-    }
-}
-
-fn votes(
-    n: usize,
-    numbers: &[u32; 64],
-    sets: &[u64; 64],
-    bases: &[u64; 64],
-    views: &[u64; 64],
-    members: u64,
-    count: u32,
-    channel: u32,
-) -> [u8; 2304]
-    requires { ⌜ (n ≤ 64) × (count < 64) ⌝ }
-    ensures { λ r. ⌜ r ≡ channelOf n (voteSent (now (numbers .entry)) (now (sets .entry)) (now (bases .entry)) (now (views .entry)) members count channel) ⌝ }
-{
-    let mut all = [0u8; 2304];
-    let mut q: usize = 0;
-    while q < n {
-        let next = put_vote(all, numbers, sets, bases, views, members, count, channel, q);
-        all = next;
-        q += 1;
-    }
-    all
-}
-
-// What a unit receives of the vote of node p.
-fn read_vote(n: usize, count: u32, reach: u64, a: &[u8], b: &[u8], p: usize) -> VoteReceived
-    requires { ⌜ (n ≤ 64) × (p < n) ⌝ }
-    requires { ⌜ (length (now a) ≡ 2304) × (length (now b) ≡ 2304) ⌝ }
-    ensures { λ r. ⌜ r ≡ voteRead n count reach (now (a .entry)) (now (b .entry)) p ⌝ }
-{
-    let at = 36 * p;
-    let end = at + channels::copy_length(sets::contains(reach, p), 36);
-    let one = reading::read_vote(n, p as u32, count, 0, &a[at..end]);
-    let other = reading::read_vote(n, p as u32, count, 1, &b[at..end]);
-    reading::receive_vote(one, other)
-}
-
-fn is_whole(r: VoteReceived) -> bool
-    ensures { λ x. ⌜ x ≡ isWhole r ⌝ }
-{
-    match r {
-        VoteReceived::Missed => false,
-        VoteReceived::Whole(_) => true,
-    }
-}
-
-// The vote received, zeros if there is none.
-fn vote_in(r: VoteReceived) -> Vote
-    ensures { λ v. ⌜ v ≡ voteIn r ⌝ }
-{
-    match r {
-        VoteReceived::Missed => Vote {
-            group: Group {
-                number: 0,
-                set: 0,
-                base: 0,
-            },
-            view: 0,
-        },
-        VoteReceived::Whole(v) => v,
-    }
-}
-
-// What arrives at a unit of the votes of all nodes.
-fn arrive(n: usize, count: u32, reach: u64, a: &[u8], b: &[u8]) -> Arrived
-    requires { ⌜ n ≤ 64 ⌝ }
-    requires { ⌜ (length (now a) ≡ 2304) × (length (now b) ≡ 2304) ⌝ }
-    ensures { λ r. ⌜ ballotsOf (r .numbers) (r .sets) (r .bases) (r .views) (r .present) ≡ ballotsRead n count reach (now (a .entry)) (now (b .entry)) ⌝ }
-{
-    let mut present: u64 = 0;
-    let mut numbers = [0u32; 64];
-    let mut sets = [0u64; 64];
-    let mut bases = [0u64; 64];
-    let mut views = [0u64; 64];
-    let mut p: usize = 0;
-    while p < n {
-        let r = read_vote(n, count, reach, a, b, p);
-        let v = vote_in(r);
-        let g = v.group;
-        present = sets::include(present, p, is_whole(r));
-        numbers[p] = g.number;
-        sets[p] = g.set;
-        bases[p] = g.base;
-        views[p] = v.view;
-        p += 1;
-    }
-    Arrived {
-        present,
-        numbers,
-        sets,
-        bases,
-        views,
-    }
-}
 
 // Rule 5, on the votes that the member q reads.
 fn member_decides(
@@ -160,7 +32,7 @@ fn member_decides(
     requires { ⌜ (length (now a) ≡ 2304) × (length (now b) ≡ 2304) ⌝ }
     ensures { λ r. ⌜ r ≡ memberDecides (record { nodes = n }) q own (ballotsRead n count reach (now (a .entry)) (now (b .entry))) ⌝ }
 {
-    let arrived = arrive(n, count, reach, a, b);
+    let arrived = ballots::arrive(n, count, reach, a, b);
     let numbers = arrived.numbers;
     let sets = arrived.sets;
     let bases = arrived.bases;
@@ -184,7 +56,7 @@ fn joiner_decides(n: usize, count: u32, reach: u64, a: &[u8], b: &[u8], q: usize
     requires { ⌜ (length (now a) ≡ 2304) × (length (now b) ≡ 2304) ⌝ }
     ensures { λ r. ⌜ r ≡ joinerDecides (record { nodes = n }) q (ballotsRead n count reach (now (a .entry)) (now (b .entry))) ⌝ }
 {
-    let arrived = arrive(n, count, reach, a, b);
+    let arrived = ballots::arrive(n, count, reach, a, b);
     let numbers = arrived.numbers;
     let sets = arrived.sets;
     let bases = arrived.bases;
@@ -286,8 +158,8 @@ fn vote_phase(
     requires { ⌜ ((p : ℕ) → has p (w .members) ≡ true → (p < n) × (getD (now numbers) p 0 < 2 ^ 32) × (formedVote n p (voteAt (now numbers) (now sets) (now bases) (now views) p) ≡ true)) ⌝ }
     ensures { λ r. ⌜ ((q : ℕ) → q < n → stateAt r q ≡ decidedAt (now (numbers .entry)) (now (sets .entry)) (now (bases .entry)) (now (views .entry)) n w (w .members ∖ lost ∖ getD (now (missed .entry)) q 0) q) ⌝ }
 {
-    let a = votes(n, numbers, sets, bases, views, w.members, count, 0);
-    let b = votes(n, numbers, sets, bases, views, w.members, count, 1);
+    let a = ballots::votes(n, numbers, sets, bases, views, w.members, count, 0);
+    let b = ballots::votes(n, numbers, sets, bases, views, w.members, count, 1);
     let sent = sets::difference(w.members, lost);
     let after = decisions(
         n,

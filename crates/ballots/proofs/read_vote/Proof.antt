@@ -10,8 +10,8 @@ use Rattle.frames.specs.declared.VoteRead.{VoteRead}
 use Rattle.frames.specs.declared.VoteReceived.{VoteReceived}
 use Rattle.frames.specs.Read.{readVote, receiveVote}
 use Rattle.channels.specs.Channels.{voteRead}
-use Rattle.bus.proofs.read_vote.Statement.{statement}
-use Rattle.bus.proofs.read_vote.Tie as tie
+use Rattle.ballots.proofs.read_vote.Statement.{statement}
+use Rattle.ballots.proofs.read_vote.Tie as tie
 
 -- what is found in the two copies is what is read there
 found : (n p count reach k : ℕ) (a b : List ℕ) {x y : VoteRead} {r : VoteReceived} → k ≡ cond (has p reach) 36 0

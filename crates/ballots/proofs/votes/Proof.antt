@@ -3,8 +3,8 @@ use Prim.Native.Nat.{_≤_, _-_}
 use native.Mathlib.Omega.{arith}
 use Rattle.channels.specs.Channels.{channelOf, voteSent}
 use Rattle.channels.proofs.Carried.{channel-none, channel-next, channel-end}
-use Rattle.bus.proofs.votes.Statement.{statement}
-use Rattle.bus.proofs.votes.Tie as tie
+use Rattle.ballots.proofs.votes.Statement.{statement}
+use Rattle.ballots.proofs.votes.Tie as tie
 
 abbrev Inv-loop : tie.InvT-loop
 Inv-loop n numbers sets bases views members count channel all₀ q₀ all q = (q ≤ n) × (all ≡ channelOf q (voteSent numbers sets bases views members count channel))

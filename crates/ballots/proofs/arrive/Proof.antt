@@ -3,9 +3,9 @@ use Prim.Native.Nat.{_≤_, _-_}
 use native.Mathlib.Omega.{arith}
 use borrow.Author.Needs.{needs}
 use Rattle.channels.specs.Channels.{voteRead}
-use Rattle.bus.proofs.Filled.{Filled, filled-none, filled-next, filled-ballots}
-use Rattle.bus.proofs.arrive.Statement.{statement}
-use Rattle.bus.proofs.arrive.Tie as tie
+use Rattle.ballots.proofs.Filled.{Filled, filled-none, filled-next, filled-ballots}
+use Rattle.ballots.proofs.arrive.Statement.{statement}
+use Rattle.ballots.proofs.arrive.Tie as tie
 
 abbrev Inv-loop : tie.InvT-loop
 Inv-loop n count reach a b present₀ numbers₀ sets₀ bases₀ views₀ p₀ present numbers sets bases views p =

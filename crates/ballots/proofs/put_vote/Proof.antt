@@ -5,8 +5,8 @@ use borrow.Author.Needs.{needs}
 use Rattle.rules.specs.declared.Vote.{Vote}
 use Rattle.frames.specs.Written.{voteFrame}
 use Rattle.channels.specs.Channels.{withFrame}
-use Rattle.bus.proofs.put_vote.Statement.{statement}
-use Rattle.bus.proofs.put_vote.Tie as tie
+use Rattle.ballots.proofs.put_vote.Statement.{statement}
+use Rattle.ballots.proofs.put_vote.Tie as tie
 
 vote-at-requires : tie.Need-vote-at-requires
 vote-at-requires c κs = search needs

@@ -1,6 +1,6 @@
 use borrow.Author.Needs.{needs}
-use Rattle.bus.proofs.vote_in.Statement.{statement}
-use Rattle.bus.proofs.vote_in.Tie as tie
+use Rattle.ballots.proofs.vote_in.Statement.{statement}
+use Rattle.ballots.proofs.vote_in.Tie as tie
 
 enum-told : tie.Need-enum-told
 enum-told c = search needs
