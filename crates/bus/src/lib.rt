@@ -37,7 +37,7 @@ fn member_decides(
     let sets = arrived.sets;
     let bases = arrived.bases;
     let views = arrived.views;
-    let after = decision::member_decides(
+    let after = member_decision::member_decides(
         n,
         q,
         own,
@@ -61,7 +61,15 @@ fn joiner_decides(n: usize, count: u32, reach: u64, a: &[u8], b: &[u8], q: usize
     let sets = arrived.sets;
     let bases = arrived.bases;
     let views = arrived.views;
-    let after = decision::joiner_decides(n, q, &numbers, &sets, &bases, &views, arrived.present);
+    let after = joiner_decision::joiner_decides(
+        n,
+        q,
+        &numbers,
+        &sets,
+        &bases,
+        &views,
+        arrived.present,
+    );
     after
 }
 

@@ -106,7 +106,7 @@ fn next_state(n: Node, heard0: u64, heard1: u64, votes: &[u8], arrived: u64) -> 
     );
     match s {
         State::Out(r) => State::Out(r),
-        State::Joining => decision::joiner_decides(
+        State::Joining => joiner_decision::joiner_decides(
             nodes,
             q,
             &numbers,
@@ -117,7 +117,7 @@ fn next_state(n: Node, heard0: u64, heard1: u64, votes: &[u8], arrived: u64) -> 
         ),
         State::Member(g) => {
             let own = own_vote(n, g, heard0, heard1);
-            decision::member_decides(nodes, q, own, &numbers, &sets, &bases, &views, present)
+            member_decision::member_decides(nodes, q, own, &numbers, &sets, &bases, &views, present)
         }
     }
 }

@@ -4,8 +4,8 @@ use Rattle.sets.specs.Sets.{has}
 use Rattle.sets.specs.Quorum.{quorum}
 use Rattle.rules.proofs.Counting.{and-taken, and-left}
 use borrow.Author.Needs.{needs}
-use Rattle.decision.proofs.fits_node.Statement.{statement}
-use Rattle.decision.proofs.fits_node.Tie as tie
+use Rattle.joiner_decision.proofs.fits_node.Statement.{statement}
+use Rattle.joiner_decision.proofs.fits_node.Tie as tie
 
 difference-requires : tie.Need-difference-requires
 difference-requires c κs = search needs

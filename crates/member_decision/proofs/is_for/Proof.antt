@@ -1,7 +1,7 @@
 use mathlib.Core.Path.{sym, _∙_}
 use borrow.Author.Needs.{needs}
-use Rattle.decision.proofs.is_for.Statement.{statement}
-use Rattle.decision.proofs.is_for.Tie as tie
+use Rattle.member_decision.proofs.is_for.Statement.{statement}
+use Rattle.member_decision.proofs.is_for.Tie as tie
 
 mul-w : tie.Need-mul-w
 mul-w c = search needs

@@ -7,8 +7,8 @@ use Rattle.rules.specs.Ballots.{ballotsOf}
 use Rattle.rules.proofs.Counting.{cond-taken, cond-left}
 use Rattle.rules.proofs.Own.{own-tally, others-agreed, decides-on, decides-out}
 use borrow.Author.Needs.{needs}
-use Rattle.decision.proofs.member_decides.Statement.{statement}
-use Rattle.decision.proofs.member_decides.Tie as tie
+use Rattle.member_decision.proofs.member_decides.Statement.{statement}
+use Rattle.member_decision.proofs.member_decides.Tie as tie
 
 abbrev start : tie.After-include → tie.Start
 start c = c .before .before .before .before .before .before .before

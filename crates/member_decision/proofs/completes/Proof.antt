@@ -1,6 +1,6 @@
 use borrow.Author.Needs.{needs}
-use Rattle.decision.proofs.completes.Statement.{statement}
-use Rattle.decision.proofs.completes.Tie as tie
+use Rattle.member_decision.proofs.completes.Statement.{statement}
+use Rattle.member_decision.proofs.completes.Tie as tie
 
 is-quorum-requires : tie.Need-is-quorum-requires
 is-quorum-requires c κs = search needs

@@ -5,10 +5,10 @@ use native.Mathlib.Omega.{arith}
 use Rattle.sets.specs.Sets.{has}
 use Rattle.rules.specs.Ballots.{ballotsOf, fitsAt}
 use Rattle.sets.proofs.Dropping.{lowest-node}
-use Rattle.decision.proofs.Fitting.{Dropped, dropped-none, fits-slot, dropped-less, dropped-next}
+use Rattle.joiner_decision.proofs.Fitting.{Dropped, dropped-none, fits-slot, dropped-less, dropped-next}
 use borrow.Author.Needs.{needs}
-use Rattle.decision.proofs.from_fit.Statement.{statement}
-use Rattle.decision.proofs.from_fit.Tie as tie
+use Rattle.joiner_decision.proofs.from_fit.Statement.{statement}
+use Rattle.joiner_decision.proofs.from_fit.Tie as tie
 
 abbrev Inv-loop : tie.InvT-loop
 Inv-loop n q numbers sets bases views present among left₀ left = Dropped numbers sets bases views n q present among left

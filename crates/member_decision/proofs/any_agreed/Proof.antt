@@ -12,10 +12,10 @@ use Rattle.sets.proofs.Nodes.{those-next, those-end}
 use Rattle.rules.specs.Ballots.{votedFor}
 use Rattle.rules.proofs.Counting.{no, quorum-none, none-yet}
 use Rattle.sets.proofs.Dropping.{lowest-node}
-use Rattle.decision.proofs.Candidates.{none-below, Tried, tried-none, tried-won, tried-less, tried-next, tried-end}
+use Rattle.member_decision.proofs.Candidates.{none-below, Tried, tried-none, tried-won, tried-less, tried-next, tried-end}
 use borrow.Author.Needs.{needs}
-use Rattle.decision.proofs.any_agreed.Statement.{statement}
-use Rattle.decision.proofs.any_agreed.Tie as tie
+use Rattle.member_decision.proofs.any_agreed.Statement.{statement}
+use Rattle.member_decision.proofs.any_agreed.Tie as tie
 
 abbrev Inv-loop : tie.InvT-loop
 Inv-loop n views among base left k view m₀ p₀ m p = (p ≤ n) × (m ≡ those p (votedFor views left view)) × (quorum m base ≡ false)

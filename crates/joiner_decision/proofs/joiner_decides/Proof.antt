@@ -3,10 +3,10 @@ use mathlib.Core.Path.{_≡_, sym, _∙_}
 use Prim.Native.Nat.{_<_}
 use native.Mathlib.Omega.{arith}
 use Rattle.sets.specs.Sets.{has}
-use Rattle.decision.proofs.Fitting.{Dropped, arrived-in, enters-nowhere, first-in, others-in, enters-only, enters-other}
+use Rattle.joiner_decision.proofs.Fitting.{Dropped, arrived-in, enters-nowhere, first-in, others-in, enters-only, enters-other}
 use borrow.Author.Needs.{needs}
-use Rattle.decision.proofs.joiner_decides.Statement.{statement}
-use Rattle.decision.proofs.joiner_decides.Tie as tie
+use Rattle.joiner_decision.proofs.joiner_decides.Statement.{statement}
+use Rattle.joiner_decision.proofs.joiner_decides.Tie as tie
 
 below-requires : tie.Need-below-requires
 below-requires c κs = search needs

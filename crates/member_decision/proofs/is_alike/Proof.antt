@@ -3,8 +3,8 @@ use Rattle.state.specs.declared.Group.{Group}
 use Rattle.rules.specs.OneCycle.{sameGroup}
 use Rattle.rules.proofs.Counting.{in-both}
 use borrow.Author.Needs.{needs}
-use Rattle.decision.proofs.is_alike.Statement.{statement}
-use Rattle.decision.proofs.is_alike.Tie as tie
+use Rattle.member_decision.proofs.is_alike.Statement.{statement}
+use Rattle.member_decision.proofs.is_alike.Tie as tie
 
 group-at-requires : tie.Need-group-at-requires
 group-at-requires c κs = search needs

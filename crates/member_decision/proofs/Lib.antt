@@ -1,2 +1,1 @@
 mod Candidates
-mod Fitting
