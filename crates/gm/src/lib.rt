@@ -3,7 +3,8 @@
 ghost use mathlib.Core.Path.{_≡_};
 ghost use Rattle.state.specs.Image.{decoded};
 ghost use Rattle.lent.specs.Refusals.{imageStatus};
-ghost use Rattle.entry_states.specs.States.{beginStatus, beginLeft, stopLeft, startLeft};
+ghost use Rattle.entry_states.specs.States.{stopLeft, startLeft};
+ghost use Rattle.entry_begin.specs.Begin.{beginStatus, beginLeft};
 ghost use Rattle.entry_heartbeats.specs.Heartbeats.{writeHeartbeatStatus, writeHeartbeatLeft, sendHeartbeatStatus, sendHeartbeatLeft, sendHeartbeatSent};
 ghost use Rattle.entry_hearing.specs.Hearing.{readHeartbeatStatus, readHeartbeatJoin, receiveHeartbeatStatus, receiveHeartbeatHeard};
 ghost use Rattle.entry_votes.specs.Votes.{voteOf, writeVoteStatus, writeVoteLeft};
@@ -19,7 +20,7 @@ pub extern "C" fn gm_begin(n: u32, node: u32, founding: u64, state: &mut [u8]) -
     ensures { λ r. ⌜ r ≡ beginStatus n node founding (now (state .entry)) ⌝ }
     ensures { λ _. ⌜ now (state .exit) ≡ beginLeft n node founding (now (state .entry)) ⌝ }
 {
-    entry_states::begin(n, node, founding, state)
+    entry_begin::begin(n, node, founding, state)
 }
 
 // Rule 1, stop.

@@ -5,11 +5,11 @@ use lib.ListN.{length}
 use native.Mathlib.Omega.{arith}
 use denote.Ref.{now}
 use Rattle.refusal.proofs.Laws.{unless-refused}
-use Rattle.entry_states.specs.States.{beginStatus, beginLeft}
-use Rattle.entry_states.proofs.Answers.{begin-bounds, begun}
+use Rattle.entry_begin.specs.Begin.{beginStatus, beginLeft}
+use Rattle.entry_begin.proofs.Begun.{begin-bounds, begun}
 use borrow.Author.Needs.{needs}
-use Rattle.entry_states.proofs.begin.Statement.{statement}
-use Rattle.entry_states.proofs.begin.Tie as tie
+use Rattle.entry_begin.proofs.begin.Statement.{statement}
+use Rattle.entry_begin.proofs.begin.Tie as tie
 
 abbrev state : tie.Else1 → List ℕ
 state c = now (c .before .before .before .before .args .state)

@@ -3,11 +3,11 @@ use mathlib.Core.Bool.{false}
 use borrow.Author.Tests.{le-leb, lt-leb, ne-eqb}
 use Rattle.refusal.specs.Refusal.{first}
 use Rattle.lent.specs.Refusals.{wrongCount}
-use Rattle.entry_states.specs.States.{beginStatus}
+use Rattle.entry_begin.specs.Begin.{beginStatus}
 use Rattle.lent.proofs.Bounds.{count-bounds}
 use borrow.Author.Needs.{needs}
-use Rattle.entry_states.proofs.begin_refusal.Statement.{statement}
-use Rattle.entry_states.proofs.begin_refusal.Tie as tie
+use Rattle.entry_begin.proofs.begin_refusal.Statement.{statement}
+use Rattle.entry_begin.proofs.begin_refusal.Tie as tie
 
 few : (c : tie.Else1) → wrongCount (c .before .before .before .args .n) ≡ false
 few c = sym (c .before .wrong-count .ensures) ∙ c .if1 .left

@@ -1,8 +1,8 @@
 use borrow.Author.Needs.{needs}
 use borrow.Author.Tests.{eq-eqb, ne-eqb}
 use Rattle.lent.specs.Refusals.{wrongFounding}
-use Rattle.entry_states.proofs.wrong_founding.Statement.{statement}
-use Rattle.entry_states.proofs.wrong_founding.Tie as tie
+use Rattle.entry_begin.proofs.wrong_founding.Statement.{statement}
+use Rattle.entry_begin.proofs.wrong_founding.Tie as tie
 
 returns : tie.Need-returns
 unfolding wrongFounding

@@ -1,7 +1,7 @@
 use mathlib.Core.Path.{sym, _∙_}
 use borrow.Author.Needs.{needs}
-use Rattle.entry_states.proofs.initial.Statement.{statement}
-use Rattle.entry_states.proofs.initial.Tie as tie
+use Rattle.entry_begin.proofs.initial.Statement.{statement}
+use Rattle.entry_begin.proofs.initial.Tie as tie
 
 contains-requires : tie.Need-contains-requires
 contains-requires c κs = search needs
