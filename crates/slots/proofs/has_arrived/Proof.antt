@@ -1,8 +1,8 @@
 use mathlib.Core.Path.{sym, _∙_}
 use borrow.Author.Tests.{eq-eqb, ne-eqb, not-true, not-false}
 use borrow.Author.Needs.{needs}
-use Rattle.entry_decide.proofs.has_arrived.Statement.{statement}
-use Rattle.entry_decide.proofs.has_arrived.Tie as tie
+use Rattle.slots.proofs.has_arrived.Statement.{statement}
+use Rattle.slots.proofs.has_arrived.Tie as tie
 
 returns : tie.Need-returns
 returns c = simp (eq-eqb _ _ (c .if1 .taken))

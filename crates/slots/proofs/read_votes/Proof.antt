@@ -6,11 +6,11 @@ use Rattle.sets.specs.Sets.{those}
 use Rattle.sets.proofs.Nodes.{those-none, those-next, those-end}
 use Rattle.rules.specs.declared.Vote.{Vote}
 use Rattle.rules.specs.Ballots.{voteAt}
-use Rattle.entry_decide.specs.Decide.{slotVote, arrivedIn}
-use Rattle.entry_decide.proofs.Buffers.{counts, filled}
+use Rattle.slots.specs.Slots.{slotVote, arrivedIn}
+use Rattle.slots.proofs.Buffers.{counts, filled}
 use native.Mathlib.Omega.{arith}
-use Rattle.entry_decide.proofs.read_votes.Statement.{statement}
-use Rattle.entry_decide.proofs.read_votes.Tie as tie
+use Rattle.slots.proofs.read_votes.Statement.{statement}
+use Rattle.slots.proofs.read_votes.Tie as tie
 
 counted : (n q arrived p : ℕ) {b : Bool} (v w : Vote) → b ≡ counts n q arrived p v → v ≡ w → b ≡ counts n q arrived p w
 counted n q arrived p v w e k = e ∙ ap (counts n q arrived p) k

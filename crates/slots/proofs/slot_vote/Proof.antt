@@ -1,10 +1,10 @@
 use mathlib.Core.Path.{_≡_}
 use Prim.Native.Nat.{ℕ}
 use Rattle.rules.specs.declared.Vote.{Vote}
-use Rattle.entry_decide.specs.Decide.{slotVote}
+use Rattle.slots.specs.Slots.{slotVote}
 use native.Mathlib.Omega.{arith}
-use Rattle.entry_decide.proofs.slot_vote.Statement.{statement}
-use Rattle.entry_decide.proofs.slot_vote.Tie as tie
+use Rattle.slots.proofs.slot_vote.Statement.{statement}
+use Rattle.slots.proofs.slot_vote.Tie as tie
 
 parts : {g g′ m m′ b b′ w w′ : ℕ} → g ≡ g′ → m ≡ m′ → b ≡ b′ → w ≡ w′
     → _≡_ {A = Vote} (record { group = record { number = g; set = m; base = b }; view = w }) (record { group = record { number = g′; set = m′; base = b′ }; view = w′ })

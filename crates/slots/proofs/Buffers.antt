@@ -16,7 +16,7 @@ use Rattle.sets.proofs.Nodes.{of-those}
 use Rattle.rules.specs.declared.Vote.{Vote}
 use Rattle.rules.specs.Ballots.{voteAt, ballotsOf}
 use Rattle.frames.specs.Written.{formedVote}
-use Rattle.entry_decide.specs.Decide.{slotVote, arrivedIn, bufferBallots}
+use Rattle.slots.specs.Slots.{slotVote, arrivedIn, bufferBallots}
 
 -- whether the vote v of p counts as arrived at q
 abbrev pub counts : ℕ → ℕ → ℕ → ℕ → Vote → Bool
