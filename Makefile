@@ -13,10 +13,10 @@ MEASURE = $(BUILD)/measure
 C99 = gcc -std=c99 -Wall -Wextra -Werror -pedantic -O2 -Iinclude
 
 SOURCES = crates.txt $(shell find crates -name '*.rt' -o -name '*.antt')
-ENTRIES = entry_states entry_heartbeats entry_votes entry_arrivals entry_decide entry_row
+ENTRIES = $(notdir $(wildcard crates/entry_*))
 
 # so many crates and edits at a time, each up to 1 GB: more than there are cores, so that none of these waits for the slowest of a few
-export RT_JOBS ?= 8
+export RT_JOBS ?= 6
 
 # what `make install` places, and where below PREFIX; of the documents only those that the header and the manual pages send a reader to
 PROGRAMS = $(GROUPRUN) $(TABLETEXT)

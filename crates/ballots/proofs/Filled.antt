@@ -15,7 +15,7 @@ use Rattle.rules.specs.declared.Vote.{Vote}
 use Rattle.rules.specs.Ballots.{voteAt, ballotsOf}
 use Rattle.frames.specs.declared.VoteReceived.{VoteReceived}
 use Rattle.frames.specs.declared.VoteReceived.the-variants.{Missed, Whole}
-use Rattle.tallies.proofs.Arrays.{stored}
+use Rattle.rules.proofs.Arrays.{stored}
 use Rattle.channels.specs.Channels.{isWhole, voteIn, received, voteRead, ballotsRead}
 
 pub record Filled (R : ℕ → VoteReceived) (p present : ℕ) (numbers sets bases views : List ℕ) : Type 0 where

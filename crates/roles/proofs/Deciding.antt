@@ -16,7 +16,7 @@ use Rattle.rules.specs.OneCycle.{sendsMember, sendsJoin}
 use Rattle.roles.specs.declared.Roles.{Roles}
 use Rattle.roles.specs.States.{stateAt}
 use Rattle.roles.specs.Decided.{heldBy, isNoQuorum, isOutvoted, withState}
-use Rattle.tallies.proofs.Arrays.{stored}
+use Rattle.rules.proofs.Arrays.{stored}
 
 -- the masks w and the arrays hold the states D of the nodes below q
 pub record Holds (D : ℕ → State) (q : ℕ) (w : Roles) (numbers sets bases : List ℕ) : Type 0 where

@@ -23,7 +23,6 @@ use Rattle.rules.proofs.Rows.{get-tabulate, get-tabulate-out, tabulate-ext}
 use Rattle.roles.specs.declared.Roles.{Roles}
 use Rattle.roles.specs.declared.States.{States}
 use Rattle.roles.specs.States.{groupAt, stateAt, rowOf}
-use Rattle.tallies.specs.Grouped.{Below}
 use Rattle.roles.specs.Decided.{rolesAfter, viewAt, outAt, decidedAt}
 
 -- the masks of the states
@@ -233,7 +232,7 @@ module _ (n : ℕ) (s : States) (f : Faults) where
     whole r e = tabulate-ext n (stateAt r) (λ q. decides config f row q (at row q) (arrivedAt f (votes config f row) q)) (λ q h. e q h ∙ sym (decided q h))
 
 -- the masks w after rule 1 hold nodes alone
-pub members-below : (n : ℕ) (s : States) (f : Faults) (w : Roles) → w ≡ after n s f → Below n (w .members)
+pub members-below : (n : ℕ) (s : States) (f : Faults) (w : Roles) → w ≡ after n s f → (p : ℕ) → has p (w .members) ≡ true → p < n
 members-below n s f w e q h = go (ltb q n) refl
   where
     go : (b : Bool) → ltb q n ≡ b → q < n

@@ -108,12 +108,6 @@ nodes-states n xs e h =
     tabulate-ext n (λ q. node n q (at (statesOf xs) q)) (λ q. node n (0 + q) (at (statesOf xs) q)) (λ q l. ap (λ (p : ℕ). node n p (at (statesOf xs) q)) (sym (zero-add q)))
     ∙ ap (λ (k : ℕ). tabulate k (λ q. node n (0 + q) (at (statesOf xs) q))) (sym e) ∙ nodes-from n 0 xs h
 
-pub in-order-formed : (n : ℕ) (xs : List Node) → length xs ≡ n → inOrder n 0 xs ≡ true → (q : ℕ) → q < n → formed (record { state = at (statesOf xs) q; id = q; nodes = n }) ≡ true
-unfolding nodesOf
-in-order-formed n xs e h q l =
-    place-formed n (0 + q) (node n q (at (statesOf xs) q))
-    (order-at n 0 n (λ p. node n p (at (statesOf xs) p)) (ap (inOrder n 0) (nodes-states n xs e h) ∙ h) q l)
-
 -- ---- what is gathered
 pub push-in : (n : ℕ) (g : Gathered) (q : ℕ) (x : Node) → q < 64 → pushOf n g q x ≡ record { states = withNode (g .states) q (x .state); good = g .good && inPlace n q x }
 unfolding pushOf

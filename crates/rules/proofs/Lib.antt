@@ -1,4 +1,5 @@
 pub mod Rows
+pub mod Arrays
 pub mod Votes
 pub mod Undisturbed
 pub mod States

@@ -15,7 +15,7 @@ use Rattle.bigendian.specs.BigEndian.{numberAt}
 use Rattle.refusal.specs.Refusal.{first}
 use Rattle.rules.specs.declared.Faults.{Faults}
 use Rattle.rules.specs.Faults.{tabulate}
-use Rattle.rules.proofs.Rows.{get-tabulate, get-tabulate-out, length-tabulate}
+use Rattle.rules.proofs.Rows.{get-tabulate, get-tabulate-out}
 use Rattle.table.specs.Records.{isKind, beyond, countAt, foundingAt, wrongRow, startRefusal}
 use Rattle.table.specs.Records.{entriesAt, cycleLength, placeAt, missedAt, receiverAt, goodEntry, masksBeyond, wrongCycle, cycleRefusal, missedOf, faultsAt}
 use Rattle.table.specs.Table.{Cycles, withCycle, cyclesIn, tableOf}
@@ -162,15 +162,6 @@ bounded n k s h =
       heartbeatsMissed = λ q. within-row n (λ p. missedOf s (entriesAt s) p) q (λ p. missed-accepted n k s p h);
       votesMissed = λ q. within-row n (λ p. missedOf s (entriesAt s) (128 + p)) q (λ p. missed-accepted n k s (128 + p) h);
     }
-
--- the two rows of a fault record have 64 places
-pub heartbeats-length : (s : List ℕ) → length (faultsAt s .«heartbeat_missed») ≡ 64
-unfolding faultsAt
-heartbeats-length s = length-tabulate 64 (λ q. missedOf s (entriesAt s) q)
-
-pub votes-length : (s : List ℕ) → length (faultsAt s .«vote_missed») ≡ 64
-unfolding faultsAt
-votes-length s = length-tabulate 64 (λ q. missedOf s (entriesAt s) (128 + q))
 
 -- ---- the cycles of a table
 

@@ -1,4 +1,4 @@
--- `bus::put` meets its contract. The loop's invariant: the bytes copied so far stand in their place.
+-- `channels::put` meets its contract. The loop's invariant: the bytes copied so far stand in their place.
 -- Assumes nothing.
 use mathlib.Core.Path.{_≡_, sym, ap, _∙_}
 use mathlib.Core.List.{List, _++_}

@@ -7,7 +7,7 @@ use borrow.Author.Needs.{needs}
 use borrow.Author.Count.{below-none}
 use Rattle.sets.specs.Sets.{_∖_}
 use Rattle.rules.specs.OneCycle.{viewOf}
-use Rattle.tallies.proofs.Arrays.{stored}
+use Rattle.rules.proofs.Arrays.{stored}
 use Rattle.channels.specs.Channels.{aliveRead, joinRead, viewRead}
 use Rattle.channels.proofs.views_of.Statement.{statement}
 use Rattle.channels.proofs.views_of.Tie as tie

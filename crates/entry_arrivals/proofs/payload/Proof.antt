@@ -1,4 +1,4 @@
--- `entry_votes::payload` meets its contract: the four numbers are put one after the other. Assumes nothing.
+-- `entry_arrivals::payload` meets its contract: the four numbers are put one after the other. Assumes nothing.
 use mathlib.Core.Path.{_≡_, refl, sym, ap, _∙_}
 use mathlib.Core.List.{List, _++_, append-assoc}
 use Prim.Native.Nat.{ℕ, _+_, _≤_}

@@ -1,4 +1,4 @@
--- `entry_votes::put` meets its contract. Assumes nothing.
+-- `entry_arrivals::put` meets its contract. Assumes nothing.
 use mathlib.Core.Path.{_≡_, ap₂, sym, _∙_}
 use mathlib.Core.List.{List, _++_}
 use Prim.Native.Nat.{ℕ, _+_, _-_, _≤_}

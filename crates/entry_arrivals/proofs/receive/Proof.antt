@@ -1,4 +1,4 @@
--- `entry_votes::receive` meets its contract, by what the two copies give. Assumes nothing.
+-- `entry_arrivals::receive` meets its contract, by what the two copies give. Assumes nothing.
 use mathlib.Core.Path.{_≡_, refl, sym, ap, ap₂, _∙_}
 use mathlib.Core.Bool.{Bool, true, false, _||_}
 use mathlib.Core.List.{List, [], _∷_, _++_}

@@ -1,4 +1,4 @@
--- `entry_votes::send` meets its contract: the numbers, the frame, then the state decide. Assumes nothing.
+-- `entry_voting::send` meets its contract: the numbers, the frame, then the state decide. Assumes nothing.
 use mathlib.Core.Path.{_≡_, refl, sym, ap, _∙_}
 use mathlib.Core.Bool.{Bool, true, false, _||_}
 use mathlib.Core.List.{List}

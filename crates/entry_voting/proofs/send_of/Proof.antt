@@ -1,4 +1,4 @@
--- `entry_votes::send_of` meets its contract: a member sends its vote. Assumes nothing.
+-- `entry_voting::send_of` meets its contract: a member sends its vote. Assumes nothing.
 use mathlib.Core.Path.{_≡_, sym, ap, _∙_}
 use mathlib.Core.List.{List, _++_}
 use Prim.Native.Nat.{ℕ}

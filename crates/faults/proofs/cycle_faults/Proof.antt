@@ -1,4 +1,4 @@
--- `table::cycle_faults` meets its contract. Assumes nothing.
+-- `faults::cycle_faults` meets its contract. Assumes nothing.
 use borrow.Author.Needs.{needs}
 use Rattle.table.proofs.Missed.{faults-are}
 use Rattle.faults.proofs.cycle_faults.Statement.{statement}

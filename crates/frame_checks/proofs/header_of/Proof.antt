@@ -1,4 +1,4 @@
--- `frames::header_of` meets its contract: one byte and four are five. Assumes nothing.
+-- `frame_checks::header_of` meets its contract: one byte and four are five. Assumes nothing.
 use mathlib.Core.Path.{_≡_, sym, ap₂, _∙_}
 use mathlib.Core.List.{List}
 use Prim.Native.Nat.{ℕ, _+_, _*_}

@@ -1,4 +1,4 @@
--- `frames::indicators` meets its contract. Assumes nothing.
+-- `frame_checks::indicators` meets its contract. Assumes nothing.
 use borrow.Author.Tests.{eq-eqb, ne-eqb}
 use Rattle.frames.specs.Looked.{indicatorsOf}
 use Rattle.frame_checks.proofs.indicators.Statement.{statement}

@@ -1,4 +1,4 @@
--- `frames::is_due` meets its contract: each test is one of `isDue`. Assumes nothing.
+-- `frame_checks::is_due` meets its contract: each test is one of `isDue`. Assumes nothing.
 use native.Mathlib.Nat.{div-one}
 use borrow.Author.Tests.{eq-eqb, ne-eqb}
 use borrow.Author.Needs.{needs}

@@ -1,4 +1,4 @@
--- `frames::look` meets its contract: each refusal comes after the tests of those below it. Assumes nothing.
+-- `frame_checks::look` meets its contract: each refusal comes after the tests of those below it. Assumes nothing.
 use mathlib.Core.Path.{_≡_, sym, _∙_}
 use mathlib.Core.Bool.{true, false}
 use mathlib.Core.List.{List}

@@ -1,4 +1,4 @@
--- `frames::null_or_due` meets its contract. Assumes nothing.
+-- `frame_checks::null_or_due` meets its contract. Assumes nothing.
 use mathlib.Core.Path.{_≡_, sym, _∙_}
 use mathlib.Core.Bool.{Bool, true, false, not}
 use Prim.Native.Nat.{_/_, _%_}

@@ -1,4 +1,4 @@
--- `frames::wrong_frame` meets its contract: the three check bytes are the lowest of the last four. Assumes nothing.
+-- `frame_checks::wrong_frame` meets its contract: the three check bytes are the lowest of the last four. Assumes nothing.
 use mathlib.Core.Path.{_≡_, sym, ap, _∙_}
 use mathlib.Core.List.{List}
 use Prim.Native.Nat.{ℕ, _+_, _-_, _%_, _^_}

@@ -1,4 +1,4 @@
--- `frames::wrong_header` meets its contract. Assumes nothing.
+-- `frame_checks::wrong_header` meets its contract. Assumes nothing.
 use native.Mathlib.Omega.{arith}
 use borrow.Author.Needs.{needs}
 use Rattle.frames.specs.Read.{wrongHeader}

@@ -7,8 +7,6 @@ use native.Mathlib.Omega.{arith}
 use borrow.Author.Needs.{needs}
 use Rattle.grouprun.proofs.fill.Statement.{statement}
 use Rattle.grouprun.proofs.fill.Tie as tie
-use Rattle.io.proofs.count.Reads as count-reads
-use Rattle.libc.proofs.read.Reads as read-reads
 
 -- nothing more is read at the end, or where the read failed: one of the two
 apart : (ended : Bool) → not ended ≡ true → ended ≡ false

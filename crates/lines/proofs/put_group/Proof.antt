@@ -1,4 +1,4 @@
--- `report::put_group` meets its contract. Assumes nothing.
+-- `lines::put_group` meets its contract. Assumes nothing.
 use mathlib.Core.Path.{_≡_}
 use mathlib.Core.Bool.{Bool, true, false, cond}
 use mathlib.Core.List.{_++_}

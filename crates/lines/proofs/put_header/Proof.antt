@@ -1,4 +1,4 @@
--- `report::put_header` meets its contract. Assumes nothing.
+-- `lines::put_header` meets its contract. Assumes nothing.
 use Rattle.text.specs.Text.{ascii}
 use Rattle.text.proofs.Appending.{then}
 use Rattle.printed.specs.Printed.{headerLine}

@@ -1,4 +1,4 @@
--- `report::put_line` meets its contract: one append after the other. Assumes nothing.
+-- `lines::put_line` meets its contract: one append after the other. Assumes nothing.
 use Rattle.text.proofs.Digits.{decimal-length}
 use Rattle.text.proofs.Appending.{then, leaves}
 use Rattle.printed.specs.Printed.{fields}

@@ -1,4 +1,4 @@
--- `report::put_masks` meets its contract: one append after the other. Assumes nothing.
+-- `lines::put_masks` meets its contract: one append after the other. Assumes nothing.
 use Rattle.text.specs.Text.{ascii}
 use Rattle.text.proofs.Digits.{hex-length}
 use Rattle.text.proofs.Appending.{then, leaves}

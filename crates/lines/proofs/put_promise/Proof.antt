@@ -1,4 +1,4 @@
--- `report::put_promise` meets its contract. Assumes nothing.
+-- `lines::put_promise` meets its contract. Assumes nothing.
 use mathlib.Core.Path.{sym, ap}
 use Rattle.text.specs.Text.{ascii}
 use Rattle.text.proofs.Appending.{same}

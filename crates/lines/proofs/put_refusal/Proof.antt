@@ -1,4 +1,4 @@
--- `report::put_refusal` meets its contract. Assumes nothing.
+-- `lines::put_refusal` meets its contract. Assumes nothing.
 use mathlib.Core.Path.{_≡_, refl, sym}
 use denote.Ref.{now}
 use mathlib.Core.List.{[], _++_}

@@ -1,4 +1,4 @@
--- `frames::formed_vote` meets its contract: each test is one of `formedVote`. Assumes nothing.
+-- `reading::formed_vote` meets its contract: each test is one of `formedVote`. Assumes nothing.
 use mathlib.Core.Path.{_≡_, ap, sym, _∙_}
 use mathlib.Core.Bool.{Bool}
 use Prim.Native.Nat.{ℕ}

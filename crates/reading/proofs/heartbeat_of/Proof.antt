@@ -1,4 +1,4 @@
--- `frames::heartbeat_of` meets its contract. Assumes nothing.
+-- `reading::heartbeat_of` meets its contract. Assumes nothing.
 use borrow.Author.Tests.{eq-eqb, ne-eqb}
 use Rattle.frames.specs.Looked.{heartbeatOf}
 use Rattle.reading.proofs.heartbeat_of.Statement.{statement}

@@ -1,4 +1,4 @@
--- `frames::read_heartbeat` meets its contract: a frame that is due has its payload. Assumes nothing.
+-- `reading::read_heartbeat` meets its contract: a frame that is due has its payload. Assumes nothing.
 use mathlib.Core.Path.{_≡_}
 use mathlib.Core.Bool.{true}
 use mathlib.Core.List.{List}

@@ -1,4 +1,4 @@
--- `frames::read_vote` meets its contract: a frame that is due is 36 bytes long. Assumes nothing.
+-- `reading::read_vote` meets its contract: a frame that is due is 36 bytes long. Assumes nothing.
 use mathlib.Core.Path.{_≡_}
 use mathlib.Core.Bool.{false}
 use mathlib.Core.List.{List}

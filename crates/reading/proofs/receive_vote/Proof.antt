@@ -1,4 +1,4 @@
--- `frames::receive_vote` meets its contract. Assumes nothing.
+-- `reading::receive_vote` meets its contract. Assumes nothing.
 use mathlib.Core.Path.{sym, _∙_}
 use borrow.Author.Needs.{needs}
 use Rattle.reading.proofs.receive_vote.Statement.{statement}

@@ -1,4 +1,4 @@
--- `frames::same_vote` meets its contract: `sameVote` by its two tests. Assumes nothing.
+-- `reading::same_vote` meets its contract: `sameVote` by its two tests. Assumes nothing.
 use mathlib.Core.Path.{sym, _∙_}
 use Rattle.rules.specs.OneCycle.{sameVote}
 use borrow.Author.Needs.{needs}

@@ -1,4 +1,4 @@
--- `frames::vote_content` meets its contract: the vote that is made is the payload's. Assumes nothing.
+-- `reading::vote_content` meets its contract: the vote that is made is the payload's. Assumes nothing.
 use mathlib.Core.Path.{_≡_, sym, _∙_}
 use mathlib.Core.Bool.{Bool, true, false, cond}
 use mathlib.Core.List.{List}

@@ -7,7 +7,7 @@ use lib.ListN.{length, getD, length-set}
 use borrow.Author.Needs.{needs}
 use borrow.Author.Count.{below-none}
 use Rattle.tallies.specs.Grouped.{spreadAt}
-use Rattle.tallies.proofs.Arrays.{stored, unstored}
+use Rattle.rules.proofs.Arrays.{stored, unstored}
 use Rattle.tallies.proofs.spread.Statement.{statement}
 use Rattle.tallies.proofs.spread.Tie as tie
 

@@ -1,4 +1,4 @@
--- `frames::header_bytes` meets its contract: the number fits 40 bits, and its bytes are those of `header`. Assumes nothing.
+-- `writing::header_bytes` meets its contract: the number fits 40 bits, and its bytes are those of `header`. Assumes nothing.
 use native.Mathlib.Nat.{div-one}
 use native.Mathlib.Omega.{arith}
 use borrow.Author.Needs.{needs}

@@ -1,4 +1,4 @@
--- `frames::put` meets its contract. The loop's invariant: what stood before `at`, and then the bytes copied so far.
+-- `writing::put` meets its contract. The loop's invariant: what stood before `at`, and then the bytes copied so far.
 -- Assumes nothing.
 use mathlib.Core.Path.{_≡_, sym, ap, _∙_}
 use mathlib.Core.List.{List, [], _∷_, _++_, append-assoc, append-nil}

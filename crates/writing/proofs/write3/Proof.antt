@@ -1,4 +1,4 @@
--- `frames::write3` meets its contract. Assumes nothing.
+-- `writing::write3` meets its contract. Assumes nothing.
 use native.Mathlib.Omega.{arith}
 use native.Mathlib.Nat.{div-one}
 use Rattle.bigendian.specs.BigEndian.{bytesOf}

@@ -1,4 +1,4 @@
--- `frames::write_heartbeat` meets its contract. Assumes nothing.
+-- `writing::write_heartbeat` meets its contract. Assumes nothing.
 use native.Mathlib.Nat.{div-one}
 use native.Mathlib.Omega.{arith}
 use borrow.Author.Needs.{needs}

@@ -1,4 +1,4 @@
--- `frames::write_vote` meets its contract: the parts are put one after the other, and the check over them last. Assumes nothing.
+-- `writing::write_vote` meets its contract: the parts are put one after the other, and the check over them last. Assumes nothing.
 use mathlib.Core.Path.{_≡_, refl, sym, ap, ap₂, _∙_}
 use mathlib.Core.List.{List, [], _++_, append-assoc}
 use Prim.Native.Nat.{ℕ, _+_, _≤_}
