@@ -1,2 +1,3 @@
 pub mod OverCalls
 pub mod Standing
+pub mod Counts

@@ -8,10 +8,10 @@ ghost use Rattle.tallies.specs.Grouped.{Grouped, Within};
 ghost use Rattle.roles.specs.States.{statesOf, faultsOf, stateAt, rowOf};
 ghost use Rattle.roles.specs.Decided.{viewAt, decidedAt};
 ghost use Rattle.cluster.specs.Follows.{follows as doesFollow, Worth, withMember};
-use roles::Marks;
 use roles::Roles;
 use roles::States;
 use rules::Faults;
+use rules::Marks;
 use state::Group;
 use state::State;
 

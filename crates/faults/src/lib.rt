@@ -4,8 +4,9 @@ ghost use mathlib.Core.Bool.{cond};
 ghost use Prim.Native.Nat.{_/_, _%_, _≤_};
 ghost use lib.Dec.{eqb};
 ghost use lib.ListN.{length, set, replicate};
-ghost use Rattle.table.specs.Records.{cycleLength, faultsAt};
+ghost use Rattle.table.specs.Records.{cycleLength, faultsAt, marksAt};
 use rules::Faults;
+use rules::Marks;
 
 // Stores an entry's mask at its receiver if its two high bits are `phase`: 0 heartbeat, 2 vote; so one with bit 6 set is stored nowhere.
 fn note(missed: &mut [u64; 64], phase: u8, first: u8, mask: u64)
@@ -34,6 +35,19 @@ pub fn cycle_missed(s: &[u8], heartbeats: &mut [u64; 64], votes: &mut [u64; 64])
     }
 }
 
+// The four masks of a cycle's record.
+pub fn marks_at(s: &[u8]) -> Marks
+    requires { ⌜ 36 ≤ length (now s) ⌝ }
+    ensures { λ r. ⌜ r ≡ marksAt (now (s .entry)) ⌝ }
+{
+    Marks {
+        stop: bigendian::read8(s, 3),
+        start: bigendian::read8(s, 11),
+        heartbeat_lost: bigendian::read8(s, 19),
+        vote_lost: bigendian::read8(s, 27),
+    }
+}
+
 // The faults of a cycle, from its record.
 pub fn cycle_faults(s: &[u8]) -> Faults
     requires { ⌜ (36 ≤ length (now s)) × (cycleLength (now s) ≤ length (now s)) ⌝ }
@@ -42,11 +56,12 @@ pub fn cycle_faults(s: &[u8]) -> Faults
     let mut heartbeats = [0u64; 64];
     let mut votes = [0u64; 64];
     cycle_missed(s, &mut heartbeats, &mut votes);
+    let m = marks_at(s);
     Faults {
-        stop: bigendian::read8(s, 3),
-        start: bigendian::read8(s, 11),
-        heartbeat_lost: bigendian::read8(s, 19),
-        vote_lost: bigendian::read8(s, 27),
+        stop: m.stop,
+        start: m.start,
+        heartbeat_lost: m.heartbeat_lost,
+        vote_lost: m.vote_lost,
         heartbeat_missed: heartbeats,
         vote_missed: votes,
     }

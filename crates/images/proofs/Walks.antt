@@ -23,10 +23,10 @@ use Rattle.rules.proofs.Rows.{get-tabulate, length-tabulate}
 use Rattle.roles.specs.declared.Roles.{Roles}
 use Rattle.roles.specs.declared.States.{States}
 use Rattle.roles.specs.Decided.{heldBy}
-use Rattle.roles.specs.States.{statesOf, stateAt, rowOf}
+use Rattle.roles.specs.States.{rolesOf, statesOf, stateAt, rowOf}
 use Rattle.row.specs.declared.Gathered.{Gathered}
 use Rattle.row.specs.Row.{nodesOf, inPlace}
-use Rattle.row.specs.Gathered.{rolesOf, withNode, nothingOf, pushOf, gathered, placedNode}
+use Rattle.row.specs.Gathered.{withNode, nothingOf, pushOf, gathered, placedNode}
 use Rattle.row.proofs.Meaning.{push-in}
 use Rattle.images.specs.Images.{nodeOr, nodeIn, withImage, imagesOf}
 use Rattle.images.proofs.Images.{length-images}

@@ -9,7 +9,6 @@ ghost use Rattle.table.specs.Records.{cycleLength, faultsAt};
 ghost use Rattle.table.specs.Table.{cyclesIn};
 ghost use Rattle.roles.specs.States.{statesOf, stateAt, rowOf};
 ghost use Rattle.turns.specs.After.{rowAfter};
-use roles::Marks;
 use roles::Roles;
 use roles::States;
 
@@ -31,12 +30,7 @@ fn plain_cycle(
     ensures { λ _. ⌜ (now (unheard .exit) ≡ replicate 64 0) × (now (missed .exit) ≡ replicate 64 0) ⌝ }
 {
     faults::cycle_missed(s, unheard, missed);
-    let m = Marks {
-        stop: bigendian::read8(s, 3),
-        start: bigendian::read8(s, 11),
-        heartbeat_lost: bigendian::read8(s, 19),
-        vote_lost: bigendian::read8(s, 27),
-    };
+    let m = faults::marks_at(s);
     let after = cluster::advance(n, w, numbers, sets, bases, m, unheard, missed);
     if s[35] != 0 {
         *unheard = [0u64; 64];

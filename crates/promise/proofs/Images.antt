@@ -23,7 +23,7 @@ use Rattle.gm.proofs.gm_run.Met as gm-run-met
 use Rattle.gm.proofs.gm_run_frames.Statement as gm-run-frames-says
 use Rattle.gm.proofs.gm_run_frames.Met as gm-run-frames-met
 use Rattle.promise.specs.Images.{Done, none, cycle, run, run-frames, OverImages}
-use Rattle.promise.proofs.Counts.{counted}
+use Rattle.calls.proofs.Counts.{counted}
 
 -- the compiled entries meet the contracts that their callers read
 pub cycle-code : {M : Type 1} → gm-cycle-says.statement M

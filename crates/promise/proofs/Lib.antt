@@ -1,3 +1,2 @@
-mod Counts
 pub mod Images
 pub mod Rows

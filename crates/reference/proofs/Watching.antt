@@ -24,9 +24,9 @@ use Rattle.rules.proofs.Rows.{get-tabulate}
 use Rattle.rules.proofs.Counting.{quorum-node}
 use Rattle.roles.specs.declared.Roles.{Roles}
 use Rattle.roles.specs.declared.States.{States}
-use Rattle.roles.specs.States.{groupAt, stateAt, rowOf}
+use Rattle.roles.specs.States.{rolesOf, groupAt, stateAt, rowOf}
 use Rattle.roles.specs.Decided.{rolesAfter}
-use Rattle.roles.proofs.Whole.{rolesOf, member-role, members-high, joining-high, sends-member, sends-join}
+use Rattle.roles.proofs.Whole.{member-role, members-high, joining-high, sends-member, sends-join}
 use Rattle.watched.specs.declared.Watch.{Watch}
 use Rattle.watched.specs.Watched.{referenceOf, clusterOf, missesAt, haltedIn, enteredIn}
 

@@ -6,8 +6,8 @@ ghost use Rattle.rules.specs.Reference.{beginning, keeps as theKeeps, step as t
 ghost use Rattle.roles.specs.declared.States.{States as TheStates};
 ghost use Rattle.roles.specs.States.{statesOf, faultsOf, rowOf};
 ghost use Rattle.watched.specs.Watched.{clusterOf, haltedIn, enteredIn};
-use roles::Marks;
 use roles::Roles;
+use rules::Marks;
 use state::Group;
 use watched::Watch;
 

@@ -14,16 +14,15 @@ use Rattle.rules.specs.declared.Faults.{Faults}
 use Rattle.rules.specs.Reference.{Cluster, beginning, keeps, step}
 use Rattle.table.specs.Records.{countAt, foundingAt, startRefusal, cycleLength, cycleRefusal, faultsAt}
 use Rattle.table.proofs.Laws.{accepted, begins}
-use Rattle.roles.specs.declared.Marks.{Marks}
 use Rattle.roles.specs.declared.Roles.{Roles}
-use Rattle.roles.specs.States.{statesOf, faultsOf, rowOf}
+use Rattle.roles.specs.States.{statesOf, rowOf}
 use Rattle.watched.specs.declared.Watch.{Watch}
 use Rattle.watched.specs.Watched.{referenceOf, clusterOf, haltedIn, enteredIn}
 use Rattle.report.specs.declared.Session.{Session}
 use Rattle.report.specs.declared.Piece.{Piece}
 use Rattle.printed.specs.Printed.{headerLine, fields, line, refusedLine, ofNodes, printed}
 use Rattle.report.specs.Seen.{Sees}
-use Rattle.report.specs.Pieces.{marksAt, Groups, nodesOf, standing, following, remaining, Sound, Begun, Gives}
+use Rattle.report.specs.Pieces.{Groups, nodesOf, standing, following, remaining, Sound, Begun, Gives}
 use Rattle.report.proofs.Windows.{seen-shorter, seen-end, seen-length, seen-faults, seen-refusal, seen-count, seen-founding, seen-start}
 use Rattle.report.proofs.Following.{following-end, following-refused, following-next, printed-refused, printed-goes}
 
@@ -33,11 +32,6 @@ lastAt z end = record { session = z; taken = 0; at = end; over = true }
 
 abbrev goingAt : Session → ℕ → ℕ → Piece
 goingAt z taken end = record { session = z; taken = taken; at = end; over = false }
-
--- the faults of a record that is read in parts
-pub faults-read : (left : List ℕ) (m : Marks) (unheard missed : List ℕ) → m ≡ marksAt left → unheard ≡ faultsAt left .«heartbeat_missed» → missed ≡ faultsAt left .«vote_missed»
-    → faultsOf m unheard missed ≡ faultsAt left
-faults-read left m unheard missed em eu ev = λ i. faultsOf (em i) (eu i) (ev i)
 
 module _ (z : Session) (g : Groups) (left : List ℕ) (sound : Sound z) where
   -- at the end of the file

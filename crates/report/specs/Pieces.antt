@@ -7,9 +7,7 @@ use Prim.Native.Nat.{ℕ, _≤_}
 use lib.ListN.{length, drop}
 use Rattle.text.specs.Text.{Appended}
 use Rattle.rules.specs.Reference.{Cluster, beginning}
-use Rattle.table.specs.Records.{faultsAt}
 use Rattle.table.specs.Table.{cyclesIn}
-use Rattle.roles.specs.declared.Marks.{Marks}
 use Rattle.roles.specs.declared.States.{States}
 use Rattle.roles.specs.States.{statesOf}
 use Rattle.watched.specs.Watched.{clusterOf}
@@ -17,12 +15,6 @@ use Rattle.report.specs.declared.Session.{Session}
 use Rattle.report.specs.declared.Piece.{Piece}
 use Rattle.printed.specs.Printed.{ofNodes, reported}
 use Rattle.report.specs.Seen.{Sees}
-
--- the four masks of a cycle's record
-abbrev pub marksAt : List ℕ → Marks
-marksAt s =
-    let f = faultsAt s in
-    record { stop = f .stop; start = f .start; «heartbeat_lost» = f .«heartbeat_lost»; «vote_lost» = f .«vote_lost» }
 
 -- what is still to be printed of n nodes before cycle k, of whose table `rest` is left
 unfoldable pub following : ℕ → ℕ → Cluster → List ℕ → List ℕ

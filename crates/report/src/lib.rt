@@ -4,8 +4,7 @@ ghost use Prim.Native.Nat.{_+_, _≤_};
 ghost use lib.ListN.{length};
 ghost use Rattle.table.specs.Records.{cycleRefusal};
 ghost use Rattle.printed.specs.Printed.{printed};
-ghost use Rattle.report.specs.Pieces.{marksAt, held, remaining, Sound, Begun, Gives};
-use roles::Marks;
+ghost use Rattle.report.specs.Pieces.{held, remaining, Sound, Begun, Gives};
 use roles::Roles;
 use watched::Watch;
 
@@ -96,19 +95,6 @@ pub fn open(
     }
 }
 
-// The four masks of a cycle's record.
-fn marks_at(left: &[u8]) -> Marks
-    requires { ⌜ 36 ≤ length (now left) ⌝ }
-    ensures { λ r. ⌜ r ≡ marksAt (now (left .entry)) ⌝ }
-{
-    Marks {
-        stop: bigendian::read8(left, 3),
-        start: bigendian::read8(left, 11),
-        heartbeat_lost: bigendian::read8(left, 19),
-        vote_lost: bigendian::read8(left, 27),
-    }
-}
-
 // One cycle, from a record that is not refused.
 fn run_cycle(
     z: Session,
@@ -131,7 +117,7 @@ fn run_cycle(
     let mut unheard = [0u64; 64];
     let mut missed = [0u64; 64];
     faults::cycle_missed(left, &mut unheard, &mut missed);
-    let marks = marks_at(left);
+    let marks = faults::marks_at(left);
     let turn = reference::step(
         nodes,
         roles,

@@ -22,12 +22,8 @@ use Rattle.rules.specs.Ballots.{voteAt, ballotsOf}
 use Rattle.rules.proofs.Rows.{get-tabulate, get-tabulate-out, tabulate-ext}
 use Rattle.roles.specs.declared.Roles.{Roles}
 use Rattle.roles.specs.declared.States.{States}
-use Rattle.roles.specs.States.{groupAt, stateAt, rowOf}
+use Rattle.roles.specs.States.{rolesOf, groupAt, stateAt, rowOf}
 use Rattle.roles.specs.Decided.{rolesAfter, viewAt, outAt, decidedAt}
-
--- the masks of the states
-abbrev pub rolesOf : States → Roles
-rolesOf s = record { members = s .members; joining = s .joining; «no_quorum» = s .«no_quorum»; outvoted = s .outvoted }
 
 -- a state by its role and its group
 abbrev byRole : Bool → Bool → Bool → Bool → Group → State

@@ -11,7 +11,7 @@ use Rattle.state.specs.declared.State.{State}
 use Rattle.state.specs.declared.State.the-variants.{Out, Joining, Member}
 use Rattle.rules.specs.declared.Faults.{Faults}
 use Rattle.rules.specs.Faults.{Row, tabulate}
-use Rattle.roles.specs.declared.Marks.{Marks}
+use Rattle.rules.specs.declared.Marks.{Marks}
 use Rattle.roles.specs.declared.Roles.{Roles}
 use Rattle.roles.specs.declared.States.{States}
 
@@ -38,6 +38,10 @@ faultsOf m heartbeats votes =
       «heartbeat_missed» = heartbeats;
       «vote_missed» = votes;
     }
+
+-- the masks of the states
+abbrev pub rolesOf : States → Roles
+rolesOf s = record { members = s .members; joining = s .joining; «no_quorum» = s .«no_quorum»; outvoted = s .outvoted }
 
 abbrev pub groupAt : States → ℕ → Group
 groupAt s q = record { number = getD (s .numbers) q 0; set = getD (s .sets) q 0; base = getD (s .bases) q 0 }

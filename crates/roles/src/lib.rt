@@ -130,11 +130,3 @@ pub fn with_state(w: Roles, q: usize, d: State) -> Roles
         outvoted: sets::include(w.outvoted, q, is_outvoted(d)),
     }
 }
-
-// What befalls a cycle apart from what each node misses: the nodes that stop and start, and those whose frames are lost in sending.
-pub struct Marks {
-    pub stop: u64,
-    pub start: u64,
-    pub heartbeat_lost: u64,
-    pub vote_lost: u64,
-}

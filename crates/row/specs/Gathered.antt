@@ -7,15 +7,11 @@ use lib.Dec.{ltb}
 use lib.ListN.{set, replicate}
 use Rattle.state.specs.declared.State.{State}
 use Rattle.state.specs.declared.Node.{Node}
-use Rattle.roles.specs.declared.Roles.{Roles}
 use Rattle.roles.specs.declared.States.{States}
 use Rattle.roles.specs.Decided.{heldBy, withState}
-use Rattle.roles.specs.States.{stateAt}
+use Rattle.roles.specs.States.{rolesOf, stateAt}
 use Rattle.row.specs.declared.Gathered.{Gathered}
 use Rattle.row.specs.Row.{inPlace}
-
-abbrev pub rolesOf : States → Roles
-rolesOf s = record { members = s .members; joining = s .joining; «no_quorum» = s .«no_quorum»; outvoted = s .outvoted }
 
 -- the states with that of node q put in
 unfoldable pub withNode : States → ℕ → State → States

@@ -17,3 +17,11 @@ pub struct Faults {
     pub heartbeat_missed: [u64; 64],
     pub vote_missed: [u64; 64],
 }
+
+// What befalls a cycle apart from what each node misses: the nodes that stop and start, and those whose frames are lost in sending.
+pub struct Marks {
+    pub stop: u64,
+    pub start: u64,
+    pub heartbeat_lost: u64,
+    pub vote_lost: u64,
+}

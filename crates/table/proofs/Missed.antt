@@ -13,8 +13,8 @@ use borrow.Author.Tests.{eq-eqb, ne-eqb, eqb-true, eqb-false}
 use Rattle.sets.proofs.Booleans.{bool}
 use Rattle.rules.specs.Faults.{tabulate}
 use Rattle.rules.proofs.Rows.{get-tabulate, length-tabulate}
-use Rattle.bigendian.specs.BigEndian.{numberAt}
-use Rattle.table.specs.Records.{entriesAt, placeAt, missedAt, missedOf, faultsAt}
+use Rattle.rules.specs.declared.Marks.{Marks}
+use Rattle.table.specs.Records.{entriesAt, placeAt, missedAt, missedOf, faultsAt, marksAt}
 
 -- storing x at j in a row, or nothing
 row-set : (f g : ℕ → ℕ) (j x : ℕ) → j < 64 → g j ≡ x → ((q : ℕ) → q < 64 → (q ≡ j → ⊥) → g q ≡ f q) → tabulate 64 g ≡ set (tabulate 64 f) j x
@@ -115,8 +115,19 @@ missed-end s i h v l m kh kv =
     (kh ∙ ap (λ (x : ℕ). tabulate 64 (λ q. missedOf s x q)) same, kv ∙ ap (λ (x : ℕ). tabulate 64 (λ q. missedOf s x (128 + q))) same)
 
 -- and with the four masks it is that record
-pub faults-are : (s : List ℕ) (a b c d : ℕ) (h v : List ℕ) → a ≡ numberAt s 3 8 → b ≡ numberAt s 11 8 → c ≡ numberAt s 19 8 → d ≡ numberAt s 27 8
-    → h ≡ faultsAt s .«heartbeat_missed» → v ≡ faultsAt s .«vote_missed»
-    → record { stop = a; start = b; «heartbeat_lost» = c; «vote_lost» = d; «heartbeat_missed» = h; «vote_missed» = v } ≡ faultsAt s
-unfolding faultsAt
-faults-are s a b c d h v ka kb kc kd kh kv = rw (ka, kb, kc, kd, kh, kv)
+pub faults-are : (s : List ℕ) (m : Marks) (h v : List ℕ) → m ≡ marksAt s → h ≡ faultsAt s .«heartbeat_missed» → v ≡ faultsAt s .«vote_missed»
+    → record { stop = m .stop; start = m .start; «heartbeat_lost» = m .«heartbeat_lost»; «vote_lost» = m .«vote_lost»; «heartbeat_missed» = h; «vote_missed» = v } ≡ faultsAt s
+faults-are s m h v km kh kv =
+    λ i. record {
+      stop = km i .stop;
+      start = km i .start;
+      «heartbeat_lost» = km i .«heartbeat_lost»;
+      «vote_lost» = km i .«vote_lost»;
+      «heartbeat_missed» = kh i;
+      «vote_missed» = kv i;
+    }
+
+-- without entries nobody misses anything
+pub none-missed : (s : List ℕ) → entriesAt s ≡ 0 → (faultsAt s .«heartbeat_missed» ≡ replicate 64 0) × (faultsAt s .«vote_missed» ≡ replicate 64 0)
+unfolding faultsAt missedOf tabulate
+none-missed s z = (ap (λ (i : ℕ). tabulate 64 (λ q. missedOf s i q)) z, ap (λ (i : ℕ). tabulate 64 (λ q. missedOf s i (128 + q))) z)

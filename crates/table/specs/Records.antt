@@ -9,6 +9,7 @@ use Rattle.sets.specs.Sets.{has, below, every}
 use Rattle.bigendian.specs.BigEndian.{numberAt}
 use Rattle.refusal.specs.Refusal.{when, first}
 use Rattle.rules.specs.declared.Faults.{Faults}
+use Rattle.rules.specs.declared.Marks.{Marks}
 use Rattle.rules.specs.Faults.{tabulate}
 
 -- "Every record begins with the two bytes hex 47 4D. Then the kind byte."
@@ -112,3 +113,9 @@ faultsAt s =
       «heartbeat_missed» = tabulate 64 (λ q. missedOf s (entriesAt s) q);
       «vote_missed» = tabulate 64 (λ q. missedOf s (entriesAt s) (128 + q));
     }
+
+-- the four masks of a cycle's record
+abbrev pub marksAt : List ℕ → Marks
+marksAt s =
+    let f = faultsAt s in
+    record { stop = f .stop; start = f .start; «heartbeat_lost» = f .«heartbeat_lost»; «vote_lost» = f .«vote_lost» }

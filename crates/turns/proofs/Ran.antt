@@ -7,19 +7,18 @@ use native.Mathlib.Omega.{arith}
 use lib.Dec.{eqb}
 use lib.ListN.{length, replicate}
 use borrow.Author.Tests.{eqb-true, eqb-false}
-use Rattle.bigendian.specs.BigEndian.{numberAt}
 use Rattle.state.specs.State.{formedState}
 use Rattle.rules.specs.declared.Faults.{Faults}
 use Rattle.rules.specs.OneCycle.{Config, stopped}
-use Rattle.rules.specs.Faults.{Row, at, tabulate, cycle}
+use Rattle.rules.specs.Faults.{Row, at, cycle}
 use Rattle.rules.specs.Reference.{Cluster, step, after}
 use Rattle.rules.proofs.Rows.{get-tabulate}
-use Rattle.table.specs.Records.{entriesAt, cycleLength, cycleRefusal, missedOf, faultsAt}
+use Rattle.table.specs.Records.{cycleLength, cycleRefusal, faultsAt}
 use Rattle.table.specs.Table.{Cycles}
 use Rattle.table.proofs.Laws.{accepted}
 use Rattle.table.proofs.Cursor.{left, from, from-end, from-refused, from-there, from-next}
 use Rattle.roles.specs.declared.States.{States}
-use Rattle.roles.specs.States.{faultsOf, stateAt, rowOf}
+use Rattle.roles.specs.States.{stateAt, rowOf}
 use Rattle.formed.proofs.Formed.{FormedRow, cycle-formed}
 use Rattle.turns.specs.After.{rowAfter}
 
@@ -50,22 +49,6 @@ row-formed n s w q l = ap (formedState q n) (at-row n s q l) ∙ w q l
 
 pub states-formed : (n : ℕ) (s : States) → FormedRow n (rowOf n s) → (q : ℕ) → q < n → formedState q n (stateAt s q) ≡ true
 states-formed n s w q l = ap (formedState q n) (sym (at-row n s q l)) ∙ w q l
-
--- ---- the record of a cycle, read in parts
-
-pub cycle-read : (n : ℕ) (s : List ℕ) (stop start heartbeats votes : ℕ) (unheard missed : List ℕ) (before after : Row)
-    → stop ≡ numberAt s 3 8 → start ≡ numberAt s 11 8 → heartbeats ≡ numberAt s 19 8 → votes ≡ numberAt s 27 8
-    → unheard ≡ faultsAt s .«heartbeat_missed» → missed ≡ faultsAt s .«vote_missed»
-    → after ≡ cycle (sized n) (faultsOf (record { stop = stop; start = start; «heartbeat_lost» = heartbeats; «vote_lost» = votes }) unheard missed) before
-    → after ≡ cycle (sized n) (faultsAt s) before
-unfolding faultsAt
-cycle-read n s stop start heartbeats votes unheard missed before after ks kt kh kv ku km e =
-    e ∙ (λ i. cycle (sized n) (faultsOf (record { stop = ks i; start = kt i; «heartbeat_lost» = kh i; «vote_lost» = kv i }) (ku i) (km i)) before)
-
--- without entries nobody misses anything
-pub none-missed : (s : List ℕ) → entriesAt s ≡ 0 → (faultsAt s .«heartbeat_missed» ≡ replicate 64 0) × (faultsAt s .«vote_missed» ≡ replicate 64 0)
-unfolding faultsAt missedOf tabulate
-none-missed s z = (ap (λ (i : ℕ). tabulate 64 (λ q. missedOf s i q)) z, ap (λ (i : ℕ). tabulate 64 (λ q. missedOf s i (128 + q))) z)
 
 -- ---- the loop
 

@@ -2,7 +2,8 @@ use mathlib.Core.Path.{refl}
 use lib.ListN.{getD}
 use borrow.Author.Needs.{needs}
 use Rattle.sets.specs.Sets.{_∖_}
-use Rattle.roles.proofs.Whole.{run-cycle, rolesOf}
+use Rattle.roles.specs.States.{rolesOf}
+use Rattle.roles.proofs.Whole.{run-cycle}
 use Rattle.bus.proofs.Formed.{apart, votes-formed}
 use Rattle.bus.proofs.cycle.Statement.{statement}
 use Rattle.bus.proofs.cycle.Tie as tie

@@ -1,28 +1,20 @@
 -- The record is read in parts. What is missed is cleared, or there is nothing. Assumes nothing.
-use mathlib.Core.Path.{_≡_, refl, _∙_}
+use mathlib.Core.Path.{_≡_, refl, ap, _∙_}
 use native.Mathlib.Omega.{arith}
 use denote.Ref.{now}
+use Rattle.rules.specs.declared.Faults.{Faults}
 use Rattle.rules.specs.Faults.{Row, cycle}
 use Rattle.table.specs.Records.{faultsAt}
 use Rattle.roles.specs.States.{statesOf, rowOf}
-use Rattle.turns.proofs.Ran.{cycle-read, none-missed}
+use Rattle.table.proofs.Missed.{faults-are, none-missed}
 use Rattle.plain_runs.proofs.plain_cycle.Statement.{statement}
 use Rattle.plain_runs.proofs.plain_cycle.Tie as tie
 
 cycle-missed-requires : tie.Need-cycle-missed-requires
 cycle-missed-requires c κs = let s = c .before .before .before in ((s .pre .0 .1, s .pre .0 .2), s .pre .1)
 
-read8-requires : tie.Need-read8-requires
-read8-requires c κs = omega arith
-
-read8-requires-2 : tie.Need-read8-requires-2
-read8-requires-2 c κs = omega arith
-
-read8-requires-3 : tie.Need-read8-requires-3
-read8-requires-3 c κs = omega arith
-
-read8-requires-4 : tie.Need-read8-requires-4
-read8-requires-4 c κs = omega arith
+marks-at-requires : tie.Need-marks-at-requires
+marks-at-requires c κs = omega arith
 
 advance-requires : tie.Need-advance-requires
 advance-requires c κs = omega arith
@@ -31,11 +23,11 @@ shared-slice-read-if1 : tie.Need-shared-slice-read-if1
 shared-slice-read-if1 c = omega arith
 
 -- what was read before the cycle
-abbrev masks : tie.After-advance → tie.After-read84
+abbrev masks : tie.After-advance → tie.After-marks-at
 masks a = a .before .before .before .before .before .before
 
 abbrev entries : tie.After-advance → tie.After-cycle-missed
-entries a = masks a .before .before .before .before
+entries a = masks a .before
 
 abbrev asked : tie.After-advance → tie.Start
 asked a = entries a .before .before .before .before
@@ -48,11 +40,9 @@ after a = let g = a .advance .last .1 .1 in rowOf (asked a .args .n) (statesOf (
 
 cycled : (a : tie.After-advance) → after a ≡ cycle (record { nodes = asked a .args .n }) (faultsAt (now (asked a .args .s))) (before a)
 cycled a =
-    let m = masks a in
+    let m = masks a .marks-at in
     let e = entries a .cycle-missed .ensures in
-    cycle-read (asked a .args .n) (now (asked a .args .s)) _ _ _ _ _ _ (before a) (after a)
-    (m .before .before .before .read8 .ensures) (m .before .before .read82 .ensures) (m .before .read83 .ensures) (m .read84 .ensures) (e .0) (e .1)
-    (a .advance .ensures)
+    a .advance .ensures ∙ ap (λ (f : Faults). cycle (record { nodes = asked a .args .n }) f (before a)) (faults-are _ (m .result) _ _ (m .ensures) (e .0) (e .1))
 
 returns : tie.Need-returns
 returns c = (cycled (c .before .before .before .before), (refl, refl))
@@ -69,10 +59,7 @@ plain-cycle-spec =
     tie.close
     (tie.spec
     cycle-missed-requires
-    read8-requires
-    read8-requires-2
-    read8-requires-3
-    read8-requires-4
+    marks-at-requires
     advance-requires
     shared-slice-read-if1
     returns

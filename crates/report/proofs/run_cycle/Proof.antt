@@ -2,7 +2,8 @@
 use mathlib.Core.Path.{refl}
 use denote.Ref.{now}
 use Rattle.table.proofs.Laws.{accepted}
-use Rattle.report.proofs.Giving.{faults-read, gives-cycle}
+use Rattle.table.proofs.Missed.{faults-are}
+use Rattle.report.proofs.Giving.{gives-cycle}
 use native.Mathlib.Omega.{arith}
 use Rattle.report.proofs.run_cycle.Statement.{statement}
 use Rattle.report.proofs.run_cycle.Tie as tie
@@ -44,7 +45,7 @@ returns c =
     let k = f .before .before .before .before .before .before in
     let s = k .before in
     gives-cycle (s .args .z) _ (now (s .args .left)) (s .pre .0) (s .pre .1 .0) (k .shared-slice-known .given 35 .fits) (c .cycle-length .result)
-    (c .cycle-length .ensures) _ (faults-read (now (s .args .left)) (m .marks-at .result) _ _ (m .marks-at .ensures) (f .cycle-missed .ensures .0) (f .cycle-missed .ensures .1))
+    (c .cycle-length .ensures) _ (faults-are (now (s .args .left)) (m .marks-at .result) _ _ (m .marks-at .ensures) (f .cycle-missed .ensures .0) (f .cycle-missed .ensures .1))
     (t .step .result .roles) _ (t .step .result .watch) (t .step .result .kept)
     (t .step .result .halted) (t .step .result .entered) (t .step .ensures .0) (t .step .ensures .1 .0) (t .step .ensures .1 .1 .0) (t .step .ensures .1 .1 .1)
     (now (s .args .out)) (s .args .at) (l .put-line .last .0) (l .put-line .result) (l .put-line .ensures)

@@ -7,8 +7,8 @@ use borrow.Author.Tests.{lt-ltb, le-ltb}
 use Rattle.state.specs.declared.Node.{Node}
 use Rattle.roles.specs.declared.Roles.{Roles}
 use Rattle.roles.specs.declared.States.{States}
-use Rattle.roles.specs.States.{statesOf}
-use Rattle.row.specs.Gathered.{rolesOf, placedNode, nodeOf}
+use Rattle.roles.specs.States.{rolesOf, statesOf}
+use Rattle.row.specs.Gathered.{placedNode, nodeOf}
 use Rattle.row.proofs.node_at.Statement.{statement}
 use Rattle.row.proofs.node_at.Tie as tie
 

@@ -5,8 +5,8 @@ use borrow.Author.Needs.{needs}
 use Rattle.state.specs.declared.State.{State}
 use Rattle.roles.specs.declared.Roles.{Roles}
 use Rattle.roles.specs.declared.States.{States}
-use Rattle.roles.specs.States.{statesOf}
-use Rattle.row.specs.Gathered.{rolesOf, withNode}
+use Rattle.roles.specs.States.{rolesOf, statesOf}
+use Rattle.row.specs.Gathered.{withNode}
 use Rattle.row.proofs.with_node.Statement.{statement}
 use Rattle.row.proofs.with_node.Tie as tie
 

@@ -1,8 +1,8 @@
--- `report::marks_at` meets its contract. Assumes nothing.
+-- `faults::marks_at` meets its contract. Assumes nothing.
 use native.Mathlib.Omega.{arith}
 use Rattle.table.specs.Records.{faultsAt}
-use Rattle.report.proofs.marks_at.Statement.{statement}
-use Rattle.report.proofs.marks_at.Tie as tie
+use Rattle.faults.proofs.marks_at.Statement.{statement}
+use Rattle.faults.proofs.marks_at.Tie as tie
 
 read8-requires : tie.Need-read8-requires
 read8-requires c κs = omega arith
