@@ -14,8 +14,6 @@ const RECORD: usize = 2331;
 
 const ROOM: usize = 128;
 
-const HEADER: usize = 39;
-
 // The bytes from at to end of the input buffer are read and not yet used; after them the input has ended, or could not be read.
 pub struct Window {
     pub at: usize,
@@ -139,7 +137,7 @@ fn begin(
     Run {
         session,
         window,
-        used: used_after(window, piece.over, HEADER, piece.at),
+        used: used_after(window, piece.over, lines::header_length(), piece.at),
         over: piece.over,
         lost: false,
     }

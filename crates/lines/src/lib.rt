@@ -1,4 +1,5 @@
 // The lines that the program prints, each appended to a buffer.
+ghost use mathlib.Core.Path.{_≡_};
 ghost use Prim.Native.Nat.{_+_, _≤_};
 ghost use lib.ListN.{length};
 ghost use Rattle.text.specs.Text.{Appended};
@@ -72,6 +73,13 @@ pub fn put_refusal(out: &mut [u8], at: usize, refusal: u32) -> usize
     let word = text::put(out, at, b"refused ");
     let number = text::put_decimal(out, word, refusal as u64);
     text::put_byte(out, number, b'\n')
+}
+
+// Where the header line ends in a print.
+pub fn header_length() -> usize
+    ensures { λ r. ⌜ r ≡ length headerLine ⌝ }
+{
+    39
 }
 
 pub fn put_header(out: &mut [u8], at: usize) -> usize

@@ -3,6 +3,7 @@ use mathlib.Core.Path.{sym}
 use native.Mathlib.Omega.{arith}
 use lib.Seq.{length-take-le}
 use lib.ListN.{length-take}
+use Rattle.printed.proofs.Lengths.{header-length}
 use Rattle.report.proofs.Pieces.{ends-within}
 use Rattle.grouprun.proofs.begin.Statement.{statement}
 use Rattle.grouprun.proofs.begin.Tie as tie
@@ -19,6 +20,9 @@ slice-aggregate-open c = let r = c .before .before .before in sym (length-take-l
 open-requires : tie.Need-open-requires
 open-requires c κs = omega arith
 
+header-length-requires : tie.Need-header-length-requires
+header-length-requires c κs = tt
+
 used-after-requires : tie.Need-used-after-requires
 used-after-requires c κs = tt
 
@@ -30,13 +34,14 @@ same-length-2 c = omega arith
 
 returns : tie.Need-returns
 returns c =
-    let o = c .before .before .before .before in
+    let h = c .before in
+    let o = h .before .before .before .before in
     let r = o .before .before .before .before .before .before .before .before in
     let g = o .«open» .ensures in
     let w = r .fill .ensures .0 in
     record {
       shows = record { ordered = omega (arith, g .within, length-take (r .fill .result .end) (r .fill .last .0)); within = w .within; apart = w .apart };
-      room = omega (arith, c .used-after .ensures .1, ends-within g (omega arith));
+      room = omega (arith, c .used-after .ensures .1, h .header-length .ensures, header-length, ends-within g (omega arith));
       sound = g .sound;
     }
 
@@ -48,6 +53,7 @@ begin-spec =
     slice-reshare-prefix-open
     slice-aggregate-open
     open-requires
+    header-length-requires
     used-after-requires
     same-length
     same-length-2
