@@ -3,7 +3,7 @@
 ghost use mathlib.Core.Path.{_≡_};
 ghost use Rattle.state.specs.Image.{decoded};
 ghost use Rattle.lent.specs.Refusals.{imageStatus};
-ghost use Rattle.entry_states.specs.States.{stopLeft, startLeft};
+ghost use Rattle.entry_stop_start.specs.StopStart.{stopLeft, startLeft};
 ghost use Rattle.entry_begin.specs.Begin.{beginStatus, beginLeft};
 ghost use Rattle.entry_heartbeats.specs.Heartbeats.{writeHeartbeatStatus, writeHeartbeatLeft, sendHeartbeatStatus, sendHeartbeatLeft, sendHeartbeatSent};
 ghost use Rattle.entry_hearing.specs.Hearing.{readHeartbeatStatus, readHeartbeatJoin, receiveHeartbeatStatus, receiveHeartbeatHeard};
@@ -29,7 +29,7 @@ pub extern "C" fn gm_stop(state: &mut [u8]) -> u32
     ensures { λ r. ⌜ r ≡ imageStatus (now (state .entry)) ⌝ }
     ensures { λ _. ⌜ now (state .exit) ≡ stopLeft (now (state .entry)) ⌝ }
 {
-    entry_states::stop(state)
+    entry_stop_start::stop(state)
 }
 
 // Rule 1, start.
@@ -38,7 +38,7 @@ pub extern "C" fn gm_start(state: &mut [u8]) -> u32
     ensures { λ r. ⌜ r ≡ imageStatus (now (state .entry)) ⌝ }
     ensures { λ _. ⌜ now (state .exit) ≡ startLeft (now (state .entry)) ⌝ }
 {
-    entry_states::start(state)
+    entry_stop_start::start(state)
 }
 
 // A heartbeat from numbers, into 10 bytes.

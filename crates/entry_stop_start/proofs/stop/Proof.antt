@@ -1,7 +1,7 @@
-use Rattle.entry_states.specs.States.{stopLeft}
+use Rattle.entry_stop_start.specs.StopStart.{stopLeft}
 use borrow.Author.Needs.{needs}
-use Rattle.entry_states.proofs.stop.Statement.{statement}
-use Rattle.entry_states.proofs.stop.Tie as tie
+use Rattle.entry_stop_start.proofs.stop.Statement.{statement}
+use Rattle.entry_stop_start.proofs.stop.Tie as tie
 
 rule-one-requires : tie.Need-rule-one-requires
 rule-one-requires c κs = search needs

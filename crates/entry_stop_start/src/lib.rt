@@ -2,7 +2,7 @@
 ghost use mathlib.Core.Path.{_≡_};
 ghost use Rattle.state.specs.Image.{decoded};
 ghost use Rattle.lent.specs.Refusals.{imageStatus};
-ghost use Rattle.entry_states.specs.States.{stoppedAndStarted, ruleOneOf, stopLeft, startLeft};
+ghost use Rattle.entry_stop_start.specs.StopStart.{stoppedAndStarted, ruleOneOf, stopLeft, startLeft};
 use state::Decoded;
 use state::Node;
 

@@ -1,7 +1,7 @@
-use Rattle.entry_states.specs.States.{startLeft}
+use Rattle.entry_stop_start.specs.StopStart.{startLeft}
 use borrow.Author.Needs.{needs}
-use Rattle.entry_states.proofs.start.Statement.{statement}
-use Rattle.entry_states.proofs.start.Tie as tie
+use Rattle.entry_stop_start.proofs.start.Statement.{statement}
+use Rattle.entry_stop_start.proofs.start.Tie as tie
 
 rule-one-requires : tie.Need-rule-one-requires
 rule-one-requires c κs = search needs

@@ -1,8 +1,8 @@
 use mathlib.Core.Path.{ap}
 use Rattle.state.specs.declared.State.{State}
 use borrow.Author.Needs.{needs}
-use Rattle.entry_states.proofs.stopped_and_started.Statement.{statement}
-use Rattle.entry_states.proofs.stopped_and_started.Tie as tie
+use Rattle.entry_stop_start.proofs.stopped_and_started.Statement.{statement}
+use Rattle.entry_stop_start.proofs.stopped_and_started.Tie as tie
 
 stop-and-start-requires : tie.Need-stop-and-start-requires
 stop-and-start-requires c κs = search needs

@@ -1,10 +1,10 @@
 use mathlib.Core.Path.{refl, sym, _∙_}
 use native.Mathlib.Omega.{arith}
 use Rattle.lent.proofs.Images.{good-length}
-use Rattle.entry_states.proofs.Answers.{ruled, kept}
+use Rattle.entry_stop_start.proofs.Answers.{ruled, kept}
 use borrow.Author.Needs.{needs}
-use Rattle.entry_states.proofs.rule_one.Statement.{statement}
-use Rattle.entry_states.proofs.rule_one.Tie as tie
+use Rattle.entry_stop_start.proofs.rule_one.Statement.{statement}
+use Rattle.entry_stop_start.proofs.rule_one.Tie as tie
 
 decode-requires : tie.Need-decode-requires
 decode-requires c κs = search needs

@@ -12,7 +12,7 @@ use Rattle.state.proofs.RoundTrip.{image-length}
 use Rattle.lent.specs.Refusals.{imageStatus}
 use Rattle.lent.proofs.Copies.{whole}
 use Rattle.lent.proofs.Images.{good-length}
-use Rattle.entry_states.specs.States.{stoppedAndStarted, ruleOneOf}
+use Rattle.entry_stop_start.specs.StopStart.{stoppedAndStarted, ruleOneOf}
 
 module _ (stop· start· : Bool) (s : List ℕ) where
   pub ruled : (image left : List ℕ) (n m : Node) → decoded s ≡ Good n → m ≡ stoppedAndStarted stop· start· n → image ≡ imageOf m
