@@ -13,12 +13,12 @@ pub fn call(task: Task, n: u32, row: &mut [Node], bytes: &[u8]) -> u32
         task,
         n,
         row.len(),
-        row::gather(runs::count_byte(n), &*row),
+        node_row::gather(runs::count_byte(n), &*row),
         bytes,
     );
     let status = a.status;
     if status == 0 {
-        row::scatter(a.nodes, a.states, &mut *row);
+        node_row::scatter(a.nodes, a.states, &mut *row);
     }
     status
 }

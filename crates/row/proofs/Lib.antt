@@ -1,3 +1,2 @@
-mod Lists
-pub mod Walk
+pub mod Lists
 pub mod Meaning

@@ -57,7 +57,7 @@ use Rattle.calls.proofs.Task as K
 use Rattle.calls.proofs.Task.Laws as K′
 use Rattle.row.proofs.Gathered as G
 use Rattle.row.proofs.Gathered.Laws as G′
-use Rattle.row.proofs.Walk.{IsGathered, IsStates, gathered-makes, states-makes, gathered-typed}
+use Rattle.node_row.proofs.Walk.{IsGathered, IsStates, gathered-makes, states-makes, gathered-typed}
 use Rattle.runs.proofs.Outcome as O
 use Rattle.runs.proofs.Outcome.Laws as O′
 use Rattle.press.proofs.Lending.{KeptShared, KeptAgain, lends-shared, shared-back, lends-again, again-back}
@@ -66,18 +66,18 @@ use Rattle.runs.proofs.count_byte as count-byte
 use Rattle.runs.proofs.count_byte.Symbol as count-byte-def
 use Rattle.runs.proofs.count_byte.Symbol.{name as #count-byte}
 use Rattle.runs.proofs.count_byte.Met as count-byte-thm
-use Rattle.row.proofs.gather as gather
-use Rattle.row.proofs.gather.Symbol as gather-def
-use Rattle.row.proofs.gather.Symbol.{name as #gather}
-use Rattle.row.proofs.gather.Met as gather-thm
+use Rattle.node_row.proofs.gather as gather
+use Rattle.node_row.proofs.gather.Symbol as gather-def
+use Rattle.node_row.proofs.gather.Symbol.{name as #gather}
+use Rattle.node_row.proofs.gather.Met as gather-thm
 use Rattle.runs.proofs.answer as answer
 use Rattle.runs.proofs.answer.Symbol as answer-def
 use Rattle.runs.proofs.answer.Symbol.{name as #answer}
 use Rattle.runs.proofs.answer.Met as answer-thm
-use Rattle.row.proofs.scatter as scatter
-use Rattle.row.proofs.scatter.Symbol as scatter-def
-use Rattle.row.proofs.scatter.Symbol.{name as #scatter}
-use Rattle.row.proofs.scatter.Met as scatter-thm
+use Rattle.node_row.proofs.scatter as scatter
+use Rattle.node_row.proofs.scatter.Symbol as scatter-def
+use Rattle.node_row.proofs.scatter.Symbol.{name as #scatter}
+use Rattle.node_row.proofs.scatter.Met as scatter-thm
 use Rattle.press.proofs.call.Key.{name as #call}
 use Rattle.press.proofs.call as call
 use Rattle.press.proofs.call.Statement as stated
@@ -473,6 +473,6 @@ call-spec 𝓤 H 𝓜 𝓖 𝓡 =
     (tables 𝓤 H 𝓜 𝓡 code.env .C) (tables 𝓤 H 𝓜 𝓡 code.env .Λ) #call code.function (code.unfolded 𝓤 H 𝓜 𝓡)
     (call-meets 𝓤 H (𝓖 .A) (givenOf 𝓤 H 𝓜 𝓖) (𝓜 .mem) (𝓡 .run) (tablesOf 𝓤 H 𝓜 (tables 𝓤 H 𝓜 𝓡 code.env))
     (cited 𝓤 H (CountByte 𝓤 H (𝓖 .A) (𝓜 .mem) (𝓡 .run)) 𝓜 𝓡 code.env #count-byte count-byte-def.routine code.calls-runs·count-byte (count-byte-thm.met 𝓤 H 𝓜 𝓖 𝓡))
-    (cited 𝓤 H (Gather 𝓤 H (𝓖 .A) (𝓜 .mem) (𝓡 .run)) 𝓜 𝓡 code.env #gather gather-def.routine code.calls-row·gather (gather-thm.met 𝓤 H 𝓜 𝓖 𝓡))
+    (cited 𝓤 H (Gather 𝓤 H (𝓖 .A) (𝓜 .mem) (𝓡 .run)) 𝓜 𝓡 code.env #gather gather-def.routine code.calls-node-row·gather (gather-thm.met 𝓤 H 𝓜 𝓖 𝓡))
     (cited 𝓤 H (Answer 𝓤 H (𝓖 .A) (𝓜 .mem) (𝓡 .run)) 𝓜 𝓡 code.env #answer answer-def.routine code.calls-runs·answer (answer-thm.met 𝓤 H 𝓜 𝓖 𝓡))
-    (cited 𝓤 H (Scatter 𝓤 H (𝓖 .A) (𝓜 .mem) (𝓡 .run)) 𝓜 𝓡 code.env #scatter scatter-def.routine code.calls-row·scatter (scatter-thm.met 𝓤 H 𝓜 𝓖 𝓡)))
+    (cited 𝓤 H (Scatter 𝓤 H (𝓖 .A) (𝓜 .mem) (𝓡 .run)) 𝓜 𝓡 code.env #scatter scatter-def.routine code.calls-node-row·scatter (scatter-thm.met 𝓤 H 𝓜 𝓖 𝓡)))

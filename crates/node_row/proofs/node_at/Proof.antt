@@ -8,9 +8,9 @@ use Rattle.state.specs.declared.Node.{Node}
 use Rattle.roles.specs.declared.Roles.{Roles}
 use Rattle.roles.specs.declared.States.{States}
 use Rattle.roles.specs.States.{rolesOf, statesOf}
 use Rattle.row.specs.Gathered.{placedNode, nodeOf}
-use Rattle.row.proofs.node_at.Statement.{statement}
-use Rattle.row.proofs.node_at.Tie as tie
+use Rattle.node_row.proofs.node_at.Statement.{statement}
+use Rattle.node_row.proofs.node_at.Tie as tie
 
 in-range : (n : ℕ) (s : States) (q : ℕ) (x r : Node) (w : Roles) → q < 64 → w ≡ rolesOf s
     → r ≡ placedNode n (statesOf w (s .numbers) (s .sets) (s .bases)) q → r ≡ nodeOf n s q x

@@ -6,11 +6,11 @@ use borrow.Author.Needs.{needs}
 use borrow.Author.Tests.{lt-ltb, le-ltb}
 use Rattle.state.specs.declared.Node.{Node}
 use Rattle.roles.specs.declared.States.{States}
 use Rattle.row.specs.declared.Gathered.{Gathered}
 use Rattle.row.specs.Row.{inPlace}
 use Rattle.row.specs.Gathered.{withNode, pushOf}
-use Rattle.row.proofs.push.Statement.{statement}
-use Rattle.row.proofs.push.Tie as tie
+use Rattle.node_row.proofs.push.Statement.{statement}
+use Rattle.node_row.proofs.push.Tie as tie
 
 abbrev found : States → Bool → Gathered
 found s b = record { states = s; good = b }

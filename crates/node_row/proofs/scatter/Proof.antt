@@ -49,22 +49,22 @@ use denote.Triple.Walked.{says, Stays, stay-none, stay-slice, walkOf, goes-none,
 use denote.Exit.{yes}
 use Rattle.state.specs.declared.Node.{Node}
 use Rattle.roles.specs.declared.States.{States}
 use Rattle.row.specs.Gathered.{nodeOf, each}
 use Rattle.state.proofs.Node as N
 use Rattle.state.proofs.Node.Laws as N′
 use Rattle.roles.proofs.States as S
 use Rattle.roles.proofs.States.Laws as S′
 use Rattle.row.proofs.Lists.{upto, upto-none, upto-length, upto-next, upto-set, upto-all, each-length}
-use Rattle.row.proofs.Walk.{blank, mach, IsNode, IsStates, node-makes, states-makes, node-typed, states-typed, far, after}
-use Rattle.row.proofs.node_at as node-at
-use Rattle.row.proofs.node_at.Symbol as node-at-def
-use Rattle.row.proofs.node_at.Symbol.{name as #node-at}
-use Rattle.row.proofs.node_at.Met as node-at-thm
-use Rattle.row.proofs.scatter.Key.{name as #scatter}
-use Rattle.row.proofs.scatter as scatter
-use Rattle.row.proofs.scatter.Statement as stated
-use Rattle.row.proofs.scatter.Code as code
-use Rattle.row.proofs.scatter.Code.Mir as pieces
+use Rattle.node_row.proofs.Walk.{blank, mach, IsNode, IsStates, node-makes, states-makes, node-typed, states-typed, far, after}
+use Rattle.node_row.proofs.node_at as node-at
+use Rattle.node_row.proofs.node_at.Symbol as node-at-def
+use Rattle.node_row.proofs.node_at.Symbol.{name as #node-at}
+use Rattle.node_row.proofs.node_at.Met as node-at-thm
+use Rattle.node_row.proofs.scatter.Key.{name as #scatter}
+use Rattle.node_row.proofs.scatter as scatter
+use Rattle.node_row.proofs.scatter.Statement as stated
+use Rattle.node_row.proofs.scatter.Code as code
+use Rattle.node_row.proofs.scatter.Code.Mir as pieces
 
 abbrev stayed : Stays (scatter.ended .signature .params) (scatter.ended .kept)
 stayed = (stay-none (λ _. u8) yes, (stay-none (λ _. S.the-row) yes, (stay-slice (0 ∷ []) tt (plain (λ _. N.the-row)), tt)))
@@ -288,4 +288,4 @@ scatter-spec 𝓤 H 𝓜 𝓖 𝓡 =
     entered 𝓤 H (tripleOf 𝓤 H (𝓖 .A) scatter.signature (scatter.spec 𝓤 H (𝓖 .A) (𝓜 .mem) (𝓡 .run)))
     (tables 𝓤 H 𝓜 𝓡 code.env .C) (tables 𝓤 H 𝓜 𝓡 code.env .Λ) #scatter code.function (code.unfolded 𝓤 H 𝓜 𝓡)
     (scatter-meets 𝓤 H (𝓖 .A) (givenOf 𝓤 H 𝓜 𝓖) (𝓜 .mem) (𝓡 .run) (tablesOf 𝓤 H 𝓜 (tables 𝓤 H 𝓜 𝓡 code.env))
-    (cited 𝓤 H (Entry 𝓤 H (𝓖 .A) (𝓜 .mem) (𝓡 .run)) 𝓜 𝓡 code.env #node-at node-at-def.routine code.calls-row·node-at (node-at-thm.met 𝓤 H 𝓜 𝓖 𝓡)))
+    (cited 𝓤 H (Entry 𝓤 H (𝓖 .A) (𝓜 .mem) (𝓡 .run)) 𝓜 𝓡 code.env #node-at node-at-def.routine code.calls-node-row·node-at (node-at-thm.met 𝓤 H 𝓜 𝓖 𝓡)))

@@ -48,27 +48,27 @@ use denote.Triple.Clauses.{ensured, lasts}
 use denote.Triple.Walked.{says, Stays, stay-none, stay-none-slice, walkOf, goes-none, goes-none-slice, Walks, ends-at, walked, walk-meets}
 use denote.Exit.{yes}
 use Rattle.state.specs.declared.Node.{Node}
 use Rattle.row.specs.declared.Gathered.{Gathered}
 use Rattle.row.specs.Gathered.{nothingOf, pushOf, gathered}
 use Rattle.state.proofs.Node as N
 use Rattle.state.proofs.Node.Laws as N′
 use Rattle.row.proofs.Gathered as G
 use Rattle.row.proofs.Gathered.Laws as G′
 use Rattle.row.proofs.Lists.{gathered-to, gathered-none, gathered-next, gathered-all}
-use Rattle.row.proofs.Walk.{blank, mach, IsNode, IsGathered, node-makes, gathered-makes, node-typed, gathered-typed, far, after}
-use Rattle.row.proofs.nothing as nothing′
-use Rattle.row.proofs.nothing.Symbol as nothing-def
-use Rattle.row.proofs.nothing.Symbol.{name as #nothing}
-use Rattle.row.proofs.nothing.Met as nothing-thm
-use Rattle.row.proofs.push as push
-use Rattle.row.proofs.push.Symbol as push-def
-use Rattle.row.proofs.push.Symbol.{name as #push}
-use Rattle.row.proofs.push.Met as push-thm
-use Rattle.row.proofs.gather.Key.{name as #gather}
-use Rattle.row.proofs.gather as gather
-use Rattle.row.proofs.gather.Statement as stated
-use Rattle.row.proofs.gather.Code as code
-use Rattle.row.proofs.gather.Code.Mir as pieces
+use Rattle.node_row.proofs.Walk.{blank, mach, IsNode, IsGathered, node-makes, gathered-makes, node-typed, gathered-typed, far, after}
+use Rattle.node_row.proofs.nothing as nothing′
+use Rattle.node_row.proofs.nothing.Symbol as nothing-def
+use Rattle.node_row.proofs.nothing.Symbol.{name as #nothing}
+use Rattle.node_row.proofs.nothing.Met as nothing-thm
+use Rattle.node_row.proofs.push as push
+use Rattle.node_row.proofs.push.Symbol as push-def
+use Rattle.node_row.proofs.push.Symbol.{name as #push}
+use Rattle.node_row.proofs.push.Met as push-thm
+use Rattle.node_row.proofs.gather.Key.{name as #gather}
+use Rattle.node_row.proofs.gather as gather
+use Rattle.node_row.proofs.gather.Statement as stated
+use Rattle.node_row.proofs.gather.Code as code
+use Rattle.node_row.proofs.gather.Code.Mir as pieces
 
 abbrev stayed : Stays (gather.ended .signature .params) (gather.ended .kept)
 stayed = (stay-none (λ _. u8) yes, (stay-none-slice (0 ∷ []) tt (plain (λ _. N.the-row)) yes, tt))
@@ -292,5 +292,5 @@ gather-spec 𝓤 H 𝓜 𝓖 𝓡 =
     entered 𝓤 H (tripleOf 𝓤 H (𝓖 .A) gather.signature (gather.spec 𝓤 H (𝓖 .A) (𝓜 .mem) (𝓡 .run)))
     (tables 𝓤 H 𝓜 𝓡 code.env .C) (tables 𝓤 H 𝓜 𝓡 code.env .Λ) #gather code.function (code.unfolded 𝓤 H 𝓜 𝓡)
     (gather-meets 𝓤 H (𝓖 .A) (givenOf 𝓤 H 𝓜 𝓖) (𝓜 .mem) (𝓡 .run) (tablesOf 𝓤 H 𝓜 (tables 𝓤 H 𝓜 𝓡 code.env))
-    (cited 𝓤 H (Nothing 𝓤 H (𝓖 .A) (𝓜 .mem) (𝓡 .run)) 𝓜 𝓡 code.env #nothing nothing-def.routine code.calls-row·nothing (nothing-thm.met 𝓤 H 𝓜 𝓖 𝓡))
-    (cited 𝓤 H (Push 𝓤 H (𝓖 .A) (𝓜 .mem) (𝓡 .run)) 𝓜 𝓡 code.env #push push-def.routine code.calls-row·push (push-thm.met 𝓤 H 𝓜 𝓖 𝓡)))
+    (cited 𝓤 H (Nothing 𝓤 H (𝓖 .A) (𝓜 .mem) (𝓡 .run)) 𝓜 𝓡 code.env #nothing nothing-def.routine code.calls-node-row·nothing (nothing-thm.met 𝓤 H 𝓜 𝓖 𝓡))
+    (cited 𝓤 H (Push 𝓤 H (𝓖 .A) (𝓜 .mem) (𝓡 .run)) 𝓜 𝓡 code.env #push push-def.routine code.calls-node-row·push (push-thm.met 𝓤 H 𝓜 𝓖 𝓡)))

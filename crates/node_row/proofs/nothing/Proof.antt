@@ -1,8 +1,8 @@
 -- The record is what `nothing` makes. Assumes nothing.
 use mathlib.Core.Path.{refl}
 use Rattle.row.specs.Gathered.{nothingOf}
-use Rattle.row.proofs.nothing.Statement.{statement}
-use Rattle.row.proofs.nothing.Tie as tie
+use Rattle.node_row.proofs.nothing.Statement.{statement}
+use Rattle.node_row.proofs.nothing.Tie as tie
 
 returns : tie.Need-returns
 unfolding nothingOf

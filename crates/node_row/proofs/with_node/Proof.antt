@@ -6,9 +6,9 @@ use Rattle.state.specs.declared.State.{State}
 use Rattle.roles.specs.declared.Roles.{Roles}
 use Rattle.roles.specs.declared.States.{States}
 use Rattle.roles.specs.States.{rolesOf, statesOf}
 use Rattle.row.specs.Gathered.{withNode}
-use Rattle.row.proofs.with_node.Statement.{statement}
-use Rattle.row.proofs.with_node.Tie as tie
+use Rattle.node_row.proofs.with_node.Statement.{statement}
+use Rattle.node_row.proofs.with_node.Tie as tie
 
 is-with-node : (s r : States) (q : ℕ) (d : State) (v : Roles) → v ≡ rolesOf s → r ≡ withNode (statesOf v (s .numbers) (s .sets) (s .bases)) q d
     → r ≡ withNode s q d
