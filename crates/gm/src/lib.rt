@@ -5,7 +5,8 @@ ghost use Rattle.state.specs.Image.{decoded};
 ghost use Rattle.lent.specs.Refusals.{imageStatus};
 ghost use Rattle.entry_stop_start.specs.StopStart.{stopLeft, startLeft};
 ghost use Rattle.entry_begin.specs.Begin.{beginStatus, beginLeft};
-ghost use Rattle.entry_heartbeats.specs.Heartbeats.{writeHeartbeatStatus, writeHeartbeatLeft, sendHeartbeatStatus, sendHeartbeatLeft, sendHeartbeatSent};
+ghost use Rattle.entry_heartbeats.specs.Heartbeats.{writeHeartbeatStatus, writeHeartbeatLeft};
+ghost use Rattle.entry_beating.specs.Beating.{sendHeartbeatStatus, sendHeartbeatLeft, sendHeartbeatSent};
 ghost use Rattle.entry_hearing.specs.Hearing.{readHeartbeatStatus, readHeartbeatJoin, receiveHeartbeatStatus, receiveHeartbeatHeard};
 ghost use Rattle.entry_votes.specs.Votes.{voteOf, writeVoteStatus, writeVoteLeft};
 ghost use Rattle.entry_voting.specs.Voting.{viewFrom, sendVoteStatus, sendVoteLeft, sendVoteSent};
@@ -74,7 +75,7 @@ pub extern "C" fn gm_send_heartbeat(
     ensures { λ _. ⌜ now (frame .exit) ≡ sendHeartbeatLeft (now (state .entry)) sync startup cycle channel (now (frame .entry)) ⌝ }
     ensures { λ _. ⌜ now (sent .exit) ≡ sendHeartbeatSent (now (state .entry)) sync startup cycle channel (now (frame .entry)) (now (sent .entry)) ⌝ }
 {
-    entry_heartbeats::send(state, sync, startup, cycle, channel, frame, sent)
+    entry_beating::send(state, sync, startup, cycle, channel, frame, sent)
 }
 
 // One copy of a node's heartbeat: its join bit.

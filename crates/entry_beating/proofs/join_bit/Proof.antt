@@ -4,10 +4,10 @@ use native.Mathlib.Omega.{arith}
 use Rattle.state.specs.declared.State.{State}
 use Rattle.state.specs.declared.State.the-variants.{Out, Joining, Member}
 use Rattle.rules.specs.OneCycle.{sendsJoin}
-use Rattle.entry_heartbeats.specs.Heartbeats.{joinBit}
+use Rattle.entry_beating.specs.Beating.{joinBit}
 use borrow.Author.Needs.{needs}
-use Rattle.entry_heartbeats.proofs.join_bit.Statement.{statement}
-use Rattle.entry_heartbeats.proofs.join_bit.Tie as tie
+use Rattle.entry_beating.proofs.join_bit.Statement.{statement}
+use Rattle.entry_beating.proofs.join_bit.Tie as tie
 
 -- the bit of a joining node
 bit : (s : State) → cond (sendsJoin s) 1 0 ≡ joinBit s

@@ -1,7 +1,7 @@
-use Rattle.entry_heartbeats.proofs.Beats.{send-frame, send-nothing}
+use Rattle.entry_beating.proofs.Sent.{send-frame, send-nothing}
 use borrow.Author.Needs.{needs}
-use Rattle.entry_heartbeats.proofs.send_of.Statement.{statement}
-use Rattle.entry_heartbeats.proofs.send_of.Tie as tie
+use Rattle.entry_beating.proofs.send_of.Statement.{statement}
+use Rattle.entry_beating.proofs.send_of.Tie as tie
 
 sends-byte-requires : tie.Need-sends-byte-requires
 sends-byte-requires c κs = search needs

@@ -1,10 +1,10 @@
 use mathlib.Core.Path.{_≡_, refl, sym, _∙_}
 use mathlib.Core.Bool.{false}
-use Rattle.entry_heartbeats.proofs.Beats.{numbersWrong, send-refused, send-numbers, send-length, send-bounds, send-bad, send-good}
+use Rattle.entry_beating.proofs.Sent.{numbersWrong, send-refused, send-numbers, send-length, send-bounds, send-bad, send-good}
 use denote.Ref.{now}
 use borrow.Author.Needs.{needs}
-use Rattle.entry_heartbeats.proofs.send.Statement.{statement}
-use Rattle.entry_heartbeats.proofs.send.Tie as tie
+use Rattle.entry_beating.proofs.send.Statement.{statement}
+use Rattle.entry_beating.proofs.send.Tie as tie
 
 -- no number was refused
 right : (c : tie.Else1) → let a = c .before .before .before .before .args in numbersWrong (a .sync) (a .startup) (a .cycle) (a .channel) ≡ false

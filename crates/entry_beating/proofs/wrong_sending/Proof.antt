@@ -1,8 +1,8 @@
 use mathlib.Core.Path.{sym, _∙_}
 use borrow.Author.Tests.{lt-ltb, le-ltb}
 use borrow.Author.Needs.{needs}
-use Rattle.entry_heartbeats.proofs.wrong_sending.Statement.{statement}
-use Rattle.entry_heartbeats.proofs.wrong_sending.Tie as tie
+use Rattle.entry_beating.proofs.wrong_sending.Statement.{statement}
+use Rattle.entry_beating.proofs.wrong_sending.Tie as tie
 
 wrong-indicators-requires : tie.Need-wrong-indicators-requires
 wrong-indicators-requires c κs = search needs
