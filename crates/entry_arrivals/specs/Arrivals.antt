@@ -1,10 +1,9 @@
 -- What the entries for votes that arrive answer and leave.
 -- Assumes nothing.
 use mathlib.Core.Bool.{_||_, cond}
-use mathlib.Core.List.{List, [], _∷_, _++_}
-use Prim.Native.Nat.{ℕ, _+_, _*_}
+use mathlib.Core.List.{List, [], _∷_}
+use Prim.Native.Nat.{ℕ}
 use lib.Dec.{eqb}
-use lib.ListN.{take, drop}
 use Rattle.sets.specs.Sets.{single, _∪_, _∖_}
 use Rattle.frames.specs.declared.VoteRead.{VoteRead}
 use Rattle.frames.specs.declared.VoteRead.the-variants as read
@@ -13,6 +12,7 @@ use Rattle.frames.specs.declared.VoteReceived.the-variants as received
 use Rattle.frames.specs.Written.{votePayload}
 use Rattle.frames.specs.Read.{faultCode, readVote, receiveVote}
 use Rattle.refusal.specs.Refusal.{when, first, unless}
+use Rattle.slots.specs.Slots.{withSlot}
 use Rattle.lent.specs.Refusals.{wrongCount, wrongNode, wrongCycle, wrongChannel, wrongLength}
 
 -- ---- reading one copy, to the 28 bytes of its payload
@@ -42,10 +42,6 @@ readVoteLeft n q cycle channel f out = unless (readVoteNumbers n q cycle channel
 unfoldable pub receiveVoteStatus : ℕ → ℕ → ℕ → List ℕ → ℕ
 receiveVoteStatus n q cycle votes =
     first (when (wrongCount n) 1 ∷ when (wrongNode n q || wrongCycle cycle) 2 ∷ when (wrongLength 1792 votes) 3 ∷ [])
-
--- slot q of the buffer replaced
-abbrev pub withSlot : ℕ → List ℕ → List ℕ → List ℕ
-withSlot q payload votes = take (28 * q) votes ++ (payload ++ drop (28 * q + 28) votes)
 
 abbrev pub slotOr : VoteReceived → ℕ → List ℕ → List ℕ
 slotOr received.Missed q votes = votes

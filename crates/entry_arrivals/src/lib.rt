@@ -1,32 +1,20 @@
 // Votes that arrive: read from one channel, or received on both into the vote buffer.
 ghost use mathlib.Core.Path.{_≡_};
-ghost use mathlib.Core.List.{_++_};
-ghost use Prim.Native.Nat.{_+_, _≤_};
-ghost use lib.ListN.{length, take, drop};
 ghost use Rattle.frames.specs.Written.{votePayload};
 ghost use Rattle.entry_arrivals.specs.Arrivals.{readVoteStatus, readVoteLeft, receiveVoteStatus, receiveVoteLeft, receiveVoteArrived};
 use frames::VoteRead;
 use frames::VoteReceived;
 use rules::Vote;
 
-// The bytes of x in f, from place `at` on.
-fn put(f: &mut [u8], at: usize, x: &[u8])
-    requires { ⌜ at + length (now x) ≤ length (now f) ⌝ }
-    ensures { λ _. ⌜ now (f .exit) ≡ take at (now (f .entry)) ++ (now (x .entry) ++ drop (at + length (now (x .entry))) (now (f .entry))) ⌝ }
-{
-    let end = at + x.len();
-    bytes::copy(x, &mut f[at..end]);
-}
-
 fn payload(v: Vote) -> [u8; 28]
     ensures { λ r. ⌜ r ≡ votePayload v ⌝ }
 {
     let group = v.group;
     let mut r = [0u8; 28];
-    put(&mut r, 0, &bigendian::write4(group.number));
-    put(&mut r, 4, &bigendian::write8(group.set));
-    put(&mut r, 12, &bigendian::write8(group.base));
-    put(&mut r, 20, &bigendian::write8(v.view));
+    parts::put(&mut r, 0, &bigendian::write4(group.number));
+    parts::put(&mut r, 4, &bigendian::write8(group.set));
+    parts::put(&mut r, 12, &bigendian::write8(group.base));
+    parts::put(&mut r, 20, &bigendian::write8(v.view));
     r
 }
 
@@ -76,7 +64,7 @@ pub fn receive(
             0
         }
         VoteReceived::Whole(v) => {
-            put(votes, 28 * node as usize, &payload(v));
+            parts::put(votes, 28 * node as usize, &payload(v));
             *arrived = sets::union(sender, *arrived);
             0
         }

@@ -26,7 +26,7 @@ use Rattle.rules.specs.Faults.{Row, at, tabulate, founding, voteReaches, heard,
 use Rattle.rules.specs.Reference.{Cluster, step, after}
 use Rattle.rules.proofs.Rows.{get-tabulate, length-tabulate}
 use Rattle.rules.proofs.Votes.{has-view, in-voters, base-is, new-inside, new-in}
-use Rattle.rules.proofs.States.{none-some, some-inj, which, idle, rule1-back, own-group, vote-group, vote-decides, member-votes, idle-decides}
+use Rattle.rules.proofs.States.{none-some, some-inj, which, idle, own-group, vote-group, vote-decides, member-votes, idle-decides}
 
 abbrev pub FormedRow : ℕ → Row → Type 0
 FormedRow n row = (q : ℕ) → q < n → formedState q n (at row q) ≡ true
@@ -239,19 +239,27 @@ module _ (n : ℕ) (c : Faults) (r : Row) (w : (q : ℕ) → q < n → SoundStat
       ap (formedState q n) (get-tabulate n q (λ x. decides (sized n) c r x (at r x) (got x)) stopped l)
       ∙ formed-state n q (decides (sized n) c r q (at r q) (got q)) (decides-sound q l)
 
-rule-one-sound : (n : ℕ) (c : Faults) (row : Row) → FormedRow n row → (q : ℕ) → q < n → SoundState n q (at (ruleOne n c row) q)
+-- rule 1 keeps what is well formed
+pub stop-start-formed : (stop start : Bool) (n q : ℕ) (s : State) → formedState q n s ≡ true → formedState q n (stopAndStart stop start s) ≡ true
+unfolding stopAndStart
+stop-start-formed true true n q s e = refl
+stop-start-formed true false n q s e = refl
+stop-start-formed false true n q (Out r) e = refl
+stop-start-formed false true n q Joining e = refl
+stop-start-formed false true n q (Member g) e = e
+stop-start-formed false false n q s e = e
+
+pub rule-one-formed : (n : ℕ) (c : Faults) (row : Row) → FormedRow n row → FormedRow n (ruleOne n c row)
 unfolding ruleOne
-rule-one-sound n c row w q l g e =
-    let stop = has q (c .stop) in
-    let start = has q (c .start) in
-    let held = sym (ap groupOf (get-tabulate n q (λ x. stopAndStart (has x (c .stop)) (has x (c .start)) (at row x)) stopped l)) ∙ e in
-    sound-state n q (at row q) (w q l) g (sym (ap groupOf (rule1-back stop start (at row q) g held)) ∙ held)
+rule-one-formed n c row w q l =
+    ap (formedState q n) (get-tabulate n q (λ x. stopAndStart (has x (c .stop)) (has x (c .start)) (at row x)) stopped l)
+    ∙ stop-start-formed (has q (c .stop)) (has q (c .start)) n q (at row q) (w q l)
 
 -- ---- every row of a history
 
 pub cycle-formed : (n : ℕ) (c : Faults) (row : Row) → FormedRow n row → FormedRow n (cycle (record { nodes = n }) c row)
 unfolding cycle
-cycle-formed n c row w = decisions-formed n c (ruleOne n c row) (rule-one-sound n c row w)
+cycle-formed n c row w = decisions-formed n c (ruleOne n c row) (λ q l. sound-state n q (at (ruleOne n c row) q) (rule-one-formed n c row w q l))
 
 pub founding-formed : (n G F : ℕ) → G < 2 ^ 32 → below n F ≡ F → FormedRow n (founding n G F)
 unfolding founding

@@ -3,11 +3,12 @@ use mathlib.Core.Path.{_≡_, refl, sym, ap, ap₂, _∙_}
 use mathlib.Core.Logic.{_⊎_, inl, inr, _≢_}
 use mathlib.Core.Bool.{Bool, true, false, not, _&&_, _||_, false≢true}
 use mathlib.Core.Option.{Option, none, some}
-use Prim.Native.Nat.{ℕ, _<_}
+use Prim.Native.Nat.{ℕ, _≤_, _<_}
+use native.Mathlib.Omega.{arith}
 use lib.Dec.{eqb, ltb}
 use Rattle.sets.specs.Sets.{has, single, _∪_, _∩_, _∖_, below}
 use Rattle.sets.specs.Quorum.{quorum}
-use Rattle.sets.proofs.Booleans.{bool, and-l, and-r, and-i, or-e, or-l, or-r, not-e, not-i, eqb-self, eqb-true}
+use Rattle.sets.proofs.Booleans.{bool, and-l, and-r, and-i, or-e, or-l, or-r, not-e, not-i, eqb-self, eqb-true, ltb-lt, ltb-le}
 use Rattle.sets.proofs.Membership.{_⊆_, has-union, has-inter, has-diff, has-single, set-ext}
 use Rattle.sets.proofs.Nodes.{has-below, in-those, of-those, those-ext}
 use Rattle.state.specs.declared.Group.{Group}
@@ -65,6 +66,42 @@ has-view x N q M h0 h1 =
     (has-union x (single q) (M ∩ below N h0)
     ∙ ap₂ (λ (a b : Bool). a || b) (has-single x q) (has-inter x M (below N h0) ∙ ap (λ (a : Bool). has x M && a) (has-below x N h0)))
     (has-diff x (below N h1) M ∙ ap (λ (a : Bool). a && not (has x M)) (has-below x N h1))
+
+-- it holds its node
+pub view-own : (n q M h0 h1 : ℕ) → has q (viewOf n q M h0 h1) ≡ true
+view-own n q M h0 h1 = has-view q n q M h0 h1 ∙ rw (eqb-self q)
+
+-- and nothing at n or above
+pub view-below : (n q M h0 h1 : ℕ) → q < n → below n (viewOf n q M h0 h1) ≡ viewOf n q M h0 h1
+view-below n q M h0 h1 l = set-ext (λ x. has-below x n (viewOf n q M h0 h1) ∙ go x (bool (ltb x n)))
+  where
+    none-there : (e : Bool) (m a b : Bool) → e ≡ false → (e || (m && (false && a)) || ((false && b) && not m)) ≡ false
+    none-there e true a b k = rw k
+    none-there e false a b k = rw k
+
+    other : (x : ℕ) → n ≤ x → eqb x q ≡ false
+    other x k = go (bool (eqb x q))
+      where
+        go : (eqb x q ≡ true) ⊎ (eqb x q ≡ false) → eqb x q ≡ false
+        go (inl e) = absurd (let z : x ≡ q = eqb-true e in omega arith)
+        go (inr e) = e
+
+    go : (x : ℕ) → (ltb x n ≡ true) ⊎ (ltb x n ≡ false) → (ltb x n && has x (viewOf n q M h0 h1)) ≡ has x (viewOf n q M h0 h1)
+    go x (inl e) = rw e
+    go x (inr e) =
+        ap (λ (b : Bool). b && has x (viewOf n q M h0 h1)) e
+        ∙ sym (has-view x n q M h0 h1 ∙ ap (λ (b : Bool). eqb x q || (has x M && (b && has x h0)) || ((b && has x h1) && not (has x M))) e ∙ none-there (eqb x q) (has x M) (has x h0) (has x h1) (other x (ltb-le e)))
+
+-- it looks at no heard bit of its own node, and at none at n or above
+pub view-others : (n q M h0 h1 k0 k1 : ℕ) → ((x : ℕ) → x < n → eqb x q ≡ false → has x h0 ≡ has x k0) → ((x : ℕ) → x < n → eqb x q ≡ false → has x h1 ≡ has x k1)
+    → viewOf n q M h0 h1 ≡ viewOf n q M k0 k1
+view-others n q M h0 h1 k0 k1 e f = set-ext (λ x. has-view x n q M h0 h1 ∙ go x (eqb x q) (ltb x n) refl refl ∙ sym (has-view x n q M k0 k1))
+  where
+    go : (x : ℕ) (own low : Bool) → eqb x q ≡ own → ltb x n ≡ low
+        → (own || (has x M && (low && has x h0)) || ((low && has x h1) && not (has x M))) ≡ (own || (has x M && (low && has x k0)) || ((low && has x k1) && not (has x M)))
+    go x true low a b = refl
+    go x false true a b = ap₂ (λ (u v : Bool). (has x M && u) || (v && not (has x M))) (e x (ltb-lt b) a) (f x (ltb-lt b) a)
+    go x false false a b = refl
 
 -- ---- who voted for a vote
 

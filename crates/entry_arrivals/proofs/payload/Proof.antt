@@ -9,6 +9,7 @@ use Rattle.bigendian.specs.BigEndian.{bytesOf}
 use Rattle.bigendian.proofs.Laws.{length-bytes}
 use Rattle.rules.specs.declared.Vote.{Vote}
 use Rattle.frames.specs.Written.{votePayload}
+use Rattle.parts.specs.Parts.{withPart}
 use borrow.Author.Needs.{needs}
 use Rattle.entry_arrivals.proofs.payload.Statement.{statement}
 use Rattle.entry_arrivals.proofs.payload.Tie as tie
@@ -85,6 +86,7 @@ put-requires-4 : tie.Need-put-requires-4
 put-requires-4 c κs = search needs
 
 returns : tie.Need-returns
+unfolding withPart
 returns c =
     let p₄ = c .before in
     let p₃ = p₄ .before .before .before .before .before in

@@ -14,7 +14,9 @@ use Rattle.frames.specs.Written.{votePayload}
 use Rattle.frames.specs.Read.{readVote, receiveVote}
 use Rattle.refusal.specs.Refusal.{when, first}
 use Rattle.lent.specs.Refusals.{wrongCount, wrongNode, wrongCycle, wrongLength}
-use Rattle.entry_arrivals.specs.Arrivals.{withSlot, slotOr, arrivedOr, receivedVote, receiveVoteStatus, receiveVoteLeft, receiveVoteArrived}
+use Rattle.entry_arrivals.specs.Arrivals.{slotOr, arrivedOr, receivedVote, receiveVoteStatus, receiveVoteLeft, receiveVoteArrived}
+use Rattle.slots.specs.Slots.{withSlot}
+use Rattle.parts.specs.Parts.{withPart}
 use Rattle.refusal.proofs.Laws.{unless-done, unless-refused}
 use Rattle.frames.proofs.Lengths.{length-payload}
 use Rattle.entry_votes.proofs.Accepted.{slotStatus, Accepted, accepted, small}
@@ -146,6 +148,7 @@ same-length : tie.Need-same-length
 same-length c = search needs
 
 returns-3 : tie.Need-returns-3
+unfolding withPart
 returns-3 c =
     let p = c .before .before .before .before in
     let k = p .before .before .before .before .before in

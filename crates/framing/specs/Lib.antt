@@ -1,0 +1,5 @@
+pub mod Units
+pub mod Faulty
+pub mod Carried
+pub mod Recorded
+pub mod Run
