@@ -15,7 +15,7 @@ use Rattle.rules.specs.OneCycle.{Config, stopAndStart}
 use Rattle.rules.specs.Faults.{at, disturbed}
 use Rattle.rules.specs.Reference.{Cluster, beginning, keeps, step, after}
 use Rattle.rules.proofs.States.{some-inj}
-use Rattle.agreement.specs.Demand3.{allKeep, clusterAfter, Kept, Holds, Reference, Demand3}
+use Rattle.agreement.specs.Demand3.{allKeep, clusterAfter, Kept, Holds, Reference, ReferenceDefined, Demand3}
 use Rattle.agreement.proofs.Invariant.{Agreed, at-first, next, lately-is, step-agreed, step-stray, EntersOrWaits, step-joins, step-enters, step-stays}
 
 -- ---- a list of cycles and then another
@@ -32,7 +32,7 @@ keep-first C k (c ∷ cs) ds e =
     ap₂ (λ (x y : Bool). x && y) (and-l (keeps C k c) (allKeep C (step C k c) (cs ++ ds)) e)
     (keep-first C (step C k c) cs ds (and-r (keeps C k c) (allKeep C (step C k c) (cs ++ ds)) e))
 
-keep-last : (C : Config) (k : Cluster) (cs ds : List Faults) → allKeep C k (cs ++ ds) ≡ true → allKeep C (after C k cs) ds ≡ true
+pub keep-last : (C : Config) (k : Cluster) (cs ds : List Faults) → allKeep C k (cs ++ ds) ≡ true → allKeep C (after C k cs) ds ≡ true
 unfolding allKeep after
 keep-last C k [] ds e = e
 keep-last C k (c ∷ cs) ds e = keep-last C (step C k c) cs ds (and-r (keeps C k c) (allKeep C (step C k c) (cs ++ ds)) e)
@@ -49,6 +49,9 @@ through C k g (c ∷ cs) a e =
 module _ (C : Config) (G F : ℕ) where
   agreed : (past : List Faults) → Kept C G F past → (g : Group) × Agreed C (clusterAfter C G F past) g
   agreed past e = through C (beginning C G F) (foundingGroup G F) past (at-first C G F) e
+
+  pub defined : ReferenceDefined C G F
+  defined past e = let w = agreed past e in (w .0, w .1 .defined)
 
   agreement : (past : List Faults) → Kept C G F past → (q : ℕ) (g : Group) → q < C .nodes → Holds (clusterAfter C G F past) q g
       → has q (clusterAfter C G F past .lately) ≡ false → Reference (clusterAfter C G F past) g

@@ -35,6 +35,10 @@ Holds k q g = groupOf (at (k .row) q) ≡ some g
 abbrev pub Reference : Cluster → Group → Type 0
 Reference k g = k .reference ≡ some g
 
+-- the reference group is defined while cycles keep the promise: "From the first cycle that does not, the group of record is undefined for good"
+abbrev pub ReferenceDefined : Config → ℕ → ℕ → Type 0
+ReferenceDefined C G F = (past : List Faults) → Kept C G F past → (g : Group) × Reference (clusterAfter C G F past) g
+
 pub record Demand3 (C : Config) (G F : ℕ) : Type 0 where
   -- "all members after a cycle that were untouched in it have equal set and group number, those of the group of record"
   pub agreement : (past : List Faults) → Kept C G F past → (q : ℕ) (g : Group) → q < C .nodes → Holds (clusterAfter C G F past) q g

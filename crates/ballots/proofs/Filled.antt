@@ -16,7 +16,8 @@ use Rattle.rules.specs.Ballots.{voteAt, ballotsOf}
 use Rattle.frames.specs.declared.VoteReceived.{VoteReceived}
 use Rattle.frames.specs.declared.VoteReceived.the-variants.{Missed, Whole}
 use Rattle.rules.proofs.Arrays.{stored}
-use Rattle.channels.specs.Channels.{isWhole, voteIn, received, voteRead, ballotsRead}
+use Rattle.framing.specs.Units.{received}
+use Rattle.channels.specs.Channels.{isWhole, voteIn, voteRead, ballotsRead}
 
 pub record Filled (R : ℕ → VoteReceived) (p present : ℕ) (numbers sets bases views : List ℕ) : Type 0 where
   pub counted : present ≡ those p (λ j. isWhole (R j))

@@ -25,7 +25,8 @@ use Rattle.roles.specs.declared.Roles.{Roles}
 use Rattle.roles.specs.declared.States.{States}
 use Rattle.roles.specs.States.{stateAt}
 use Rattle.roles.specs.Decided.{outAt, decidedAt}
-use Rattle.channels.specs.Channels.{channelOf, voteSent, copyOf, voteRead, received, ballotsRead, decidedRead}
+use Rattle.framing.specs.Units.{received}
+use Rattle.channels.specs.Channels.{channelOf, voteSent, copyOf, voteRead, ballotsRead, decidedRead}
 use Rattle.channels.proofs.Carried.{Carries, carries}
 
 -- an absent copy

@@ -1,2 +1,4 @@
 mod Counted
 mod Formed
+mod Slots
+mod Shown

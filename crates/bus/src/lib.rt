@@ -11,7 +11,9 @@ ghost use Rattle.rules.specs.Faults.{cycle as theCycle};
 ghost use Rattle.frames.specs.Written.{formedVote};
 ghost use Rattle.roles.specs.States.{stateAt, rowOf};
 ghost use Rattle.roles.specs.Decided.{decidedAt};
-ghost use Rattle.channels.specs.Channels.{ballotsRead, decidedRead};
+ghost use Rattle.parts.specs.Parts.{withPart};
+ghost use Rattle.framing.specs.Run.{framesShown, framesLength};
+ghost use Rattle.channels.specs.Channels.{channelOf, voteSent, ballotsRead, decidedRead};
 use roles::Roles;
 use roles::States;
 use rules::Faults;
@@ -161,13 +163,18 @@ fn vote_phase(
     sets: &[u64; 64],
     bases: &[u64; 64],
     views: &[u64; 64],
+    frames: &mut [u8],
 ) -> States
     requires { ⌜ (n ≤ 64) × (count < 64) ⌝ }
+    requires { ⌜ length (now frames) ≡ framesLength ⌝ }
     requires { ⌜ ((p : ℕ) → has p (w .members) ≡ true → (p < n) × (getD (now numbers) p 0 < 2 ^ 32) × (formedVote n p (voteAt (now numbers) (now sets) (now bases) (now views) p) ≡ true)) ⌝ }
     ensures { λ r. ⌜ ((q : ℕ) → q < n → stateAt r q ≡ decidedAt (now (numbers .entry)) (now (sets .entry)) (now (bases .entry)) (now (views .entry)) n w (w .members ∖ lost ∖ getD (now (missed .entry)) q 0) q) ⌝ }
+    ensures { λ _. ⌜ now (frames .exit) ≡ withPart 6912 (channelOf n (voteSent (now (numbers .entry)) (now (sets .entry)) (now (bases .entry)) (now (views .entry)) (w .members) count 1)) (withPart 4608 (channelOf n (voteSent (now (numbers .entry)) (now (sets .entry)) (now (bases .entry)) (now (views .entry)) (w .members) count 0)) (now (frames .entry))) ⌝ }
 {
     let a = ballots::votes(n, numbers, sets, bases, views, w.members, count, 0);
     let b = ballots::votes(n, numbers, sets, bases, views, w.members, count, 1);
+    parts::put(frames, 4608, &a);
+    parts::put(frames, 6912, &b);
     let sent = sets::difference(w.members, lost);
     let after = decisions(
         n,
@@ -185,11 +192,13 @@ fn vote_phase(
     after
 }
 
-// One cycle under the faults f; `count` is its cycle count.
-pub fn cycle(n: usize, count: u32, s: States, f: Faults) -> States
+// One cycle under the faults f; `count` is its cycle count. `frames` shows its frames afterwards.
+pub fn cycle(n: usize, count: u32, s: States, f: Faults, frames: &mut [u8]) -> States
     requires { ⌜ (n ≤ 64) × (count < 64) ⌝ }
+    requires { ⌜ length (now frames) ≡ framesLength ⌝ }
     requires { ⌜ ((q : ℕ) → q < n → formedState q n (stateAt s q) ≡ true) ⌝ }
     ensures { λ r. ⌜ rowOf n r ≡ theCycle (record { nodes = n }) f (rowOf n s) ⌝ }
+    ensures { λ _. ⌜ now (frames .exit) ≡ framesShown (record { nodes = n }) count f (rowOf n s) ⌝ }
 {
     let w = roles::rule_one(
         n,
@@ -207,7 +216,7 @@ pub fn cycle(n: usize, count: u32, s: States, f: Faults) -> States
     let bases = s.bases;
     let unheard = f.heartbeat_missed;
     let missed = f.vote_missed;
-    let views = channels::heartbeat_phase(n, count, w, f.heartbeat_lost, &unheard, &sets);
+    let views = channels::heartbeat_phase(n, count, w, f.heartbeat_lost, &unheard, &sets, frames);
     let after = vote_phase(
         n,
         count,
@@ -218,6 +227,7 @@ pub fn cycle(n: usize, count: u32, s: States, f: Faults) -> States
         &sets,
         &bases,
         &views,
+        frames,
     );
     after
 }

@@ -22,7 +22,8 @@ use Rattle.frames.proofs.Lengths.{length-heartbeat}
 use Rattle.frames.proofs.RoundTrip.{heartbeat-back}
 use Rattle.roles.specs.declared.Roles.{Roles}
 use Rattle.roles.specs.Decided.{viewAt}
-use Rattle.channels.specs.Channels.{channelOf, heartbeatSent, copyOf, heartbeatRead, isAlive, isJoin, aliveRead, joinRead, viewRead}
+use Rattle.framing.specs.Units.{isAlive, isJoin}
+use Rattle.channels.specs.Channels.{channelOf, heartbeatSent, copyOf, heartbeatRead, aliveRead, joinRead, viewRead}
 use Rattle.channels.proofs.Carried.{Carries, carries}
 
 -- an absent copy

@@ -12,11 +12,11 @@ use Rattle.rules.specs.declared.Vote.{Vote}
 use Rattle.rules.specs.OneCycle.{Ballots, viewOf, memberDecides, joinerDecides}
 use Rattle.rules.specs.Ballots.{voteAt}
 use Rattle.frames.specs.declared.HeartbeatReceived.{HeartbeatReceived}
-use Rattle.frames.specs.declared.HeartbeatReceived.the-variants as beats
 use Rattle.frames.specs.declared.VoteReceived.{VoteReceived}
 use Rattle.frames.specs.declared.VoteReceived.the-variants as votes
 use Rattle.frames.specs.Written.{heartbeatFrame, voteFrame}
 use Rattle.frames.specs.Read.{readHeartbeat, readVote, receiveHeartbeat, receiveVote}
+use Rattle.framing.specs.Units.{isAlive, isJoin, received}
 use Rattle.roles.specs.declared.Roles.{Roles}
 use Rattle.roles.specs.Decided.{outAt}
 
@@ -58,16 +58,6 @@ unfoldable pub heartbeatRead : ℕ → ℕ → List ℕ → List ℕ → ℕ →
 heartbeatRead count reach a b p =
     receiveHeartbeat (readHeartbeat p count 0 (copyOf 10 reach p a)) (readHeartbeat p count 1 (copyOf 10 reach p b))
 
-abbrev pub isAlive : HeartbeatReceived → Bool
-isAlive beats.Missed = false
-isAlive beats.Alive = true
-isAlive beats.Join = false
-
-abbrev pub isJoin : HeartbeatReceived → Bool
-isJoin beats.Missed = false
-isJoin beats.Alive = false
-isJoin beats.Join = true
-
 unfoldable pub aliveRead : ℕ → ℕ → ℕ → List ℕ → List ℕ → ℕ
 aliveRead n count reach a b = those n (λ p. isAlive (heartbeatRead count reach a b p))
 
@@ -89,10 +79,6 @@ isWhole (votes.Whole v) = true
 abbrev pub voteIn : VoteReceived → Vote
 voteIn votes.Missed = record { group = record { number = 0; set = 0; base = 0 }; view = 0 }
 voteIn (votes.Whole v) = v
-
-abbrev pub received : VoteReceived → Option Vote
-received votes.Missed = none
-received (votes.Whole v) = some v
 
 unfoldable pub ballotsRead : ℕ → ℕ → ℕ → List ℕ → List ℕ → Ballots
 ballotsRead n count reach a b p = cond (ltb p n) (received (voteRead n count reach a b p)) none

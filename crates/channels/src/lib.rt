@@ -4,8 +4,11 @@ ghost use mathlib.Core.Bool.{true, false, cond};
 ghost use Prim.Native.Nat.{ℕ, _<_, _≤_};
 ghost use lib.ListN.{length, getD};
 ghost use Rattle.sets.specs.Sets.{has, _∖_};
+ghost use Rattle.framing.specs.Units.{isAlive, isJoin};
+ghost use Rattle.framing.specs.Run.{framesLength};
+ghost use Rattle.parts.specs.Parts.{withPart};
 ghost use Rattle.roles.specs.Decided.{viewAt};
-ghost use Rattle.channels.specs.Channels.{withFrame, withSent, channelOf, heartbeatSent, heartbeatRead, isAlive, isJoin, aliveRead, joinRead, viewRead};
+ghost use Rattle.channels.specs.Channels.{withFrame, withSent, channelOf, heartbeatSent, heartbeatRead, aliveRead, joinRead, viewRead};
 use frames::HeartbeatReceived;
 use roles::Roles;
 
@@ -157,13 +160,18 @@ pub fn heartbeat_phase(
     lost: u64,
     missed: &[u64; 64],
     sets: &[u64; 64],
+    frames: &mut [u8],
 ) -> [u64; 64]
     requires { ⌜ (n ≤ 64) × (count < 64) ⌝ }
+    requires { ⌜ length (now frames) ≡ framesLength ⌝ }
     requires { ⌜ ((p : ℕ) → has p (w .joining) ≡ true → has p (w .members) ≡ false) ⌝ }
     ensures { λ r. ⌜ ((q : ℕ) → q < n → getD r q 0 ≡ viewAt n (now (sets .entry)) (w .members ∖ lost) (w .joining ∖ lost) (now (missed .entry)) q) ⌝ }
+    ensures { λ _. ⌜ now (frames .exit) ≡ withPart 2304 (channelOf n (heartbeatSent w count 1)) (withPart 0 (channelOf n (heartbeatSent w count 0)) (now (frames .entry))) ⌝ }
 {
     let a = heartbeats(n, w, count, 0);
     let b = heartbeats(n, w, count, 1);
+    parts::put(frames, 0, &a);
+    parts::put(frames, 2304, &b);
     let sent = sets::difference(sets::union(w.members, w.joining), lost);
     let views = views_of(n, count, sent, missed, sets, &a, &b);
     views

@@ -6,8 +6,8 @@ ghost use lib.ListN.{length};
 ghost use Rattle.state.specs.State.{formedState};
 ghost use Rattle.table.specs.Table.{cyclesIn};
 ghost use Rattle.roles.specs.States.{stateAt, rowOf};
+ghost use Rattle.framing.specs.Run.{cycleCount, framesLength, framesAfter};
 ghost use Rattle.turns.specs.After.{rowAfter};
-ghost use Rattle.framed_runs.specs.Count.{cycleCount};
 use roles::States;
 
 // The cycle count of cycle k of a run, as its frames have it.
@@ -19,18 +19,26 @@ fn cycle_count(k: u64) -> u32
     ((k - 1) % 64) as u32
 }
 
-// A run through frames, whose cost is far above that of such copies.
-pub fn run_framed(n: usize, start: States, s: &[u8]) -> States
+// A run through frames, whose cost is far above that of such copies. `frames` shows those of the last cycle afterwards.
+pub fn run_framed(n: usize, start: States, s: &[u8], frames: &mut [u8]) -> States
     requires { ⌜ (n ≤ 64) × (cyclesIn (length (now s)) n 1 (now s) .refusal ≡ 0) ⌝ }
+    requires { ⌜ length (now frames) ≡ framesLength ⌝ }
     requires { ⌜ ((q : ℕ) → q < n → formedState q n (stateAt start q) ≡ true) ⌝ }
     ensures { λ r. ⌜ rowOf n r ≡ rowAfter (record { nodes = n }) (rowOf n start) (cyclesIn (length (now (s .entry))) n 1 (now (s .entry)) .whole) ⌝ }
+    ensures { λ _. ⌜ now (frames .exit) ≡ framesAfter (record { nodes = n }) 1 (rowOf n start) (cyclesIn (length (now (s .entry))) n 1 (now (s .entry)) .whole) (now (frames .entry)) ⌝ }
 {
     let mut states = start;
     let mut cursor: usize = 0;
     let mut k: u64 = 1;
     while cursor < s.len() {
         let rest = &s[cursor..];
-        states = bus::cycle(n, cycle_count(k), states, faults::cycle_faults(rest));
+        states = bus::cycle(
+            n,
+            cycle_count(k),
+            states,
+            faults::cycle_faults(rest),
+            frames,
+        );
         cursor += records::cycle_length(rest);
         k += 1;
     }

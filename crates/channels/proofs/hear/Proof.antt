@@ -4,7 +4,8 @@ use native.Mathlib.Omega.{arith}
 use borrow.Author.Needs.{needs}
 use Rattle.sets.specs.Sets.{those}
 use Rattle.sets.proofs.Nodes.{those-none, those-next, those-end}
-use Rattle.channels.specs.Channels.{heartbeatRead, isAlive, isJoin, aliveRead, joinRead}
+use Rattle.framing.specs.Units.{isAlive, isJoin}
+use Rattle.channels.specs.Channels.{heartbeatRead, aliveRead, joinRead}
 use Rattle.channels.proofs.hear.Statement.{statement}
 use Rattle.channels.proofs.hear.Tie as tie
 
