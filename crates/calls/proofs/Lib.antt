@@ -1,3 +1,4 @@
+pub mod Framed
 pub mod OverCalls
 pub mod Standing
 pub mod Counts

@@ -24,7 +24,9 @@ use Rattle.row.proofs.Meaning.{states-nodes, length-nodes}
 use Rattle.formed.proofs.Formed.{length-founding, length-after}
 use Rattle.calls.specs.declared.Task.{Task}
 use Rattle.calls.specs.declared.Task.the-variants.{Cycle, Run, FramedRun}
-use Rattle.calls.specs.Calls.{clusterOf, rowStatus, cycleStatus, cycleLeft, runStatus, ranTo, runLeft, callStatus, callLeft}
+use Rattle.calls.specs.Calls.{clusterOf, rowStatus, cycleStatus, cycleLeft, runStatus, ranTo, runLeft, framedStatus, framedLeft, callStatus, callLeft}
+use Rattle.calls.proofs.Counts.{framed-fits}
+use Rattle.calls.proofs.Framed.{begun-table, framed-left}
 use Rattle.calls.specs.Histories.{Call, status, left, History, tabled, accepted, historyOf, rowAfter, historyAfter, ruled, Stands, Begun, at-beginning, by-a-run, OverCalls}
 
 -- ---- a row that stands: as many entries as nodes, and the states that the rules give
@@ -80,14 +82,6 @@ cycle-stands n m nodes h s w e =
 
 -- ---- an accepted run, on any row
 
-begun-table : (lent : Bool) (entries : ℕ) (s : List ℕ) → tableOf lent entries s .cycles .refusal ≡ 0 → startRefusal lent entries s ≡ 0
-begun-table lent entries s e = go (eqb (startRefusal lent entries s) 0) refl
-  where
-    go : (b : Bool) → eqb (startRefusal lent entries s) 0 ≡ b → startRefusal lent entries s ≡ 0
-    go true f = eqb-true f
-    go false f =
-        sym (ap (λ (r : Cycles). r .refusal) (table-refused lent entries s (eqb-false (startRefusal lent entries s) 0 f))) ∙ e
-
 run-left : (nodes : List Node) (s : List ℕ) → runStatus nodes s ≡ 0 → runLeft nodes s ≡ ranTo (tableOf true (length nodes) s)
 unfolding runLeft
 run-left nodes s e = unless-done (runStatus nodes s) (ranTo (tableOf true (length nodes) s)) _ e
@@ -104,19 +98,27 @@ run-stands n nodes s l e =
       founders = subst (λ (k : ℕ). below k (foundingAt s) ≡ foundingAt s) same (b .founding);
     }
 
+-- through frames
+framed-stands : (n : ℕ) (nodes : List Node) (room : ℕ) (s : List ℕ) → length nodes ≡ n → framedStatus (length nodes) room s ≡ 0
+    → Stands n (framedLeft nodes room s) (tabled (tableOf true (length nodes) s))
+unfolding runStatus
+framed-stands n nodes room s l e =
+    subst (λ (x : List Node). Stands n x (tabled (tableOf true (length nodes) s))) (sym (framed-left nodes room s e))
+    (run-stands n nodes s l (framed-fits (length nodes) room s e .1))
+
 -- ---- a call
 
-pub refused-left : (t : Task) (m : ℕ) (nodes : List Node) (s : List ℕ) → (callStatus t m nodes s ≡ 0 → ⊥) → callLeft t m nodes s ≡ nodes
-unfolding cycleLeft runLeft
-refused-left Cycle m nodes s r = unless-refused (cycleStatus m nodes s) _ nodes r
-refused-left Run m nodes s r = unless-refused (runStatus nodes s) _ nodes r
-refused-left FramedRun m nodes s r = unless-refused (runStatus nodes s) _ nodes r
+pub refused-left : (t : Task) (m : ℕ) (nodes : List Node) (room : ℕ) (s : List ℕ) → (callStatus t m nodes room s ≡ 0 → ⊥) → callLeft t m nodes room s ≡ nodes
+unfolding cycleLeft runLeft framedLeft
+refused-left Cycle m nodes room s r = unless-refused (cycleStatus m nodes s) _ nodes r
+refused-left Run m nodes room s r = unless-refused (runStatus nodes s) _ nodes r
+refused-left FramedRun m nodes room s r = unless-refused (framedStatus (length nodes) room s) _ nodes r
 
-accepted-stands : (n : ℕ) (t : Task) (m : ℕ) (nodes : List Node) (h : History) (s : List ℕ) → Stands n nodes h → callStatus t m nodes s ≡ 0
-    → Stands n (callLeft t m nodes s) (accepted t s nodes h)
-accepted-stands n Cycle m nodes h s w e = cycle-stands n m nodes h s w e
-accepted-stands n Run m nodes h s w e = run-stands n nodes s (stands-length n nodes h w) e
-accepted-stands n FramedRun m nodes h s w e = run-stands n nodes s (stands-length n nodes h w) e
+accepted-stands : (n : ℕ) (t : Task) (m : ℕ) (nodes : List Node) (room : ℕ) (h : History) (s : List ℕ) → Stands n nodes h → callStatus t m nodes room s ≡ 0
+    → Stands n (callLeft t m nodes room s) (accepted t s nodes h)
+accepted-stands n Cycle m nodes room h s w e = cycle-stands n m nodes h s w e
+accepted-stands n Run m nodes room h s w e = run-stands n nodes s (stands-length n nodes h w) e
+accepted-stands n FramedRun m nodes room h s w e = framed-stands n nodes room s (stands-length n nodes h w) e
 
 call-stands : (n : ℕ) (c : Call) (nodes : List Node) (h : History) → Stands n nodes h → Stands n (left c nodes) (historyOf c nodes h)
 call-stands n c nodes h w = go (eqb (status c nodes) 0) refl
@@ -128,11 +130,18 @@ call-stands n c nodes h w = go (eqb (status c nodes) 0) refl
     go true e =
         let done = eqb-true e in
         subst (Stands n (left c nodes)) (sym (unless-done (status c nodes) more _ done))
-        (accepted-stands n (c .task) (c .count) nodes h (c .bytes) w done)
+        (accepted-stands n (c .task) (c .count) nodes (c .room) h (c .bytes) w done)
     go false e =
         let refused = eqb-false (status c nodes) 0 e in
         subst (Stands n (left c nodes)) (sym (unless-refused (status c nodes) more h refused))
-        (subst (λ (x : List Node). Stands n x h) (sym (refused-left (c .task) (c .count) nodes (c .bytes) refused)) w)
+        (subst (λ (x : List Node). Stands n x h) (sym (refused-left (c .task) (c .count) nodes (c .room) (c .bytes) refused)) w)
+
+-- a first call that is an accepted run
+first-run : (n : ℕ) (t : Task) (m : ℕ) (nodes : List Node) (room : ℕ) (h : History) (s : List ℕ) → length nodes ≡ n → t ≢ Cycle → callStatus t m nodes room s ≡ 0
+    → Stands n (callLeft t m nodes room s) (accepted t s nodes h)
+first-run n Cycle m nodes room h s l d e = absurd (d refl)
+first-run n Run m nodes room h s l d e = run-stands n nodes s l e
+first-run n FramedRun m nodes room h s l d e = framed-stands n nodes room s l e
 
 -- ---- a list of calls
 
@@ -142,13 +151,6 @@ unfolding rowAfter historyAfter
 stands-after n [] nodes h w = w
 stands-after n (c ∷ cs) nodes h w = stands-after n cs (left c nodes) (historyOf c nodes h) (call-stands n c nodes h w)
 
--- a first call that is an accepted run
-first-run : (n : ℕ) (t : Task) (m : ℕ) (nodes : List Node) (h : History) (s : List ℕ) → length nodes ≡ n → t ≢ Cycle → callStatus t m nodes s ≡ 0
-    → Stands n (callLeft t m nodes s) (accepted t s nodes h)
-first-run n Cycle m nodes h s l d e = absurd (d refl)
-first-run n Run m nodes h s l d e = run-stands n nodes s l e
-first-run n FramedRun m nodes h s l d e = run-stands n nodes s l e
-
 pub begun-stands : (n : ℕ) (cs : List Call) (nodes : List Node) (h : History) → Begun n nodes h cs
     → Stands n (rowAfter cs nodes) (historyAfter cs nodes h)
 unfolding rowAfter historyAfter
@@ -156,13 +158,7 @@ begun-stands n cs nodes h (at-beginning w e) = stands-after n cs nodes h w
 begun-stands n (c ∷ cs) nodes h (by-a-run l d e) =
     stands-after n cs (left c nodes) (historyOf c nodes h)
     (subst (Stands n (left c nodes)) (sym (unless-done (status c nodes) (accepted (c .task) (c .bytes) nodes h) _ e))
-    (first-run n (c .task) (c .count) nodes h (c .bytes) l d e))
+    (first-run n (c .task) (c .count) nodes (c .room) h (c .bytes) l d e))
 
 pub over-calls : (n : ℕ) → OverCalls n
-over-calls n =
-    record {
-      of-calls =
-          λ nodes h cs b.
-          record { stands = begun-stands n cs nodes h b; claims = demand3 (clusterOf n) 0 (historyAfter cs nodes h .founding) };
-      of-table = λ s. demand3 (clusterOf (tableOf false 0 s .nodes)) 0 (tableOf false 0 s .founding);
-    }
+over-calls n nodes h cs b = record { stands = begun-stands n cs nodes h b; claims = demand3 (clusterOf n) 0 (historyAfter cs nodes h .founding) }

@@ -21,7 +21,7 @@ use Rattle.row.proofs.Meaning.{in-order}
 use Rattle.formed.proofs.Formed.{founding-formed, after-formed}
 use Rattle.calls.specs.declared.Task.{Task}
 use Rattle.calls.specs.declared.Task.the-variants.{Cycle, Run, FramedRun}
-use Rattle.calls.specs.Calls.{clusterOf, rowStatus, cycleStatus, runStatus, callStatus}
+use Rattle.calls.specs.Calls.{clusterOf, rowStatus, cycleStatus, runStatus, framedEntries, framedStatus, callStatus}
 use Rattle.calls.specs.Histories.{Call, status, History, ruled, Stands}
 use Rattle.calls.proofs.OverCalls.{stands-length}
 
@@ -94,15 +94,15 @@ cycles-not-4 (suc most) n k s e =
     go false true e rest = rest e
     go false false e rest = record-not-4 n k s e
 
-run-not-4 : (nodes : List Node) (s : List ℕ) → runStatus nodes s ≡ 4 → ⊥
-unfolding runStatus tableOf
-run-not-4 nodes s e = go (eqb (startRefusal true (length nodes) s) 0) e
+table-not-4 : (entries : ℕ) (s : List ℕ) → tableOf true entries s .cycles .refusal ≡ 4 → ⊥
+unfolding tableOf
+table-not-4 entries s e = go (eqb (startRefusal true entries s) 0) e
   where
     go : (good : Bool)
-        → cond good (cyclesIn (length s) (countAt s) 1 (drop 12 s)) (record { whole = []; refusal = startRefusal true (length nodes) s }) .refusal ≡ 4
+        → cond good (cyclesIn (length s) (countAt s) 1 (drop 12 s)) (record { whole = []; refusal = startRefusal true entries s }) .refusal ≡ 4
         → ⊥
     go true e = cycles-not-4 (length s) (countAt s) 1 (drop 12 s) e
-    go false e = start-not-4 true (length nodes) s e
+    go false e = start-not-4 true entries s e
 
 -- ---- a call on a row that stands
 
@@ -134,10 +134,11 @@ cycle-not-4 n m nodes h s w e = go (eqb (rowStatus m nodes s) 0) e
     go true e = record-not-4 m 1 s e
     go false e = row-not-4 n m nodes h s w e
 
-not-4 : (n : ℕ) (t : Task) (m : ℕ) (nodes : List Node) (h : History) (s : List ℕ) → Stands n nodes h → callStatus t m nodes s ≡ 4 → ⊥
-not-4 n Cycle m nodes h s w e = cycle-not-4 n m nodes h s w e
-not-4 n Run m nodes h s w e = run-not-4 nodes s e
-not-4 n FramedRun m nodes h s w e = run-not-4 nodes s e
+not-4 : (n : ℕ) (t : Task) (m : ℕ) (nodes : List Node) (room : ℕ) (h : History) (s : List ℕ) → Stands n nodes h → callStatus t m nodes room s ≡ 4 → ⊥
+unfolding runStatus framedStatus
+not-4 n Cycle m nodes room h s w e = cycle-not-4 n m nodes h s w e
+not-4 n Run m nodes room h s w e = table-not-4 (length nodes) s e
+not-4 n FramedRun m nodes room h s w e = table-not-4 (framedEntries room (length nodes)) s e
 
 pub never-4 : (n : ℕ) (c : Call) (nodes : List Node) (h : History) → Stands n nodes h → status c nodes ≡ 4 → ⊥
-never-4 n c nodes h w e = not-4 n (c .task) (c .count) nodes h (c .bytes) w e
+never-4 n c nodes h w e = not-4 n (c .task) (c .count) nodes (c .room) h (c .bytes) w e

@@ -2,7 +2,7 @@
 -- Assumes nothing.
 use mathlib.Core.Path.{_≡_}
 use mathlib.Core.Logic.{_≢_}
-use mathlib.Core.Bool.{true, false}
+use mathlib.Core.Bool.{true}
 use mathlib.Core.List.{List, [], _∷_, _++_}
 use Prim.Native.Nat.{ℕ}
 use lib.ListN.{length}
@@ -19,17 +19,18 @@ use Rattle.calls.specs.declared.Task.{Task}
 use Rattle.calls.specs.declared.Task.the-variants.{Cycle, Run, FramedRun}
 use Rattle.calls.specs.Calls.{clusterOf, callStatus, callLeft}
 
--- a call: what it is to do, N where it is given as a number, and the record or table
+-- a call: what it is to do, N where it is given as a number, how many bytes are lent for frames, and the record or table
 pub record Call : Type 0 where
   pub task : Task
   pub count : ℕ
+  pub room : ℕ
   pub bytes : List ℕ
 
 abbrev pub status : Call → List Node → ℕ
-status c nodes = callStatus (c .task) (c .count) nodes (c .bytes)
+status c nodes = callStatus (c .task) (c .count) nodes (c .room) (c .bytes)
 
 abbrev pub left : Call → List Node → List Node
-left c nodes = callLeft (c .task) (c .count) nodes (c .bytes)
+left c nodes = callLeft (c .task) (c .count) nodes (c .room) (c .bytes)
 
 -- the history of a row: the founding set of its beginning, and the cycles in force since
 pub record History : Type 0 where
@@ -80,7 +81,5 @@ pub record Promised (n : ℕ) (nodes : List Node) (h : History) : Type 0 where
   pub claims : Demand3 (clusterOf n) 0 (h .founding)
 
 -- Demand 3, "one claim about the whole list", on a row of n entries: lists are of any length, so it is said after each call of a list.
-pub record OverCalls (n : ℕ) : Type 0 where
-  pub of-calls : (nodes : List Node) (h : History) (cs : List Call) → Begun n nodes h cs → Promised n (rowAfter cs nodes) (historyAfter cs nodes h)
-  -- "and likewise of the whole cycles of a refused table that `grouprun` prints, from that table's beginning": of any table, with no row lent
-  pub of-table : (s : List ℕ) → Demand3 (clusterOf (tableOf false 0 s .nodes)) 0 (tabled (tableOf false 0 s) .founding)
+abbrev pub OverCalls : ℕ → Type 0
+OverCalls n = (nodes : List Node) (h : History) (cs : List Call) → Begun n nodes h cs → Promised n (rowAfter cs nodes) (historyAfter cs nodes h)

@@ -7,9 +7,10 @@ use lib.Dec.{lit<}
 use Rattle.rules.specs.declared.Faults.{Faults}
 use Rattle.rules.specs.OneCycle.{Config}
 use Rattle.rules.specs.Faults.{Row, cycle}
+use Rattle.rules.specs.Reference.{Cluster, step, after}
 use Rattle.formed.proofs.Formed.{FormedRow, cycle-formed}
 use Rattle.framing.specs.Faulty.{framedCycle}
-use Rattle.framing.specs.Run.{cycleCount, framedRows, plainRows}
+use Rattle.framing.specs.Run.{cycleCount, framedRows, plainRows, lastRow}
 use Rattle.framing.proofs.Delivered.{framed-is-plain}
 
 pub framed-run-is-plain : (C : Config) (n : ℕ) (row : Row) (cs : List Faults) → C .nodes ≤ 64 → FormedRow (C .nodes) row → framedRows C n row cs ≡ plainRows C row cs
@@ -19,3 +20,9 @@ framed-run-is-plain C n row (c ∷ cs) few w =
     let e = framed-is-plain C (cycleCount n) c row few (mod-lt (n - 1) (lit< tt)) w in
     ap (λ (r : Row). r ∷ framedRows C (suc n) r cs) e
     ∙ ap (λ (rs : List Row). cycle C c row ∷ rs) (framed-run-is-plain C (suc n) (cycle C c row) cs few (cycle-formed (C .nodes) c row w))
+
+-- the last of the rows that the rules give is the row after all cycles
+pub last-plain : (C : Config) (k : Cluster) (cs : List Faults) → lastRow (k .row) (plainRows C (k .row) cs) ≡ after C k cs .row
+unfolding lastRow plainRows after step
+last-plain C k [] = refl
+last-plain C k (c ∷ cs) = last-plain C (step C k c) cs

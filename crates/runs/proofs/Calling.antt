@@ -1,6 +1,6 @@
 -- The ways through a single cycle and through a table's run, against what the call answers and leaves. Assumes nothing.
 use mathlib.Core.Path.{_≡_, refl, sym, ap, ap₂, _∙_, subst}
-use mathlib.Core.Bool.{Bool, true, false, not, _||_, cond}
+use mathlib.Core.Bool.{Bool, true, false, not, _||_, cond, false≢true}
 use mathlib.Core.List.{List, [], _∷_}
 use Prim.Native.Nat.{ℕ, _≤_, _<_}
 use lib.Dec.{eqb, ltb}
@@ -10,12 +10,13 @@ use borrow.Author.Tests.{eqb-true, eqb-false, eq-eqb, ne-eqb, ltb-false, lt-ltb,
 use Rattle.sets.specs.Sets.{below}
 use Rattle.sets.proofs.Booleans.{or-f-l, or-f-r, not-f}
 use Rattle.refusal.specs.Refusal.{when, first}
-use Rattle.refusal.proofs.Laws.{none, unless-done}
+use Rattle.refusal.proofs.Laws.{none, unless-done, unless-refused}
 use Rattle.state.specs.declared.Node.{Node}
 use Rattle.state.specs.State.{formedState}
 use Rattle.rules.specs.declared.Faults.{Faults}
 use Rattle.rules.specs.Faults.{Row, founding, cycle}
 use Rattle.rules.specs.Reference.{beginning, after}
+use Rattle.framing.specs.Run.{framesLength, framesAfter}
 use Rattle.table.specs.Records.{countAt, foundingAt, startRefusal, cycleLength, cycleRefusal, faultsAt}
 use Rattle.table.specs.Table.{Cycles, tableOf}
 use Rattle.table.proofs.Laws.{Begins, begins}
@@ -27,10 +28,12 @@ use Rattle.row.specs.declared.Gathered.{Gathered}
 use Rattle.row.specs.Row.{statesOf, nodesOf, inOrder}
 use Rattle.row.proofs.Meaning.{gathered-states, gathered-good}
 use Rattle.calls.specs.declared.Task.{Task}
-use Rattle.calls.specs.declared.Task.the-variants.{Run}
-use Rattle.calls.specs.Calls.{clusterOf, rowStatus, cycleStatus, cycleLeft, runStatus, ranTo, runLeft, callStatus, callLeft}
+use Rattle.calls.specs.declared.Task.the-variants.{Run, FramedRun}
+use Rattle.calls.specs.Calls.{clusterOf, rowStatus, cycleStatus, cycleLeft, runStatus, ranTo, runLeft, framedEntries, framedStatus, framesLeft, callStatus, callLeft, callFrames}
+use Rattle.calls.proofs.Counts.{framed-fits}
+use Rattle.calls.proofs.Framed.{framed-left}
 use Rattle.turns.specs.After.{rowAfter}
-use Rattle.runs.specs.Answered.{countByte, GatheredFrom, rowRefusal, Leaves}
+use Rattle.runs.specs.Answered.{countByte, GatheredFrom, rowRefusal, lentEntries, Leaves}
 use Rattle.turns.proofs.Ran.{after-row, states-formed}
 
 -- ---- the row of a single cycle
@@ -140,6 +143,21 @@ module _ (n len : ℕ) (g : Gathered) (nodes : List Node) (s : List ℕ) (h : Ga
                 ∙ sym (unless-done (cycleStatus n nodes s) (nodesOf n (cycle (clusterOf n) (faultsAt s) (statesOf nodes))) nodes (sym record-is ∙ zr)),
           )
 
+-- ---- a table, by what is lent for frames
+
+-- one that is not refused has its row, and its frames where they are asked for
+pub lent-fits : (framed : Bool) (room len : ℕ) (s : List ℕ) → tableOf true (lentEntries framed room len) s .cycles .refusal ≡ 0
+    → (tableOf true len s .cycles .refusal ≡ 0) × (framed ≡ true → room ≡ framesLength)
+unfolding lentEntries framedStatus
+lent-fits true room len s e = let f = framed-fits len room s e in (f .1, λ _. f .0)
+lent-fits false room len s e = (e, λ h. absurd (false≢true h))
+
+pub frames-kept : (framed : Bool) (len : ℕ) (s frames : List ℕ) → (tableOf true (lentEntries framed (length frames) len) s .cycles .refusal ≡ 0 → ⊥)
+    → frames ≡ cond framed (framesLeft len s frames) frames
+unfolding lentEntries framedStatus framesLeft
+frames-kept true len s frames o = sym (unless-refused (tableOf true (framedEntries (length frames) len) s .cycles .refusal) _ frames o)
+frames-kept false len s frames o = refl
+
 -- ---- a table that is not refused
 
 module _ (len : ℕ) (s : List ℕ) (z : tableOf true len s .cycles .refusal ≡ 0) where
@@ -181,31 +199,67 @@ module _ (len : ℕ) (s : List ℕ) (z : tableOf true len s .cycles .refusal ≡
             ∙ ap (nodesOf (countAt s)) (sym (after-row (clusterOf (countAt s)) (beginning (clusterOf (countAt s)) 0 (foundingAt s)) (tableOf true len s .cycles .whole))),
       )
 
+      -- and the frames of its last cycle
+      pub run-shown : (framed : Bool) (frames : List ℕ) → (framed ≡ true → length frames ≡ framesLength)
+          → cond framed (framesAfter (clusterOf n) 1 (rowOf n start) (from n 1 (left s 12) 0 .whole) frames) frames ≡ cond framed (framesLeft len s frames) frames
+      unfolding tableOf beginning framesLeft framedStatus
+      run-shown true frames sized =
+          let room : framedEntries (length frames) len ≡ len = ap (λ (b : Bool). cond b len 0) (eq-eqb (length frames) framesLength (sized refl)) in
+          ap (λ (row : Row). framesAfter (clusterOf n) 1 row (from n 1 (left s 12) 0 .whole) frames) ks
+          ∙ ap₂ (λ (k G : ℕ). framesAfter (clusterOf k) 1 (founding k 0 G) (from n 1 (left s 12) 0 .whole) frames) kn kf
+          ∙ ap (λ (c : Cycles). framesAfter (clusterOf (countAt s)) 1 (founding (countAt s) 0 (foundingAt s)) (c .whole) frames) (sym all)
+          ∙ sym (unless-done (tableOf true (framedEntries (length frames) len) s .cycles .refusal) _ frames (ap (λ (k : ℕ). tableOf true k s .cycles .refusal) room ∙ z))
+      run-shown false frames sized = refl
+
 -- ---- a call
 
--- the status, N and the states answered are those of the task t
-abbrev pub Answers : Task → ℕ → ℕ → Gathered → List ℕ → ℕ → ℕ → States → Type 0
-Answers t n len g s status m states =
-    ((nodes : List Node) → GatheredFrom n g len nodes → status ≡ callStatus t n nodes s)
-    × ((nodes : List Node) → GatheredFrom n g len nodes → status ≡ 0 → Leaves m states len (callLeft t n nodes s))
+-- the status, N, the states answered and the frames afterwards are those of the task t, lent `frames`
+abbrev pub Answers : Task → ℕ → ℕ → Gathered → List ℕ → List ℕ → ℕ → ℕ → States → List ℕ → Type 0
+Answers t n len g s frames status m states shown =
+    ((nodes : List Node) → GatheredFrom n g len nodes → status ≡ callStatus t n nodes (length frames) s)
+    × (((nodes : List Node) → GatheredFrom n g len nodes → status ≡ 0 → Leaves m states len (callLeft t n nodes (length frames) s)) × (shown ≡ callFrames t len s frames))
 
-pub same-task : (t u : Task) (n len : ℕ) (g : Gathered) (s : List ℕ) (status m : ℕ) (states : States) → t ≡ u → Answers u n len g s status m states
-    → Answers t n len g s status m states
-same-task t u n len g s status m states e h = subst (λ (x : Task). Answers x n len g s status m states) (sym e) h
+pub same-task : (t u : Task) (n len : ℕ) (g : Gathered) (s frames : List ℕ) (status m : ℕ) (states : States) (shown : List ℕ) → t ≡ u
+    → Answers u n len g s frames status m states shown → Answers t n len g s frames status m states shown
+same-task t u n len g s frames status m states shown e h = subst (λ (x : Task). Answers x n len g s frames status m states shown) (sym e) h
 
-pub run-answers : (n len : ℕ) (g : Gathered) (s : List ℕ) (status m : ℕ) (states : States) → status ≡ tableOf true len s .cycles .refusal
-    → (status ≡ 0 → Leaves m states len (ranTo (tableOf true len s))) → Answers Run n len g s status m states
-unfolding runStatus runLeft
-run-answers n len g s status m states e l = (λ nodes h. is nodes h, λ nodes h z. leaves nodes h z)
-  where
-    is : (nodes : List Node) → GatheredFrom n g len nodes → status ≡ tableOf true (length nodes) s .cycles .refusal
-    is nodes h = e ∙ ap (λ (k : ℕ). tableOf true k s .cycles .refusal) (sym (h .0))
+abbrev pub runTask : Bool → Task
+runTask true = FramedRun
+runTask false = Run
 
-    leaves : (nodes : List Node) → GatheredFrom n g len nodes → status ≡ 0 → Leaves m states len (runLeft nodes s)
-    leaves nodes h z =
-        let t = l z in (
-          t .0,
-          t .1,
-          t .2 ∙ ap (λ (k : ℕ). ranTo (tableOf true k s)) (sym (h .0))
-              ∙ sym (unless-done (runStatus nodes s) (ranTo (tableOf true (length nodes) s)) nodes (sym (is nodes h) ∙ z)),
-        )
+module _ (n len : ℕ) (g : Gathered) (s : List ℕ) (nodes : List Node) (h : GatheredFrom n g len nodes) where
+  -- the status of a run, on a row and on what was gathered of it
+  ran-status : (framed : Bool) (room status : ℕ) → status ≡ tableOf true (lentEntries framed room len) s .cycles .refusal → status ≡ callStatus (runTask framed) n nodes room s
+  unfolding lentEntries runStatus framedStatus
+  ran-status true room status e = e ∙ ap (λ (k : ℕ). tableOf true (framedEntries room k) s .cycles .refusal) (sym (h .0))
+  ran-status false room status e = e ∙ ap (λ (k : ℕ). tableOf true k s .cycles .refusal) (sym (h .0))
+
+  ran-left : (m : ℕ) (states : States) → runStatus nodes s ≡ 0 → Leaves m states len (ranTo (tableOf true len s)) → Leaves m states len (runLeft nodes s)
+  unfolding runLeft
+  ran-left m states z t = (
+    t .0,
+    t .1,
+    t .2 ∙ ap (λ (k : ℕ). ranTo (tableOf true k s)) (sym (h .0)) ∙ sym (unless-done (runStatus nodes s) (ranTo (tableOf true (length nodes) s)) nodes z),
+  )
+
+  run-left : (framed : Bool) (room m : ℕ) (states : States) → callStatus (runTask framed) n nodes room s ≡ 0 → Leaves m states len (ranTo (tableOf true len s))
+      → Leaves m states len (callLeft (runTask framed) n nodes room s)
+  unfolding runStatus
+  run-left true room m states z t =
+      subst (Leaves m states len) (sym (framed-left nodes room s z)) (ran-left m states (framed-fits (length nodes) room s z .1) t)
+  run-left false room m states z t = ran-left m states z t
+
+run-frames : (framed : Bool) (len : ℕ) (s frames : List ℕ) → cond framed (framesLeft len s frames) frames ≡ callFrames (runTask framed) len s frames
+run-frames true len s frames = refl
+run-frames false len s frames = refl
+
+pub run-answers : (framed : Bool) (n len : ℕ) (g : Gathered) (s frames : List ℕ) (status m : ℕ) (states : States) (shown : List ℕ)
+    → status ≡ tableOf true (lentEntries framed (length frames) len) s .cycles .refusal → (status ≡ 0 → Leaves m states len (ranTo (tableOf true len s)))
+    → shown ≡ cond framed (framesLeft len s frames) frames → Answers (runTask framed) n len g s frames status m states shown
+run-answers framed n len g s frames status m states shown e l f = (
+  λ nodes h. ran-status n len g s nodes h framed (length frames) status e,
+  (
+    λ nodes h z. run-left n len g s nodes h framed (length frames) m states (sym (ran-status n len g s nodes h framed (length frames) status e) ∙ z) (l z),
+    f ∙ run-frames framed len s frames,
+  ),
+)

@@ -14,6 +14,7 @@ use Rattle.roles.specs.States.{rowOf}
 use Rattle.row.specs.declared.Gathered.{Gathered}
 use Rattle.row.specs.Row.{nodesOf}
 use Rattle.row.specs.Gathered.{nothingOf, gathered}
+use Rattle.calls.specs.Calls.{framedEntries}
 
 -- N as the entries of a row hold it; 0 for a number that no cluster has
 unfoldable pub countByte : ℕ → ℕ
@@ -27,6 +28,10 @@ GatheredFrom n g len nodes = (length nodes ≡ len) × (g ≡ gathered (countByt
 unfoldable pub rowRefusal : ℕ → ℕ → Bool → List ℕ → ℕ
 rowRefusal n len good s =
     first (when (ltb n 2 || ltb 64 n) 1 ∷ when (not (eqb len n) || ltb (cycleLength s) (length s)) 3 ∷ when (not good) 4 ∷ [])
+
+-- the entries of a row that a run takes: a run through frames, as `framedEntries` says
+unfoldable pub lentEntries : Bool → (room entries : ℕ) → ℕ
+lentEntries framed room entries = cond framed (framedEntries room entries) entries
 
 -- the states s of n nodes are those of a row of so many entries
 abbrev pub Leaves : ℕ → States → ℕ → List Node → Type 0

@@ -1,18 +1,19 @@
 // Calls on a row, worked out on values: what each answers, and the states that it leaves.
 ghost use mathlib.Core.Path.{_≡_};
-ghost use mathlib.Core.Bool.{true};
+ghost use mathlib.Core.Bool.{true, cond};
 ghost use mathlib.Core.List.{List};
 ghost use Prim.Native.Nat.{ℕ, _≤_, _<_};
 ghost use lib.Dec.{ltb};
 ghost use lib.ListN.{length};
 ghost use Rattle.state.specs.declared.Node.{Node};
 ghost use Rattle.state.specs.State.{formedState};
+ghost use Rattle.framing.specs.Run.{framesLength, framesAfter};
 ghost use Rattle.table.specs.Records.{cycleLength};
 ghost use Rattle.table.specs.Table.{cyclesIn, tableOf};
 ghost use Rattle.roles.specs.States.{stateAt, rowOf};
-ghost use Rattle.calls.specs.Calls.{cycleStatus, cycleLeft, ranTo, callStatus, callLeft};
+ghost use Rattle.calls.specs.Calls.{cycleStatus, cycleLeft, ranTo, framesLeft, callStatus, callLeft, callFrames};
 ghost use Rattle.turns.specs.After.{rowAfter};
-ghost use Rattle.runs.specs.Answered.{countByte, GatheredFrom, rowRefusal, Leaves};
+ghost use Rattle.runs.specs.Answered.{countByte, GatheredFrom, rowRefusal, Leaves, lentEntries};
 use calls::Task;
 use roles::States;
 use row::Gathered;
@@ -60,14 +61,27 @@ fn row_status(n: u32, len: usize, good: bool, s: &[u8]) -> u32
     if good { 0 } else { 4 }
 }
 
-// The states after the cycles of accepted records, from those at the start.
-fn run(framed: bool, n: usize, start: States, s: &[u8]) -> States
-    requires { ⌜ (n ≤ 64) × (cyclesIn (length (now s)) n 1 (now s) .refusal ≡ 0) ⌝ }
-    requires { ⌜ ((q : ℕ) → q < n → formedState q n (stateAt start q) ≡ true) ⌝ }
-    ensures { λ r. ⌜ rowOf n r ≡ rowAfter (record { nodes = n }) (rowOf n start) (cyclesIn (length (now (s .entry))) n 1 (now (s .entry)) .whole) ⌝ }
+// The entries of a row that a run takes: none where frames are asked for and the buffer lent for them has another length than theirs.
+fn lent_entries(framed: bool, room: usize, len: usize) -> usize
+    ensures { λ r. ⌜ r ≡ lentEntries framed room len ⌝ }
 {
     if framed {
-        framed_runs::run_framed(n, start, s)
+        if room == 9216 { len } else { 0 }
+    } else {
+        len
+    }
+}
+
+// The states after the cycles of accepted records, from those at the start.
+fn run(framed: bool, n: usize, start: States, s: &[u8], frames: &mut [u8]) -> States
+    requires { ⌜ (n ≤ 64) × (cyclesIn (length (now s)) n 1 (now s) .refusal ≡ 0) ⌝ }
+    requires { ⌜ (framed ≡ true → length (now frames) ≡ framesLength) ⌝ }
+    requires { ⌜ ((q : ℕ) → q < n → formedState q n (stateAt start q) ≡ true) ⌝ }
+    ensures { λ r. ⌜ rowOf n r ≡ rowAfter (record { nodes = n }) (rowOf n start) (cyclesIn (length (now (s .entry))) n 1 (now (s .entry)) .whole) ⌝ }
+    ensures { λ _. ⌜ now (frames .exit) ≡ cond framed (framesAfter (record { nodes = n }) 1 (rowOf n start) (cyclesIn (length (now (s .entry))) n 1 (now (s .entry)) .whole) (now (frames .entry))) (now (frames .entry)) ⌝ }
+{
+    if framed {
+        framed_runs::run_framed(n, start, s, frames)
     } else {
         plain_runs::run_plain(n, start, s)
     }
@@ -104,11 +118,12 @@ fn cycle_answer(n: u32, len: usize, g: Gathered, s: &[u8]) -> Outcome
 }
 
 // A table's run, from the beginning. The whole table is looked at before anything is set.
-fn run_answer(framed: bool, len: usize, lent: States, s: &[u8]) -> Outcome
-    ensures answered { λ r. ⌜ r .status ≡ tableOf true len (now (s .entry)) .cycles .refusal ⌝ }
+fn run_answer(framed: bool, len: usize, lent: States, s: &[u8], frames: &mut [u8]) -> Outcome
+    ensures answered { λ r. ⌜ r .status ≡ tableOf true (lentEntries framed (length (now (frames .entry))) len) (now (s .entry)) .cycles .refusal ⌝ }
     ensures left { λ r. ⌜ (r .status ≡ 0 → Leaves (r .nodes) (r .states) len (ranTo (tableOf true len (now (s .entry))))) ⌝ }
+    ensures shown { λ _. ⌜ now (frames .exit) ≡ cond framed (framesLeft len (now (s .entry)) (now (frames .entry))) (now (frames .entry)) ⌝ }
 {
-    let refusal = records::table_refusal(true, len, s);
+    let refusal = records::table_refusal(true, lent_entries(framed, frames.len(), len), s);
     if refusal != 0 {
         return refused(refusal, lent);
     }
@@ -117,18 +132,28 @@ fn run_answer(framed: bool, len: usize, lent: States, s: &[u8]) -> Outcome
     Outcome {
         status: 0,
         nodes: n,
-        states: run(framed, n as usize, begun, &s[12..]),
+        states: run(framed, n as usize, begun, &s[12..], frames),
     }
 }
 
-// What a call answers on what was gathered of a row of so many entries.
-pub fn answer(task: Task, n: u32, len: usize, g: Gathered, s: &[u8]) -> Outcome
-    ensures answered { λ r. ⌜ ((nodes : List Node) → GatheredFrom n g len nodes → r .status ≡ callStatus task n nodes (now (s .entry))) ⌝ }
-    ensures left { λ r. ⌜ ((nodes : List Node) → GatheredFrom n g len nodes → r .status ≡ 0 → Leaves (r .nodes) (r .states) len (callLeft task n nodes (now (s .entry)))) ⌝ }
+// What a call answers on what was gathered of a row of so many entries. `frames` shows those of the last cycle of a run through frames afterwards.
+pub fn answer(task: Task, n: u32, len: usize, g: Gathered, s: &[u8], frames: &mut [u8]) -> Outcome
+    ensures answered { λ r. ⌜ ((nodes : List Node) → GatheredFrom n g len nodes → r .status ≡ callStatus task n nodes (length (now (frames .entry))) (now (s .entry))) ⌝ }
+    ensures left { λ r. ⌜ ((nodes : List Node) → GatheredFrom n g len nodes → r .status ≡ 0 → Leaves (r .nodes) (r .states) len (callLeft task n nodes (length (now (frames .entry))) (now (s .entry)))) ⌝ }
+    ensures shown { λ _. ⌜ now (frames .exit) ≡ callFrames task len (now (s .entry)) (now (frames .entry)) ⌝ }
 {
     match task {
         Task::Cycle => cycle_answer(n, len, g, s),
-        Task::Run => run_answer(false, len, g.states, s),
-        Task::FramedRun => run_answer(true, len, g.states, s),
+        Task::Run => run_answer(false, len, g.states, s, frames),
+        Task::FramedRun => run_answer(true, len, g.states, s, frames),
     }
+}
+
+// The same for a caller that keeps no frames.
+pub fn answer_without_frames(task: Task, n: u32, len: usize, g: Gathered, s: &[u8]) -> Outcome
+    ensures answered { λ r. ⌜ ((nodes : List Node) → GatheredFrom n g len nodes → r .status ≡ callStatus task n nodes framesLength (now (s .entry))) ⌝ }
+    ensures left { λ r. ⌜ ((nodes : List Node) → GatheredFrom n g len nodes → r .status ≡ 0 → Leaves (r .nodes) (r .states) len (callLeft task n nodes framesLength (now (s .entry)))) ⌝ }
+{
+    let mut frames = [0u8; 9216];
+    answer(task, n, len, g, s, &mut frames)
 }
