@@ -13,10 +13,10 @@ use Rattle.row.specs.Row.{nodesOf}
 use Rattle.row.specs.Gathered.{nothingOf, gathered}
 use Rattle.calls.specs.declared.Task.{Task}
 use Rattle.calls.proofs.Counts.{counted}
-use Rattle.calls.specs.Calls.{callLeft}
+use Rattle.calls.specs.Calls.{callLeft, callFrames}
 use Rattle.runs.specs.Answered.{countByte, GatheredFrom, Leaves}
 use Rattle.images.specs.Images.{nodeIn, entriesIn, nodesIn, imagesOf}
-use Rattle.entry_row.specs.OnImages.{imagesStatus, imagesLeft}
+use Rattle.entry_row.specs.OnImages.{lentStatus, lentLeft, lentFrames}
 use Rattle.images.proofs.Images.{entries-all}
 
 length-nodes : (row : List ℕ) → length (nodesIn row) ≡ entriesIn row
@@ -25,26 +25,31 @@ length-nodes row = length-tabulate (entriesIn row) (nodeIn row)
 
 -- ---- a call on a row of images
 
-module _ (t : Task) (n count k : ℕ) (d : States) (row s : List ℕ) where
+module _ (t : Task) (n count k : ℕ) (d : States) (row : List ℕ) (room : ℕ) (s : List ℕ) where
   -- its images are all there is
-  pub whole-images : count ≡ entriesIn row → imagesStatus t n row s ≡ 0 → Leaves k d count (callLeft t n (nodesIn row) s)
+  pub whole-images : count ≡ entriesIn row → lentStatus t n row room s ≡ 0 → Leaves k d count (callLeft t n (nodesIn row) room s)
       → (k ≤ 64) × (length row ≡ 24 * k)
-  unfolding imagesStatus
+  unfolding lentStatus
   whole-images c e l =
-      let some : 2 ≤ length (nodesIn row) = counted t n (nodesIn row) s e .0 in
+      let some : 2 ≤ length (nodesIn row) = counted t n (nodesIn row) room s e .0 in
       let same : length (nodesIn row) ≡ entriesIn row = length-nodes row in
       (l .1, entries-all row (omega arith) ∙ ap (λ (j : ℕ). 24 * j) (sym (l .0 ∙ c)))
 
-  pub images-done : (left : List ℕ) → imagesStatus t n row s ≡ 0 → Leaves k d count (callLeft t n (nodesIn row) s)
-      → left ≡ imagesOf (nodesOf k (rowOf k d)) → left ≡ imagesLeft t n row s
-  unfolding imagesLeft
-  images-done left e l w = w ∙ ap imagesOf (l .2) ∙ sym (unless-done (imagesStatus t n row s) (imagesOf (callLeft t n (nodesIn row) s)) row e)
+  pub images-done : (left : List ℕ) → lentStatus t n row room s ≡ 0 → Leaves k d count (callLeft t n (nodesIn row) room s)
+      → left ≡ imagesOf (nodesOf k (rowOf k d)) → left ≡ lentLeft t n row room s
+  unfolding lentLeft
+  images-done left e l w = w ∙ ap imagesOf (l .2) ∙ sym (unless-done (lentStatus t n row room s) (imagesOf (callLeft t n (nodesIn row) room s)) row e)
 
-pub images-kept : (t : Task) (n : ℕ) (row s : List ℕ) → (imagesStatus t n row s ≡ 0 → ⊥) → row ≡ imagesLeft t n row s
-unfolding imagesLeft
-images-kept t n row s o = sym (unless-refused (imagesStatus t n row s) (imagesOf (callLeft t n (nodesIn row) s)) row o)
+pub images-kept : (t : Task) (n : ℕ) (row : List ℕ) (room : ℕ) (s : List ℕ) → (lentStatus t n row room s ≡ 0 → ⊥) → row ≡ lentLeft t n row room s
+unfolding lentLeft
+images-kept t n row room s o = sym (unless-refused (lentStatus t n row room s) (imagesOf (callLeft t n (nodesIn row) room s)) row o)
 
 -- what was gathered of a row of images
 pub from-images : (n b count : ℕ) (g : Gathered) (row : List ℕ) → b ≡ countByte n → count ≡ entriesIn row → g ≡ gathered b nothingOf 0 (nodesIn row)
     → GatheredFrom n g count (nodesIn row)
 from-images n b count g row e f h = (length-nodes row ∙ sym f, h ∙ ap (λ (k : ℕ). gathered k nothingOf 0 (nodesIn row)) e)
+
+-- the frames, by the number of its entries
+pub frames-left : (t : Task) (count : ℕ) (row s frames left : List ℕ) → count ≡ entriesIn row → left ≡ callFrames t count s frames → left ≡ lentFrames t row s frames
+unfolding lentFrames
+frames-left t count row s frames left e l = l ∙ ap (λ (k : ℕ). callFrames t k s frames) e

@@ -4,12 +4,26 @@ use mathlib.Core.List.{List}
 use Prim.Native.Nat.{ℕ}
 use Rattle.refusal.specs.Refusal.{unless}
 use Rattle.calls.specs.declared.Task.{Task}
-use Rattle.calls.specs.Calls.{callStatus, callLeft}
-use Rattle.images.specs.Images.{nodesIn, imagesOf}
+use Rattle.calls.specs.Calls.{callStatus, callLeft, callFrames}
+use Rattle.images.specs.Images.{entriesIn, nodesIn, imagesOf}
 
-unfoldable pub imagesStatus : Task → ℕ → List ℕ → List ℕ → ℕ
-imagesStatus task n row s = callStatus task n (nodesIn row) s
+-- ---- a call that is lent `room` bytes for frames
+
+unfoldable pub lentStatus : Task → ℕ → List ℕ → (room : ℕ) → List ℕ → ℕ
+lentStatus task n row room s = callStatus task n (nodesIn row) room s
 
 -- "A refusal returns only its number; states and buffers do not change."
+unfoldable pub lentLeft : Task → ℕ → List ℕ → (room : ℕ) → List ℕ → List ℕ
+lentLeft task n row room s = unless (lentStatus task n row room s) (imagesOf (callLeft task n (nodesIn row) room s)) row
+
+-- what is left of the frames
+unfoldable pub lentFrames : Task → List ℕ → List ℕ → List ℕ → List ℕ
+lentFrames task row s frames = callFrames task (entriesIn row) s frames
+
+-- ---- one that is lent none
+
+unfoldable pub imagesStatus : Task → ℕ → List ℕ → List ℕ → ℕ
+imagesStatus task n row s = lentStatus task n row 0 s
+
 unfoldable pub imagesLeft : Task → ℕ → List ℕ → List ℕ → List ℕ
-imagesLeft task n row s = unless (imagesStatus task n row s) (imagesOf (callLeft task n (nodesIn row) s)) row
+imagesLeft task n row s = lentLeft task n row 0 s

@@ -1,19 +1,30 @@
 // Calls on the row as C lends it.
 ghost use mathlib.Core.Path.{_≡_};
-ghost use Rattle.entry_row.specs.OnImages.{imagesStatus, imagesLeft};
+ghost use lib.ListN.{length};
+ghost use Rattle.entry_row.specs.OnImages.{lentStatus, lentLeft, lentFrames, imagesStatus, imagesLeft};
 use calls::Task;
 
-// A call on a row of images. One that is refused leaves them as they are.
-pub fn call(task: Task, n: u32, images: &mut [u8], bytes: &[u8]) -> u32
-    ensures { λ r. ⌜ r ≡ imagesStatus task n (now (images .entry)) (now (bytes .entry)) ⌝ }
-    ensures { λ _. ⌜ now (images .exit) ≡ imagesLeft task n (now (images .entry)) (now (bytes .entry)) ⌝ }
+// A call on a row of images that is lent a buffer for frames. One that is refused leaves both as they are.
+pub fn call_with(task: Task, n: u32, images: &mut [u8], bytes: &[u8], frames: &mut [u8]) -> u32
+    ensures { λ r. ⌜ r ≡ lentStatus task n (now (images .entry)) (length (now (frames .entry))) (now (bytes .entry)) ⌝ }
+    ensures { λ _. ⌜ now (images .exit) ≡ lentLeft task n (now (images .entry)) (length (now (frames .entry))) (now (bytes .entry)) ⌝ }
+    ensures { λ _. ⌜ now (frames .exit) ≡ lentFrames task (now (images .entry)) (now (bytes .entry)) (now (frames .entry)) ⌝ }
 {
     let count = images::entries(images);
     let g = images::gather(runs::count_byte(n), images);
-    let a = runs::answer(task, n, count, g, bytes);
+    let a = runs::answer(task, n, count, g, bytes, frames);
     let status = a.status;
     if status == 0 {
         images::scatter(a.nodes, a.states, images);
     }
     status
+}
+
+// One that is lent none.
+pub fn call(task: Task, n: u32, images: &mut [u8], bytes: &[u8]) -> u32
+    ensures { λ r. ⌜ r ≡ imagesStatus task n (now (images .entry)) (now (bytes .entry)) ⌝ }
+    ensures { λ _. ⌜ now (images .exit) ≡ imagesLeft task n (now (images .entry)) (now (bytes .entry)) ⌝ }
+{
+    let mut frames = [0u8; 0];
+    call_with(task, n, images, bytes, &mut frames)
 }

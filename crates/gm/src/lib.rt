@@ -1,6 +1,7 @@
 // The entries for a C host: numbers and byte buffers only. Every entry answers 0 or the number of its refusal, and a refusal changes nothing.
 // include/gm.h declares the entries; the contract of each gives its status and every byte that it is lent, for all inputs.
 ghost use mathlib.Core.Path.{_≡_};
+ghost use lib.ListN.{length};
 ghost use Rattle.state.specs.Image.{decoded};
 ghost use Rattle.lent.specs.Refusals.{imageStatus};
 ghost use Rattle.entry_stop_start.specs.StopStart.{stopLeft, startLeft};
@@ -12,7 +13,7 @@ ghost use Rattle.entry_votes.specs.Votes.{voteOf, writeVoteStatus, writeVoteLef
 ghost use Rattle.entry_voting.specs.Voting.{viewFrom, sendVoteStatus, sendVoteLeft, sendVoteSent};
 ghost use Rattle.entry_arrivals.specs.Arrivals.{readVoteStatus, readVoteLeft, receiveVoteStatus, receiveVoteLeft, receiveVoteArrived};
 ghost use Rattle.entry_decide.specs.Decide.{decideStatus, decideLeft};
-ghost use Rattle.entry_row.specs.OnImages.{imagesStatus, imagesLeft};
+ghost use Rattle.entry_row.specs.OnImages.{lentStatus, lentLeft, lentFrames, imagesStatus, imagesLeft};
 use calls::Task;
 
 // Puts a node at the beginning.
@@ -223,11 +224,12 @@ pub extern "C" fn gm_run(row: &mut [u8], table: &[u8]) -> u32
     entry_row::call(Task::Run, 0, row, table)
 }
 
-// The same run through frames.
+// The same run through frames, which hands out those of its last cycle.
 #[no_mangle]
-pub extern "C" fn gm_run_frames(row: &mut [u8], table: &[u8]) -> u32
-    ensures { λ r. ⌜ r ≡ imagesStatus Task.FramedRun 0 (now (row .entry)) (now (table .entry)) ⌝ }
-    ensures { λ _. ⌜ now (row .exit) ≡ imagesLeft Task.FramedRun 0 (now (row .entry)) (now (table .entry)) ⌝ }
+pub extern "C" fn gm_run_frames(row: &mut [u8], table: &[u8], frames: &mut [u8]) -> u32
+    ensures { λ r. ⌜ r ≡ lentStatus Task.FramedRun 0 (now (row .entry)) (length (now (frames .entry))) (now (table .entry)) ⌝ }
+    ensures { λ _. ⌜ now (row .exit) ≡ lentLeft Task.FramedRun 0 (now (row .entry)) (length (now (frames .entry))) (now (table .entry)) ⌝ }
+    ensures { λ _. ⌜ now (frames .exit) ≡ lentFrames Task.FramedRun (now (row .entry)) (now (table .entry)) (now (frames .entry)) ⌝ }
 {
-    entry_row::call(Task::FramedRun, 0, row, table)
+    entry_row::call_with(Task::FramedRun, 0, row, table, frames)
 }

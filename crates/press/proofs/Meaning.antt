@@ -6,6 +6,7 @@ use Prim.Native.Nat.{ℕ}
 use lib.Dec.{T as True, T-not, eqb, eqb→eq}
 use lib.ListN.{length}
 use Rattle.state.specs.declared.Node.{Node}
+use Rattle.framing.specs.Run.{framesLength}
 use Rattle.calls.specs.declared.Task.{Task}
 use Rattle.calls.specs.Calls.{callStatus, callLeft}
 use Rattle.calls.proofs.OverCalls.{refused-left}
@@ -21,12 +22,12 @@ from-row n m g ys e e′ = (refl, e′ ∙ ap (λ (k : ℕ). gathered k nothingO
 
 module _ (t : Task) (n : ℕ) (ys : List Node) (bs : List ℕ) (r : Outcome) where
   -- a call that is not refused sets the row
-  pub row-set : (zs : List Node) → (r .status ≡ 0 → Leaves (r .nodes) (r .states) (length ys) (callLeft t n ys bs)) → True (eqb (r .status) 0)
-      → zs ≡ each (nodeOf (r .nodes) (r .states)) 0 ys → zs ≡ callLeft t n ys bs
+  pub row-set : (zs : List Node) → (r .status ≡ 0 → Leaves (r .nodes) (r .states) (length ys) (callLeft t n ys framesLength bs)) → True (eqb (r .status) 0)
+      → zs ≡ each (nodeOf (r .nodes) (r .states)) 0 ys → zs ≡ callLeft t n ys framesLength bs
   row-set zs leaves taken e =
       let left = leaves (eqb→eq (r .status) 0 taken) in
       e ∙ scattered (r .nodes) (r .states) ys (sym (left .0)) (left .1) ∙ left .2
 
   -- one that is refused leaves it as it was
-  pub row-kept : r .status ≡ callStatus t n ys bs → True (not (eqb (r .status) 0)) → ys ≡ callLeft t n ys bs
-  row-kept e refused = sym (refused-left t n ys bs (λ zero. T-not (eqb (r .status) 0) refused (subst (λ (k : ℕ). True (eqb k 0)) (sym (e ∙ zero)) tt)))
+  pub row-kept : r .status ≡ callStatus t n ys framesLength bs → True (not (eqb (r .status) 0)) → ys ≡ callLeft t n ys framesLength bs
+  row-kept e refused = sym (refused-left t n ys framesLength bs (λ zero. T-not (eqb (r .status) 0) refused (subst (λ (k : ℕ). True (eqb k 0)) (sym (e ∙ zero)) tt)))

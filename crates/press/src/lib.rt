@@ -1,15 +1,16 @@
 // Calls on the row of node structs that a caller lends.
 ghost use mathlib.Core.Path.{_≡_};
+ghost use Rattle.framing.specs.Run.{framesLength};
 ghost use Rattle.calls.specs.Calls.{callStatus, callLeft};
 use calls::Task;
 use state::Node;
 
-// A call on the row: the refusal's number with the row as it was, or 0.
+// A call on the row: the refusal's number with the row as it was, or 0. The frames of a run through frames are kept by nobody.
 pub fn call(task: Task, n: u32, row: &mut [Node], bytes: &[u8]) -> u32
-    ensures { λ r. ⌜ r ≡ callStatus task n (now (row .entry)) (now (bytes .entry)) ⌝ }
-    ensures { λ _. ⌜ now (row .exit) ≡ callLeft task n (now (row .entry)) (now (bytes .entry)) ⌝ }
+    ensures { λ r. ⌜ r ≡ callStatus task n (now (row .entry)) framesLength (now (bytes .entry)) ⌝ }
+    ensures { λ _. ⌜ now (row .exit) ≡ callLeft task n (now (row .entry)) framesLength (now (bytes .entry)) ⌝ }
 {
-    let a = runs::answer(
+    let a = runs::answer_without_frames(
         task,
         n,
         row.len(),

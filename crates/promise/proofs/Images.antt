@@ -14,7 +14,7 @@ use Rattle.calls.specs.Histories.{Call, status, left, History, historyOf, rowAf
 use Rattle.calls.proofs.OverCalls.{stands-length, refused-left, stands-after, begun-stands, over-calls}
 use Rattle.calls.proofs.Standing.{stands-in-order}
 use Rattle.images.specs.Images.{nodesIn, imagesOf}
-use Rattle.entry_row.specs.OnImages.{imagesStatus, imagesLeft}
+use Rattle.entry_row.specs.OnImages.{lentStatus, lentLeft, imagesLeft}
 use Rattle.images.proofs.Images.{nodes-images}
 use Rattle.gm.proofs.gm_cycle.Statement as gm-cycle-says
 use Rattle.gm.proofs.gm_cycle.Met as gm-cycle-met
@@ -38,7 +38,7 @@ run-frames-code {M} = gm-run-frames-met.met
 -- ---- the row's bytes after the calls, by the definitions that the contracts cite
 
 abbrev leftIn : Call → List ℕ → List ℕ
-leftIn c x = imagesLeft (c .task) (c .count) x (c .bytes)
+leftIn c x = lentLeft (c .task) (c .count) x (c .room) (c .bytes)
 
 unfoldable imagesAfter : List Call → List ℕ → List ℕ
 imagesAfter [] x = x
@@ -49,17 +49,17 @@ unfolding imagesAfter
 next c cs x₀ x y₀ y z l p q rest = rest ∙ ap (λ (v : List ℕ). imagesAfter cs v) (sym q ∙ l ∙ ap (λ (v : List ℕ). leftIn c v) p)
 
 done-images : {cs : List Call} {x z : List ℕ} → Done cs x z → z ≡ imagesAfter cs x
-unfolding imagesAfter
+unfolding imagesAfter imagesLeft
 done-images none = refl
 done-images (cycle {cs} {x} {y} {z} κs a r s l p q rest) = next _ cs (now (a .1 .0)) x (now (s .1 .0)) y z (l .1) p q (done-images rest)
 done-images (run {cs} {x} {y} {z} κs a r s l p q rest) = next _ cs (now (a .0)) x (now (s .0)) y z (l .1) p q (done-images rest)
-done-images (run-frames {cs} {x} {y} {z} κs a r s l p q rest) = next _ cs (now (a .0)) x (now (s .0)) y z (l .1) p q (done-images rest)
+done-images (run-frames {cs} {x} {y} {z} κs a r s l p q rest) = next _ cs (now (a .0)) x (now (s .0)) y z (l .1 .0) p q (done-images rest)
 
 -- ---- the nodes of the row after the calls are those that the calls on nodes give
 
 -- one call: what it leaves stands, and so is read back from its images; what a refused one leaves is the row as it was
 nodes-left : (n : ℕ) (h : History) (c : Call) (x : List ℕ) → length (nodesIn x) ≡ n → Stands n (left c (nodesIn x)) h → nodesIn (leftIn c x) ≡ left c (nodesIn x)
-unfolding imagesStatus imagesLeft
+unfolding lentStatus lentLeft
 nodes-left n h c x l w = go (eqb k 0) refl
   where
     k : ℕ
@@ -71,13 +71,13 @@ nodes-left n h c x l w = go (eqb k 0) refl
     go : (b : Bool) → eqb k 0 ≡ b → nodesIn (leftIn c x) ≡ left c (nodesIn x)
     go true e =
         let done = eqb-true k 0 e in
-        let size = counted (c .task) (c .count) (nodesIn x) (c .bytes) done in
+        let size = counted (c .task) (c .count) (nodesIn x) (c .room) (c .bytes) done in
         ap nodesIn (unless-done k after x done)
         ∙ nodes-images n (left c (nodesIn x))
         (stands-in-order n (left c (nodesIn x)) h w (subst (λ (m : ℕ). 2 ≤ m) l (size .0)) (subst (λ (m : ℕ). m ≤ 64) l (size .1)))
     go false e =
         let refused = eqb-false k 0 e in
-        ap nodesIn (unless-refused k after x refused) ∙ sym (refused-left (c .task) (c .count) (nodesIn x) (c .bytes) refused)
+        ap nodesIn (unless-refused k after x refused) ∙ sym (refused-left (c .task) (c .count) (nodesIn x) (c .room) (c .bytes) refused)
 
 -- the calls after one that leaves a row that stands, and a list of them
 nodes-next : (n : ℕ) (h : History) (c : Call) (cs : List Call) (x : List ℕ) → length (nodesIn x) ≡ n → Stands n (left c (nodesIn x)) h
@@ -105,4 +105,4 @@ begun-nodes n h (c ∷ cs) x (by-a-run l d e) =
 pub promised : OverImages
 promised n h cs x z b d =
     subst (λ (v : List Node). Promised n v (historyAfter cs (nodesIn x) h)) (sym (ap nodesIn (done-images d) ∙ begun-nodes n h cs x b))
-    (over-calls n .of-calls (nodesIn x) h cs b)
+    (over-calls n (nodesIn x) h cs b)

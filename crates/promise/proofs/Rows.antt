@@ -14,6 +14,7 @@ use contract.Monad.{Fun, fact, fact-mono, fact-use}
 use denote.Ref.{RefT, now}
 use denote.Triple.Clauses.{Lasts, lasts}
 use Rattle.state.specs.declared.Node.{Node}
+use Rattle.framing.specs.Run.{framesLength}
 use Rattle.calls.specs.declared.Task.{Task}
 use Rattle.calls.specs.Histories.{Call, status, left, rowAfter, historyAfter, Promised}
 use Rattle.calls.proofs.OverCalls.{over-calls}
@@ -42,7 +43,7 @@ module _ {M : Type 1} (𝓤 : URA M) (H : Heap 𝓤) (A : Atoms 𝓤) (mem : Mem
   a = (t, (n, (x, (b, tt))))
 
   abbrev made : Call
-  made = record { task = t; count = n; bytes = now b }
+  made = record { task = t; count = n; room = framesLength; bytes = now b }
 
   -- the parameters' last values, of which the row has the one, and that they are the last
   abbrev Ends : Type 0
@@ -66,7 +67,7 @@ module _ {M : Type 1} (𝓤 : URA M) (H : Heap 𝓤) (A : Atoms 𝓤) (mem : Mem
 done-rows : {cs : List Call} {x z : List Node} → Done cs x z → z ≡ rowAfter cs x
 unfolding rowAfter
 done-rows none = refl
-done-rows (one-more {c} {cs} {x} {y} {z} r told rest) = done-rows rest ∙ ap (λ (v : List Node). rowAfter cs v) (told .1)
+done-rows (one-more {c} {cs} {x} {y} {z} r room told rest) = done-rows rest ∙ ap (λ (v : List Node). rowAfter cs v) (told .1)
 
 pub promised : OverRows
-promised n h cs x z b d = subst (λ (v : List Node). Promised n v (historyAfter cs x h)) (sym (done-rows d)) (over-calls n .of-calls x h cs b)
+promised n h cs x z b d = subst (λ (v : List Node). Promised n v (historyAfter cs x h)) (sym (done-rows d)) (over-calls n x h cs b)

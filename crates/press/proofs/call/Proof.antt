@@ -44,6 +44,7 @@ use denote.Triple.Walked.{says, Stays, stay-none, stay-none-slice, stay-slice, w
 use denote.Exit.{yes}
 use Rattle.state.specs.declared.Node.{Node}
 use Rattle.roles.specs.declared.States.{States}
+use Rattle.framing.specs.Run.{framesLength}
 use Rattle.calls.specs.declared.Task.{Task}
 use Rattle.calls.specs.Calls.{callStatus, callLeft}
 use Rattle.row.specs.declared.Gathered.{Gathered}
@@ -70,10 +71,10 @@ use Rattle.node_row.proofs.gather as gather
 use Rattle.node_row.proofs.gather.Symbol as gather-def
 use Rattle.node_row.proofs.gather.Symbol.{name as #gather}
 use Rattle.node_row.proofs.gather.Met as gather-thm
-use Rattle.runs.proofs.answer as answer
-use Rattle.runs.proofs.answer.Symbol as answer-def
-use Rattle.runs.proofs.answer.Symbol.{name as #answer}
-use Rattle.runs.proofs.answer.Met as answer-thm
+use Rattle.runs.proofs.answer_without_frames as answer
+use Rattle.runs.proofs.answer_without_frames.Symbol as answer-def
+use Rattle.runs.proofs.answer_without_frames.Symbol.{name as #answer}
+use Rattle.runs.proofs.answer_without_frames.Met as answer-thm
 use Rattle.node_row.proofs.scatter as scatter
 use Rattle.node_row.proofs.scatter.Symbol as scatter-def
 use Rattle.node_row.proofs.scatter.Symbol.{name as #scatter}
@@ -127,10 +128,10 @@ module _ {M : Type 1} (𝓤 : URA M) (H : Heap 𝓤) (A : Atoms 𝓤) where
 
 -- what an answer says of every row that it may have been gathered from
 abbrev Answered : Task → ℕ → ℕ → Gathered → List ℕ → Outcome → Type 0
-Answered t n len g bs r = (nodes : List Node) → GatheredFrom n g len nodes → r .status ≡ callStatus t n nodes bs
+Answered t n len g bs r = (nodes : List Node) → GatheredFrom n g len nodes → r .status ≡ callStatus t n nodes framesLength bs
 
 abbrev Left : Task → ℕ → ℕ → Gathered → List ℕ → Outcome → Type 0
-Left t n len g bs r = (nodes : List Node) → GatheredFrom n g len nodes → r .status ≡ 0 → Leaves (r .nodes) (r .states) len (callLeft t n nodes bs)
+Left t n len g bs r = (nodes : List Node) → GatheredFrom n g len nodes → r .status ≡ 0 → Leaves (r .nodes) (r .states) len (callLeft t n nodes framesLength bs)
 
 -- ---- the callees
 module _ {M : Type 1} (𝓤 : URA M) (H : Heap 𝓤) (A : Atoms 𝓤) (mem : Memory → SProp 𝓤) (run : Routine → Fun 𝓤) where
@@ -217,10 +218,10 @@ module _ {M : Type 1} (𝓤 : URA M) (H : Heap 𝓤) (A : Atoms 𝓤) (W : Given
 
   -- what the contract says of the status, and of the row's last list
   abbrev Status : ℕ → Type 0
-  Status k = k ≡ callStatus t n ys bs
+  Status k = k ≡ callStatus t n ys framesLength bs
 
   abbrev Last : List Node → Type 0
-  Last zs = zs ≡ callLeft t n ys bs
+  Last zs = zs ≡ callLeft t n ys framesLength bs
 
   -- its two clauses, at these
   abbrev Ensured : ℕ → List Node → SProp 𝓤
@@ -352,7 +353,7 @@ module _ {M : Type 1} (𝓤 : URA M) (H : Heap 𝓤) (A : Atoms 𝓤) (W : Given
           move ! (4 ∷ 5 ∷ []) $ free1 ! $ free0 ! $ by ! (exits (r .status) zs (status-fits r _ is) status left l)
 
       -- the branch, and `scatter`
-      ends : (r : Outcome) → IsOutcome r (mach r) → Status (r .status) → (r .status ≡ 0 → Leaves (r .nodes) (r .states) len (callLeft t n ys bs))
+      ends : (r : Outcome) → IsOutcome r (mach r) → Status (r .status) → (r .status ≡ 0 → Leaves (r .nodes) (r .states) len (callLeft t n ys framesLength bs))
           → Sq W (With ys (Locals (‵ (fat fullShare O′.mir l₅ 0 (mach r))) room₆ room₇ room₈ room₉ [])) (runs C Λ En pieces.t-7 (atRet En Post))
       ends r is status leaves =
           assigns ! (of-opd ! (load ! (from ! (fld ! refl (stop !))) (look-in ! 24 (sub ! 0 refl (whole !))))) (from ! (stop !)) (init ! 22 refl (tt, record { fits = status-fits r _ is })) $
@@ -381,7 +382,7 @@ module _ {M : Type 1} (𝓤 : URA M) (H : Heap 𝓤) (A : Atoms 𝓤) (W : Given
           forget ! 4 refl $ forget ! 6 refl $ forget ! 8 refl $ forget ! 10 refl $ last r (zs .1 .1 .0) is status (row-set t n ys bs r (zs .1 .1 .0) leaves taken is-each) l)))))))))
           (λ refused. skips ! $ exec ! C Λ En pieces.t-10 (atRet En Post) $ forget ! 10 refl $ last r ys is status (row-kept t n ys bs r status refused) refl)
 
-      -- `answer`; what the bytes own is had twice, since it is not given back
+      -- `answer_without_frames`; what the bytes own is had twice, since it is not given back
       answers : (g : Gathered) (w : Val) → IsGathered g w → GatheredFrom n g len ys
           → Sq W (With ys (Locals room₅ room₆ (‵ (fat fullShare word l₇ 0 (vint w64 len))) (‵ (fat fullShare G′.mir l₈ 0 w)) room₉ [])) (runs C Λ En pieces.t-6 (atRet En Post))
       answers g w is of-row =
@@ -474,5 +475,5 @@ call-spec 𝓤 H 𝓜 𝓖 𝓡 =
     (call-meets 𝓤 H (𝓖 .A) (givenOf 𝓤 H 𝓜 𝓖) (𝓜 .mem) (𝓡 .run) (tablesOf 𝓤 H 𝓜 (tables 𝓤 H 𝓜 𝓡 code.env))
     (cited 𝓤 H (CountByte 𝓤 H (𝓖 .A) (𝓜 .mem) (𝓡 .run)) 𝓜 𝓡 code.env #count-byte count-byte-def.routine code.calls-runs·count-byte (count-byte-thm.met 𝓤 H 𝓜 𝓖 𝓡))
     (cited 𝓤 H (Gather 𝓤 H (𝓖 .A) (𝓜 .mem) (𝓡 .run)) 𝓜 𝓡 code.env #gather gather-def.routine code.calls-node-row·gather (gather-thm.met 𝓤 H 𝓜 𝓖 𝓡))
-    (cited 𝓤 H (Answer 𝓤 H (𝓖 .A) (𝓜 .mem) (𝓡 .run)) 𝓜 𝓡 code.env #answer answer-def.routine code.calls-runs·answer (answer-thm.met 𝓤 H 𝓜 𝓖 𝓡))
+    (cited 𝓤 H (Answer 𝓤 H (𝓖 .A) (𝓜 .mem) (𝓡 .run)) 𝓜 𝓡 code.env #answer answer-def.routine code.calls-runs·answer-without-frames (answer-thm.met 𝓤 H 𝓜 𝓖 𝓡))
     (cited 𝓤 H (Scatter 𝓤 H (𝓖 .A) (𝓜 .mem) (𝓡 .run)) 𝓜 𝓡 code.env #scatter scatter-def.routine code.calls-node-row·scatter (scatter-thm.met 𝓤 H 𝓜 𝓖 𝓡)))
