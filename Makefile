@@ -42,7 +42,7 @@ test: format trace-test archive-test host run examples-test vectors-test badinpu
 	@$(MAKE) --no-print-directory -j2 --output-sync compare-test load-test
 	rt ci
 
-# five units run the example of the paper through frames on both channels
+# five units run the example of the paper through frames on both channels, beside gm_cycle and over a bus with damage
 host: archive
 	@mkdir -p $(BUILD)
 	@$(C99) examples/host.c $(ARCHIVE) -o $(BUILD)/host
@@ -120,12 +120,13 @@ load-program: $(GROUPRUN) $(PLAIN) $(TABLEGEN) $(TABLETEXT) $(MEASURE)
 load-archive: archive $(TABLEGEN)
 	@tests/memory.sh $(ARCHIVE) $(TABLEGEN) $(BUILD)
 
-# every entry, the printed run and demand 3 itself, beside an implementation of the product paper in plain Rust; needs cargo
+# every entry, the printed run and demand 3 itself, beside an implementation of the product paper in plain Rust; and presses of the node entries; needs cargo
 compare: archive $(GROUPRUN)
 	@tests/host.sh
 
 # a share of it, in less time
 compare-test: export CALLS = 500000
+compare-test: export PRESSES = 500
 compare-test: export TABLES = 500
 compare-test: compare
 

@@ -1,7 +1,9 @@
 /*
- * An example host: five units run the example of the product paper through frames on both channels, using nothing but the entries of gm.h.
+ * An example host: a press of five units that run the example of the product paper through frames on both channels, using nothing but the entries of gm.h.
  * In cycle 2 the heartbeat of unit 4 is lost in sending, in cycle 3 unit 4 is started again, in cycle 4 the vote of unit 0 is lost in sending.
- * After each cycle it prints the group of the lowest unit that was not disturbed in it or the one before, and who halted and who entered.
+ * Beside that the bus damages single copies: one is lost, in one a bit flips, and one is the frame of the cycle before. This is no fault of a record and
+ * changes nothing, since the copy on the other channel counts: after each cycle the units must hold what gm_cycle makes of a row under the cycle's record.
+ * After each cycle it prints the group of the lowest unit that was not disturbed in it or the one before, and who halted and who entered; then the damage.
  */
 #include "gm.h"
 
@@ -10,7 +12,10 @@
 #include <stdlib.h>
 #include <string.h>
 
-enum { UNITS = 5, CYCLES = 5, CHANNELS = 2 };
+enum { UNITS = 5, CYCLES = 5, CHANNELS = 2, RECORD_BYTES = 36 };
+
+/* what can happen to a copy */
+enum { LOST, FLIPPED, LATE, DAMAGES };
 
 /* what one unit keeps */
 struct unit {
@@ -19,10 +24,25 @@ struct unit {
     uint8_t votes[GM_VOTES_BYTES];
 };
 
-/* what stands on the bus in one slot: a copy per channel, of length 0 if none was sent */
+/* a frame on the bus: a copy per channel, of length 0 if none is there */
 struct slot {
     uint8_t bytes[CHANNELS][GM_VOTE_FRAME_BYTES];
     size_t len[CHANNELS];
+    int damaged;
+};
+
+/* the frames of one phase, heartbeats or votes: as sent in the cycle before and in this one, and as they come to the units */
+struct phase {
+    struct slot before[UNITS], sent[UNITS], come[UNITS];
+};
+
+/* `row` is for gm_cycle; `damaged` copies, and frames `saved` by the other channel where a unit received one of which a copy was damaged */
+struct press {
+    struct unit units[UNITS];
+    struct phase heartbeats, votes;
+    uint8_t row[UNITS * GM_STATE_BYTES];
+    uint64_t halted, entered;
+    unsigned damaged, saved;
 };
 
 /* the faults of one cycle */
@@ -38,9 +58,14 @@ static void must(uint32_t status, const char *entry)
     }
 }
 
+static uint64_t only(unsigned unit)
+{
+    return (uint64_t)1 << unit;
+}
+
 static int in(uint64_t set, unsigned unit)
 {
-    return (int)(set >> unit & 1);
+    return (set & only(unit)) != 0;
 }
 
 /* fields of a state image that is known to be well formed */
@@ -57,102 +82,180 @@ static uint64_t number_at(const uint8_t *s, size_t len)
     return x;
 }
 
-static void send_heartbeats(struct unit *units, struct slot *bus, uint32_t count, uint64_t lost)
+static void put_mask(uint8_t *s, uint64_t mask)
+{
+    for (unsigned i = 8; i-- > 0; mask >>= 8)
+        s[i] = (uint8_t)mask;
+}
+
+/* ---- the bus */
+
+/* one copy of the frame of a unit; whether there was one that could be damaged so */
+static int damage(struct phase *p, unsigned what, unsigned unit, unsigned channel)
+{
+    struct slot *come = &p->come[unit];
+    const struct slot *before = &p->before[unit];
+    if (come->len[channel] == 0 || (what == LATE && before->len[channel] == 0))
+        return 0;
+    if (what == LOST)
+        come->len[channel] = 0;
+    else if (what == FLIPPED)
+        come->bytes[channel][come->len[channel] / 2] ^= 0x10;
+    else
+        memcpy(come->bytes[channel], before->bytes[channel], before->len[channel]);
+    come->damaged = 1;
+    return 1;
+}
+
+/* what was sent comes to all, but for single copies of three units; how many were damaged */
+static unsigned carry(struct phase *p, uint32_t count)
+{
+    unsigned damaged = 0;
+    memcpy(p->come, p->sent, sizeof p->come);
+    for (unsigned what = LOST; what < DAMAGES; what++)
+        damaged += (unsigned)damage(p, what, (count + what) % UNITS, (count + what) % CHANNELS);
+    memcpy(p->before, p->sent, sizeof p->before);
+    return damaged;
+}
+
+/* ---- one cycle of the units */
+
+static void send_heartbeats(struct press *p, uint32_t count, uint64_t lost)
 {
     for (unsigned q = 0; q < UNITS; q++)
         for (uint32_t ch = 0; ch < CHANNELS; ch++) {
+            struct slot *slot = &p->heartbeats.sent[q];
             uint32_t sent = 0;
-            must(gm_send_heartbeat(units[q].state, GM_STATE_BYTES, 0, 0, count, ch, bus[q].bytes[ch], GM_HEARTBEAT_BYTES, &sent),
+            must(gm_send_heartbeat(p->units[q].state, GM_STATE_BYTES, 0, 0, count, ch, slot->bytes[ch], GM_HEARTBEAT_BYTES, &sent),
                  "gm_send_heartbeat");
-            bus[q].len[ch] = sent && !in(lost, q) ? GM_HEARTBEAT_BYTES : 0;
+            slot->len[ch] = sent && !in(lost, q) ? GM_HEARTBEAT_BYTES : 0;
         }
 }
 
-static void hear(struct unit *u, unsigned self, const struct slot *bus, uint32_t count)
+static void hear(struct press *p, unsigned self, uint32_t count)
 {
+    struct unit *u = &p->units[self];
     u->heard0 = u->heard1 = 0;
-    for (unsigned p = 0; p < UNITS; p++) {
+    for (unsigned q = 0; q < UNITS; q++) {
+        const struct slot *slot = &p->heartbeats.come[q];
         uint32_t heard = GM_MISSED;
-        if (p == self)
+        if (q == self)
             continue;
-        must(gm_receive_heartbeat(UNITS, p, count, bus[p].bytes[0], bus[p].len[0], bus[p].bytes[1], bus[p].len[1], &heard),
-             "gm_receive_heartbeat");
+        must(gm_receive_heartbeat(UNITS, q, count, slot->bytes[0], slot->len[0], slot->bytes[1], slot->len[1], &heard), "gm_receive_heartbeat");
         if (heard == GM_HEARD_MEMBER)
-            u->heard0 |= (uint64_t)1 << p;
+            u->heard0 |= only(q);
         else if (heard == GM_HEARD_JOINING)
-            u->heard1 |= (uint64_t)1 << p;
+            u->heard1 |= only(q);
+        p->saved += slot->damaged && heard != GM_MISSED;
     }
 }
 
-static void send_votes(struct unit *units, struct slot *bus, uint32_t count, uint64_t lost)
+static void send_votes(struct press *p, uint32_t count, uint64_t lost)
 {
     for (unsigned q = 0; q < UNITS; q++)
         for (uint32_t ch = 0; ch < CHANNELS; ch++) {
+            const struct unit *u = &p->units[q];
+            struct slot *slot = &p->votes.sent[q];
             uint32_t sent = 0;
-            must(gm_send_vote(units[q].state, GM_STATE_BYTES, units[q].heard0, units[q].heard1, count, ch, bus[q].bytes[ch],
-                              GM_VOTE_FRAME_BYTES, &sent),
+            must(gm_send_vote(u->state, GM_STATE_BYTES, u->heard0, u->heard1, count, ch, slot->bytes[ch], GM_VOTE_FRAME_BYTES, &sent),
                  "gm_send_vote");
-            bus[q].len[ch] = sent && !in(lost, q) ? GM_VOTE_FRAME_BYTES : 0;
+            slot->len[ch] = sent && !in(lost, q) ? GM_VOTE_FRAME_BYTES : 0;
         }
 }
 
-static void collect(struct unit *u, unsigned self, const struct slot *bus, uint32_t count)
+static void collect(struct press *p, unsigned self, uint32_t count)
 {
+    struct unit *u = &p->units[self];
     u->arrived = 0;
-    for (unsigned p = 0; p < UNITS; p++)
-        if (p != self)
-            must(gm_receive_vote(UNITS, p, count, bus[p].bytes[0], bus[p].len[0], bus[p].bytes[1], bus[p].len[1], u->votes,
-                                 GM_VOTES_BYTES, &u->arrived),
-                 "gm_receive_vote");
+    for (unsigned q = 0; q < UNITS; q++) {
+        const struct slot *slot = &p->votes.come[q];
+        if (q == self)
+            continue;
+        must(gm_receive_vote(UNITS, q, count, slot->bytes[0], slot->len[0], slot->bytes[1], slot->len[1], u->votes, GM_VOTES_BYTES, &u->arrived),
+             "gm_receive_vote");
+        p->saved += slot->damaged && in(u->arrived, q);
+    }
 }
 
-/* one cycle of all units; who halted and who entered */
-static void cycle(struct unit *units, const struct faults *f, uint32_t count, uint64_t *halted, uint64_t *entered)
+static void decide(struct press *p, unsigned self)
 {
-    struct slot bus[UNITS];
-    memset(bus, 0, sizeof bus);
+    struct unit *u = &p->units[self];
+    unsigned before = kind_of(u);
+    must(gm_decide(u->state, GM_STATE_BYTES, u->heard0, u->heard1, u->votes, GM_VOTES_BYTES, u->arrived), "gm_decide");
+    if (before == 2 && kind_of(u) == 0)
+        p->halted |= only(self);
+    if (before == 1 && kind_of(u) == 2)
+        p->entered |= only(self);
+}
+
+static void cycle(struct press *p, const struct faults *f, uint32_t count)
+{
+    p->halted = p->entered = 0;
     for (unsigned q = 0; q < UNITS; q++)
         if (in(f->start, q))
-            must(gm_start(units[q].state, GM_STATE_BYTES), "gm_start");
-    send_heartbeats(units, bus, count, f->heartbeat_lost);
+            must(gm_start(p->units[q].state, GM_STATE_BYTES), "gm_start");
+    send_heartbeats(p, count, f->heartbeat_lost);
+    p->damaged += carry(&p->heartbeats, count);
     for (unsigned q = 0; q < UNITS; q++)
-        hear(&units[q], q, bus, count);
-    send_votes(units, bus, count, f->vote_lost);
+        hear(p, q, count);
+    send_votes(p, count, f->vote_lost);
+    p->damaged += carry(&p->votes, count);
     for (unsigned q = 0; q < UNITS; q++)
-        collect(&units[q], q, bus, count);
-    *halted = *entered = 0;
-    for (unsigned q = 0; q < UNITS; q++) {
-        unsigned before = kind_of(&units[q]);
-        must(gm_decide(units[q].state, GM_STATE_BYTES, units[q].heard0, units[q].heard1, units[q].votes, GM_VOTES_BYTES,
-                       units[q].arrived),
-             "gm_decide");
-        if (before == 2 && kind_of(&units[q]) == 0)
-            *halted |= (uint64_t)1 << q;
-        if (before == 1 && kind_of(&units[q]) == 2)
-            *entered |= (uint64_t)1 << q;
+        collect(p, q, count);
+    for (unsigned q = 0; q < UNITS; q++)
+        decide(p, q);
+}
+
+/* ---- the press */
+
+static void begin(struct press *p)
+{
+    for (uint32_t q = 0; q < UNITS; q++) {
+        must(gm_begin(UNITS, q, 0x1f, p->units[q].state, GM_STATE_BYTES), "gm_begin");
+        memcpy(p->row + q * GM_STATE_BYTES, p->units[q].state, GM_STATE_BYTES);
     }
+}
+
+/* the row goes through the cycle by its record, and then holds what the units hold */
+static void must_agree(struct press *p, const struct faults *f, uint32_t number)
+{
+    uint8_t record[RECORD_BYTES] = {0x47, 0x4d, 2};
+    put_mask(record + 11, f->start);
+    put_mask(record + 19, f->heartbeat_lost);
+    put_mask(record + 27, f->vote_lost);
+    must(gm_cycle(UNITS, p->row, sizeof p->row, record, sizeof record), "gm_cycle");
+    for (unsigned q = 0; q < UNITS; q++)
+        if (memcmp(p->row + q * GM_STATE_BYTES, p->units[q].state, GM_STATE_BYTES) != 0) {
+            fprintf(stderr, "cycle %" PRIu32 ": unit %u holds another state than gm_cycle gives it\n", number, q);
+            exit(1);
+        }
+}
+
+static void print_cycle(const struct press *p, uint32_t number, uint64_t disturbed)
+{
+    unsigned q = 0;
+    while (q < UNITS && (in(disturbed, q) || kind_of(&p->units[q]) != 2))
+        q++;
+    if (q == UNITS)
+        exit(1);
+    printf("%" PRIu32 " %" PRIu64 " %016" PRIx64 " %016" PRIx64 " %016" PRIx64 "\n", number, number_at(p->units[q].state + 4, 4),
+           number_at(p->units[q].state + 8, 8), p->halted, p->entered);
 }
 
 int main(void)
 {
     static const struct faults faults[CYCLES] = {{0, 0, 0}, {0, 0x10, 0}, {0x10, 0, 0}, {0, 0, 0x01}, {0, 0, 0}};
-    static struct unit units[UNITS];
+    static struct press press;
     uint64_t disturbed = 0;
-    for (uint32_t q = 0; q < UNITS; q++)
-        must(gm_begin(UNITS, q, 0x1f, units[q].state, GM_STATE_BYTES), "gm_begin");
+    begin(&press);
     puts("cycle group set halted entered");
     for (uint32_t n = 0; n < CYCLES; n++) {
         uint64_t now = faults[n].heartbeat_lost | faults[n].vote_lost;
-        uint64_t halted, entered;
-        unsigned q = 0;
-        cycle(units, &faults[n], n % 64, &halted, &entered);
-        while (q < UNITS && (in(now | disturbed, q) || kind_of(&units[q]) != 2))
-            q++;
+        cycle(&press, &faults[n], n % 64);
+        must_agree(&press, &faults[n], n + 1);
+        print_cycle(&press, n + 1, now | disturbed);
         disturbed = now;
-        if (q == UNITS)
-            return 1;
-        printf("%" PRIu32 " %" PRIu64 " %016" PRIx64 " %016" PRIx64 " %016" PRIx64 "\n", n + 1, number_at(units[q].state + 4, 4),
-               number_at(units[q].state + 8, 8), halted, entered);
     }
+    printf("%u copies damaged on one channel, %u frames received by the other\n", press.damaged, press.saved);
     return 0;
 }

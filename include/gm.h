@@ -14,9 +14,12 @@
  *   1. gm_stop, gm_start where the host wants it
  *   2. gm_send_heartbeat for each channel; the host sends the frame if there is one
  *   3. gm_receive_heartbeat for every other node; GM_HEARD_MEMBER goes into heard0, GM_HEARD_JOINING into heard1
- *   4. gm_send_vote for each channel; the host sends the frame if there is one
- *   5. gm_receive_vote for every other node, into the vote buffer and `arrived`
- *   6. gm_decide
+ *   4. gm_send_vote for each channel, with these masks; the host sends the frame if there is one
+ *   5. gm_receive_vote for every other node, into the vote buffer, whatever stands in it, and `arrived`
+ *   6. gm_decide, with the same heard0 and heard1
+ * In 3 and 5 the nodes may come in any order, and the call for a node of which nothing came on both channels may be left out: its bit is then 0, which is
+ * why the masks are 0 before the cycle. A node that is out, and neither stopped nor started, may make no calls at all; one that lost its state comes back
+ * by gm_begin with a founding set that lacks it, which leaves what gm_stop leaves.
  *
  * gm_cycle, gm_run and gm_run_frames work on a row: the states of all n nodes, one after the other, node q at byte 24 q.
  */
@@ -36,6 +39,7 @@ extern "C" {
 #define GM_VOTE_FRAME_BYTES 36
 #define GM_VOTE_BYTES 28
 #define GM_VOTES_BYTES 1792
+#define GM_FRAMES_BYTES 9216
 
 /* channels */
 #define GM_CHANNEL_A 0
@@ -63,7 +67,7 @@ extern "C" {
 #define GM_REFUSED_KIND 12      /* a wrong mark or kind, a first record not of kind 1, a later one of kind 1 */
 #define GM_REFUSED_LIMIT 13     /* a founding set that is empty or has a bit at n or above; in a record, any bit, receiver, count or entry beyond its limit; a cycle after number 4294967295 */
 
-/* no entry on one node, and none on a row, uses more stack, in bytes: 2216 and 30328 as measured (make stack), with some to spare */
+/* no entry on one node, and none on a row, uses more stack, in bytes: 2216 and 30392 as measured (make stack), with some to spare */
 #define GM_STACK_BYTES 2560
 #define GM_ROW_STACK_BYTES 40960
 
@@ -164,9 +168,15 @@ uint32_t gm_cycle(uint32_t n, uint8_t *row, size_t row_len, const uint8_t *recor
 uint32_t gm_run(uint8_t *row, size_t row_len, const uint8_t *table, size_t table_len);
 
 /*
- * The same run through frames: in every cycle each node writes its frames for both channels, and reads those of the others. It leaves what gm_run leaves.
+ * The same run through frames: in every cycle each node writes its frames for both channels, and reads those of the others. It leaves what gm_run leaves,
+ * and in `frames` what an analyser on the bus would show of the last cycle: heartbeats on A, heartbeats on B, votes on A, votes on B, each of these four
+ * parts 64 slots of GM_VOTE_FRAME_BYTES. The frame that node q sent stands at the front of slot q, whether or not it reached anybody; zeros stand behind
+ * it, and where nothing was sent. Cycle n of the run has cycle count n - 1 modulo 64, and its heartbeats have sync and startup 0. A table without cycles
+ * leaves `frames` as it came in. Fixed are the states of every cycle and the frames of the last: that the earlier cycles go through frames too is so, but
+ * no promise about results can say it.
+ * row, table: as for gm_run; frames: GM_FRAMES_BYTES, another length being refused where the row's is. Refusals: those of gm_run.
  */
-uint32_t gm_run_frames(uint8_t *row, size_t row_len, const uint8_t *table, size_t table_len);
+uint32_t gm_run_frames(uint8_t *row, size_t row_len, const uint8_t *table, size_t table_len, uint8_t *frames, size_t frames_len);
 
 #ifdef __cplusplus
 }

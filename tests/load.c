@@ -61,11 +61,13 @@ struct slot {
     int sent;
 };
 
+/* `shown` is what an analyser shows of the last cycle: a part for each phase and channel, a slot for each unit */
 struct press {
     struct work *work;
     struct unit units[NODES];
     struct slot bus[NODES];
     struct lent nothing;
+    uint8_t shown[PHASES][CHANNELS][NODES][GM_VOTE_FRAME_BYTES];
     uint32_t n;
 };
 
@@ -571,26 +573,38 @@ static void call_cycle(struct work *w)
     settle(w, &record, 0);
 }
 
-/* the row's length is that of the table as it now stands, or another. The host fills it: a run reads the row before it sets it to the beginning */
-static void run_table(struct work *w, unsigned entry, uint32_t (*run)(uint8_t *, size_t, const uint8_t *, size_t))
+/* a run, plain or through frames */
+static uint32_t run(unsigned entry, const struct lent *row, const struct lent *table, const struct lent *frames)
 {
-    struct lent table = table_near(w), row;
+    if (entry == RUN)
+        return gm_run(row->bytes, row->len, table->bytes, table->len);
+    return gm_run_frames(row->bytes, row->len, table->bytes, table->len, frames->bytes, frames->len);
+}
+
+/*
+ * The row's length is that of the table as it now stands, or another. The host fills it: a run reads the row before it sets it to the beginning.
+ * Frames are shown of a table with cycles.
+ */
+static void run_table(struct work *w, unsigned entry)
+{
+    struct lent table = table_near(w), frames = output(w, length_near(w, GM_FRAMES_BYTES)), row;
     size_t n = table.len > 3 && table.bytes[3] > 0 ? table.bytes[3] : 1;
     int accepted;
     row = filled(w, length_near(w, n * GM_STATE_BYTES));
-    accepted = answered(w, entry, run(row.bytes, row.len, table.bytes, table.len));
+    accepted = answered(w, entry, run(entry, &row, &table, &frames));
     settle(w, &row, accepted);
+    settle(w, &frames, accepted && entry == RUN_FRAMES && table.len > FIRST_BYTES);
     settle(w, &table, 0);
 }
 
 static void call_run(struct work *w)
 {
-    run_table(w, RUN, gm_run);
+    run_table(w, RUN);
 }
 
 static void call_run_frames(struct work *w)
 {
-    run_table(w, RUN_FRAMES, gm_run_frames);
+    run_table(w, RUN_FRAMES);
 }
 
 static void (*const calls[ENTRIES])(struct work *) = {
@@ -661,8 +675,10 @@ static uint32_t send_copy(struct press *p, unsigned phase, uint32_t q, uint32_t 
         must(p->work, SEND_VOTE, gm_send_vote(u->state.bytes, u->state.len, u->heard0, u->heard1, count, channel, frame->bytes, frame->len, &sent));
     else
         must(p->work, SEND_HEARTBEAT, gm_send_heartbeat(u->state.bytes, u->state.len, 0, 0, count, channel, frame->bytes, frame->len, &sent));
-    if (sent)
+    if (sent) {
         note(p->work, frame->bytes, frame->len);
+        memcpy(p->shown[phase][channel][q], frame->bytes, frame->len);
+    }
     return sent;
 }
 
@@ -740,6 +756,7 @@ static void run_cycle(struct press *p, const uint8_t *record, uint32_t count)
 {
     struct faults f;
     read_faults(&f, record);
+    memset(p->shown, 0, sizeof p->shown);
     stop_and_start(p, &f);
     for (unsigned phase = HEARTBEAT; phase < PHASES; phase++) {
         send_all(p, &f, phase, count);
@@ -781,17 +798,20 @@ static void end_press(struct press *p)
     give_back(&p->nothing);
 }
 
-/* the whole table at once, plain and through frames, on a row of any bytes */
+/* the whole table at once, plain and through frames, on a row of any bytes; the frames shown are those that the units wrote last */
 static void run_whole(struct press *p)
 {
     const struct table *t = p->work->tables;
-    struct lent table = copy_of(p->work, t->bytes, t->len);
+    struct lent table = copy_of(p->work, t->bytes, t->len), frames = room_for(p->work, GM_FRAMES_BYTES);
     for (unsigned entry = RUN; entry <= RUN_FRAMES; entry++) {
         struct lent row = filled(p->work, (size_t)p->n * GM_STATE_BYTES);
-        must(p->work, entry, (entry == RUN ? gm_run : gm_run_frames)(row.bytes, row.len, table.bytes, table.len));
+        must(p->work, entry, run(entry, &row, &table, &frames));
         same_row(p, &row, entry);
         give_back(&row);
     }
+    if (memcmp(frames.bytes, p->shown, sizeof p->shown) != 0)
+        fail(p->work, "shows other frames than the units wrote");
+    give_back(&frames);
     give_back(&table);
 }
 

@@ -5,7 +5,7 @@
 #include <stddef.h>
 #include <stdint.h>
 
-enum { STATE_BYTES = 24, HEARTBEAT_BYTES = 10, VOTE_FRAME_BYTES = 36, VOTE_BYTES = 28, VOTES_BYTES = 1792 };
+enum { STATE_BYTES = 24, HEARTBEAT_BYTES = 10, VOTE_FRAME_BYTES = 36, VOTE_BYTES = 28, VOTES_BYTES = 1792, FRAMES_BYTES = 9216 };
 
 uint32_t plain_begin(uint32_t n, uint32_t node, uint64_t founding, uint8_t *state, size_t state_len);
 uint32_t plain_stop(uint8_t *state, size_t state_len);
@@ -29,7 +29,7 @@ uint32_t plain_receive_vote(uint32_t n, uint32_t node, uint32_t cycle, const uin
 uint32_t plain_decide(uint8_t *state, size_t state_len, uint64_t heard0, uint64_t heard1, const uint8_t *votes, size_t votes_len, uint64_t arrived);
 uint32_t plain_cycle(uint32_t n, uint8_t *row, size_t row_len, const uint8_t *record, size_t record_len);
 uint32_t plain_run(uint8_t *row, size_t row_len, const uint8_t *table, size_t table_len);
-uint32_t plain_run_frames(uint8_t *row, size_t row_len, const uint8_t *table, size_t table_len);
+uint32_t plain_run_frames(uint8_t *row, size_t row_len, const uint8_t *table, size_t table_len, uint8_t *frames, size_t frames_len);
 
 /* the kinds of a state, and what is well formed: shared by the files of this folder */
 enum { OUT, JOINING, MEMBER };

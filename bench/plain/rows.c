@@ -196,33 +196,48 @@ static void receive_and_decide(const struct bus *bus, uint8_t *state, unsigned n
     plain_decide(state, STATE_BYTES, h->alive, h->joining, votes, VOTES_BYTES, arrived);
 }
 
-static void framed_cycle(uint8_t *row, unsigned n, uint32_t count, const struct faults *f)
+/* the frames of both phases stay on the bus */
+static void framed_cycle(struct bus *bus, uint8_t *row, unsigned n, uint32_t count, const struct faults *f)
 {
-    struct bus bus;
     struct heard heard[NODES];
     rule_one(row, n, f);
-    send_heartbeats(&bus, row, n, count);
+    send_heartbeats(&bus[HEARTBEAT], row, n, count);
     for (unsigned q = 0; q < n; q++)
-        heard[q] = hear(&bus, n, count, ~(f->lost[HEARTBEAT] | f->missed[HEARTBEAT][q]));
-    send_votes(&bus, row, n, count, heard);
+        heard[q] = hear(&bus[HEARTBEAT], n, count, ~(f->lost[HEARTBEAT] | f->missed[HEARTBEAT][q]));
+    send_votes(&bus[VOTE], row, n, count, heard);
     for (unsigned q = 0; q < n; q++)
         if (image(row, q)[0] != OUT)
-            receive_and_decide(&bus, image(row, q), n, count, ~(f->lost[VOTE] | f->missed[VOTE][q]), &heard[q]);
+            receive_and_decide(&bus[VOTE], image(row, q), n, count, ~(f->lost[VOTE] | f->missed[VOTE][q]), &heard[q]);
 }
 
-uint32_t plain_run_frames(uint8_t *row, size_t row_len, const uint8_t *table, size_t table_len)
+/* what was sent in one phase: the frame at the front of its sender's slot, zeros elsewhere */
+static void show(uint8_t *slots, const struct bus *bus, size_t frame_len)
+{
+    memset(slots, 0, sizeof bus->frames);
+    for (unsigned k = 0; k < CHANNELS * NODES; k++, slots += VOTE_FRAME_BYTES)
+        if (in(bus->sent, k % NODES))
+            memcpy(slots, bus->frames[k / NODES][k % NODES], frame_len);
+}
+
+/* a frames buffer of another length is refused as a row of no bytes, which is right for no table */
+uint32_t plain_run_frames(uint8_t *row, size_t row_len, const uint8_t *table, size_t table_len, uint8_t *frames, size_t frames_len)
 {
     struct cluster c;
     struct faults f = {.stop = 0};
+    struct bus bus[PHASES];
     uint32_t count = 0;
-    unsigned refused = refused_table(table, table_len, row_len, &c);
+    unsigned refused = refused_table(table, table_len, frames_len == FRAMES_BYTES ? row_len : 0, &c);
     if (refused != 0)
         return refused;
     for (unsigned q = 0; q < c.n; q++)
         plain_begin(c.n, q, c.members, image(row, q), STATE_BYTES);
     for (size_t at = FIRST_BYTES; at < table_len; at += cycle_length(table + at), count = (count + 1) % 64) {
         read_cycle(table + at, &c, &f);
-        framed_cycle(row, c.n, count, &f);
+        framed_cycle(bus, row, c.n, count, &f);
+    }
+    if (table_len > FIRST_BYTES) {
+        show(frames, &bus[HEARTBEAT], HEARTBEAT_BYTES);
+        show(frames + FRAMES_BYTES / PHASES, &bus[VOTE], VOTE_FRAME_BYTES);
     }
     return 0;
 }

@@ -3,7 +3,7 @@ ghost use mathlib.Core.Path.{_≡_};
 ghost use Prim.Native.Nat.{_<_, _≤_};
 ghost use lib.ListN.{length};
 ghost use Rattle.rules.specs.Ballots.{ballotsOf};
-ghost use Rattle.channels.specs.Channels.{withSent, channelOf, voteSent, voteRead, isWhole, voteIn, ballotsRead};
+ghost use Rattle.channels.specs.Channels.{withSent, channelOf, votePut, voteRead, isWhole, voteIn, ballotsRead};
 use frames::VoteReceived;
 use rules::Vote;
 use state::Group;
@@ -30,7 +30,7 @@ fn put_vote(
     q: usize,
 ) -> [u8; 2304]
     requires { ⌜ (q < 64) × (count < 64) ⌝ }
-    ensures { λ r. ⌜ r ≡ withSent q (voteSent (now (numbers .entry)) (now (sets .entry)) (now (bases .entry)) (now (views .entry)) members count channel q) all ⌝ }
+    ensures { λ r. ⌜ r ≡ withSent q (votePut (now (numbers .entry)) (now (sets .entry)) (now (bases .entry)) (now (views .entry)) members count channel q) all ⌝ }
 {
     let v = steps::vote_at(numbers, sets, bases, views, q);
     if sets::contains(members, q) {
@@ -51,7 +51,7 @@ pub fn votes(
     channel: u32,
 ) -> [u8; 2304]
     requires { ⌜ (n ≤ 64) × (count < 64) ⌝ }
-    ensures { λ r. ⌜ r ≡ channelOf n (voteSent (now (numbers .entry)) (now (sets .entry)) (now (bases .entry)) (now (views .entry)) members count channel) ⌝ }
+    ensures { λ r. ⌜ r ≡ channelOf n (votePut (now (numbers .entry)) (now (sets .entry)) (now (bases .entry)) (now (views .entry)) members count channel) ⌝ }
 {
     let mut all = [0u8; 2304];
     let mut q: usize = 0;

@@ -26,7 +26,7 @@ use Rattle.roles.specs.declared.States.{States}
 use Rattle.roles.specs.States.{stateAt}
 use Rattle.roles.specs.Decided.{outAt, decidedAt}
 use Rattle.framing.specs.Units.{received}
-use Rattle.channels.specs.Channels.{channelOf, voteSent, copyOf, voteRead, ballotsRead, decidedRead}
+use Rattle.channels.specs.Channels.{channelOf, votePut, copyOf, voteRead, ballotsRead, decidedRead}
 use Rattle.channels.proofs.Carried.{Carries, carries}
 
 -- an absent copy
@@ -37,14 +37,14 @@ no-vote n p count channel = refl
 module _ (n count members : ℕ) (numbers sets bases views : List ℕ) (few : n ≤ 64) (counted : count < 64) where
   -- what stands on a channel
   abbrev pub cast : ℕ → List ℕ
-  cast channel = channelOf n (voteSent numbers sets bases views members count channel)
+  cast channel = channelOf n (votePut numbers sets bases views members count channel)
 
   sent-is : (channel p : ℕ) (v : Vote) (m : Bool) (x : List ℕ) → cond m (some (voteFrame p v count channel)) none ≡ some x → length x ≡ 36
   sent-is channel p v true x e = let z : voteFrame p v count channel ≡ x = cc in ap (λ (s : List ℕ). length s) (sym z) ∙ length-vote p v count channel
   sent-is channel p v false x e = absurd (let z : _≡_ {A = ℕ} 0 1 = cc in omega arith)
 
-  pub carried : (channel : ℕ) → Carries n (voteSent numbers sets bases views members count channel) (cast channel)
-  carried channel = carries (voteSent numbers sets bases views members count channel) (λ q x e. short x (sent-is channel q (voteAt numbers sets bases views q) (has q members) x e)) n few
+  pub carried : (channel : ℕ) → Carries n (votePut numbers sets bases views members count channel) (cast channel)
+  carried channel = carries (votePut numbers sets bases views members count channel) (λ q x e. short x (sent-is channel q (voteAt numbers sets bases views q) (has q members) x e)) n few
     where
       short : (x : List ℕ) → length x ≡ 36 → length x ≤ 36
       short x e = omega arith
@@ -66,7 +66,7 @@ module _ (n count members : ℕ) (numbers sets bases views : List ℕ) (few : n 
         go true e =
             let m = within p e in
             let f = formed p m in
-            let sent : voteSent numbers sets bases views members count channel p ≡ some x = rw m in
+            let sent : votePut numbers sets bases views members count channel p ≡ some x = rw m in
             ap (λ (b : Bool). readVote n p count channel (take (cond b 36 0) (drop (36 * p) (cast channel)))) e
             ∙ ap (λ (k : ℕ). readVote n p count channel (take k (drop (36 * p) (cast channel)))) (sym (length-vote p v count channel))
             ∙ ap (readVote n p count channel) (carried channel .there p x (f .0) sent) ∙ vote-back n p v count channel few (f .0) counted (f .1) (f .2)
@@ -110,14 +110,14 @@ module _ (n count members : ℕ) (numbers sets bases views : List ℕ) (few : n 
 -- the same from the values that the code has on its way: the channels a and b, and the nodes whose votes go out
 pub states-read : (n count lost sent : ℕ) (w : Roles) (numbers sets bases views missed a b : List ℕ) (r : States) → n ≤ 64 → count < 64
     → ((p : ℕ) → has p (w .members) ≡ true → (p < n) × (getD numbers p 0 < 2 ^ 32) × (formedVote n p (voteAt numbers sets bases views p) ≡ true))
-    → a ≡ channelOf n (voteSent numbers sets bases views (w .members) count 0) → b ≡ channelOf n (voteSent numbers sets bases views (w .members) count 1) → sent ≡ w .members ∖ lost
+    → a ≡ channelOf n (votePut numbers sets bases views (w .members) count 0) → b ≡ channelOf n (votePut numbers sets bases views (w .members) count 1) → sent ≡ w .members ∖ lost
     → ((q : ℕ) → q < n → stateAt r q ≡ decidedRead numbers sets bases views n count w (sent ∖ getD missed q 0) a b q)
     → (q : ℕ) → q < n → stateAt r q ≡ decidedAt numbers sets bases views n w (w .members ∖ lost ∖ getD missed q 0) q
 states-read n count lost sent w numbers sets bases views missed a b r few counted formed ea eb es made q h =
     made q h ∙ ap₂ (λ (x y : List ℕ). decidedRead numbers sets bases views n count w (sent ∖ getD missed q 0) x y q) ea eb
     ∙ ap
     (λ (x : ℕ).
-    decidedRead numbers sets bases views n count w (x ∖ getD missed q 0) (channelOf n (voteSent numbers sets bases views (w .members) count 0)) (channelOf n (voteSent numbers sets bases views (w .members) count 1)) q)
+    decidedRead numbers sets bases views n count w (x ∖ getD missed q 0) (channelOf n (votePut numbers sets bases views (w .members) count 0)) (channelOf n (votePut numbers sets bases views (w .members) count 1)) q)
     es
     ∙ decided-read n count (w .members) numbers sets bases views few counted formed (w .members ∖ lost ∖ getD missed q 0) within w q
   where

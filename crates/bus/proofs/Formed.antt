@@ -1,21 +1,17 @@
 -- Of well-formed states: who votes after rule 1 casts a vote that a reader takes. Assumes nothing.
 use mathlib.Core.Path.{_≡_, sym, ap, _∙_}
-use mathlib.Core.Logic.{_⊎_, inl, inr}
-use mathlib.Core.Bool.{Bool, true, false, not, _&&_, _||_, cond, false≢true}
+use mathlib.Core.Bool.{Bool, true, false, not, _&&_, cond, false≢true}
 use mathlib.Core.List.{List}
-use Prim.Native.Nat.{ℕ, _^_, _≤_, _<_}
-use native.Mathlib.Omega.{arith}
-use lib.Dec.{eqb, ltb}
+use Prim.Native.Nat.{ℕ, _^_, _<_}
+use lib.Dec.{ltb}
 use lib.ListN.{getD}
-use borrow.Author.Tests.{eq-eqb}
-use Rattle.sets.specs.Sets.{has, _∪_, _∖_, subset, below}
-use Rattle.sets.proofs.Booleans.{bool, and-l, and-r, not-e, eqb-self, eqb-true, ltb-lt, ltb-le}
-use Rattle.sets.proofs.Membership.{has-diff, set-ext}
+use Rattle.sets.specs.Sets.{has, _∪_, _∖_, below}
+use Rattle.sets.proofs.Booleans.{and-l, and-r, not-e, ltb-lt}
+use Rattle.sets.proofs.Membership.{has-diff}
 use Rattle.sets.proofs.Nodes.{has-below}
 use Rattle.state.specs.declared.Reason.the-variants.{Stopped, NoQuorum, Outvoted}
-use Rattle.state.specs.declared.Group.{Group}
 use Rattle.state.specs.declared.State.the-variants.{Out, Joining, Member}
-use Rattle.state.specs.State.{formedSets, formedState}
+use Rattle.state.specs.State.{formedState}
 use Rattle.rules.specs.OneCycle.{viewOf}
 use Rattle.rules.specs.Ballots.{voteAt}
 use Rattle.frames.specs.Written.{formedVote}

@@ -1,39 +1,36 @@
 -- What stands on the channels that the code fills: the frames of the definition, each in its slot. Assumes nothing.
 use mathlib.Core.Path.{_≡_, refl, sym, ap, ap₂, _∙_, subst}
-use mathlib.Core.Bool.{Bool, true, false, _&&_, cond}
-use mathlib.Core.List.{List, [], _∷_, _++_, append-assoc, append-nil}
+use mathlib.Core.Bool.{Bool, true, false, cond}
+use mathlib.Core.List.{List, _∷_, _++_, append-assoc, append-nil}
 use mathlib.Core.Option.{Option, none, some}
 use Prim.Native.Nat.{ℕ, zero, suc, _+_, _-_, _*_, _≤_, _<_}
 use native.Mathlib.Nat.{zero-add, suc-add, add-zero, add-suc}
 use native.Mathlib.Omega.{arith}
-use lib.Dec.{lit<, lit≤}
-use lib.ListN.{length, take, drop, replicate, getD, length-append, length-replicate}
+use lib.ListN.{length, take, drop, replicate, getD, length-replicate}
 use lib.Seq.{take-at, drop-at, drop-append-add}
-use Rattle.sets.specs.Sets.{has, _∪_, _∖_}
-use Rattle.state.specs.declared.Group.{Group}
+use Rattle.sets.specs.Sets.{has, _∖_}
 use Rattle.state.specs.declared.State.{State}
 use Rattle.state.specs.declared.State.the-variants.{Out, Joining, Member}
 use Rattle.rules.specs.declared.Vote.{Vote}
 use Rattle.rules.specs.declared.Faults.{Faults}
 use Rattle.rules.specs.OneCycle.{Config, stopped, stopAndStart, sendsMember, sendsJoin}
 use Rattle.rules.specs.Faults.{Row, at, ruleOne}
-use Rattle.rules.specs.Ballots.{voteAt}
 use Rattle.rules.proofs.Rows.{get-tabulate-out}
 use Rattle.formed.proofs.Formed.{FormedRow, rule-one-formed}
 use Rattle.frames.specs.Written.{heartbeatFrame, voteFrame}
-use Rattle.frames.proofs.Lengths.{length-heartbeat, length-vote}
 use Rattle.framing.specs.Units.{Bus, heartbeatSent, unitVote, voteSent}
 use Rattle.framing.specs.Faulty.{present, busOf}
 use Rattle.framing.specs.Carried.{Carries}
-use Rattle.framing.specs.Run.{padded, slots, heartbeatsShown, votesShown}
+use Rattle.framing.specs.Run.{padded, inSlots, heartbeatsShown, votesShown}
+use Rattle.framing.proofs.Shown.{Short, fewer-short, length-slots, beats-short, ballots-short}
 use Rattle.framing.proofs.Follow.{vote-is}
 use Rattle.framing.proofs.Delivered.{delivers-carries, bus-delivers}
 use Rattle.roles.specs.declared.Roles.{Roles}
 use Rattle.roles.specs.declared.States.{States}
-use Rattle.roles.specs.States.{rolesOf, groupAt, stateAt, rowOf}
+use Rattle.roles.specs.States.{groupAt, rowOf}
 use Rattle.roles.specs.Decided.{viewAt}
 use Rattle.roles.proofs.Whole.{after, byRole, after-at, sends-member, sends-join, own-vote}
-use Rattle.channels.specs.Channels.{withFrame, withSent, channelOf, heartbeatSent as heartbeatPut, voteSent as votePut}
+use Rattle.channels.specs.Channels.{withFrame, withSent, channelOf, heartbeatPut, votePut}
 
 -- ---- lists of one value
 
@@ -45,24 +42,6 @@ drop-replicate : (k m : ℕ) → k ≤ m → drop k (replicate {A = ℕ} m 0) �
 drop-replicate k m h =
     let e : m ≡ k + (m - k) = omega arith in
     ap (λ (j : ℕ). drop k (replicate {A = ℕ} j 0)) e ∙ ap (drop k) (replicate-add k (m - k)) ∙ drop-at (replicate k 0) (replicate (m - k) 0) k (length-replicate {A = ℕ} k 0)
-
-abbrev Short : (ℕ → Option (List ℕ)) → Type 0
-Short sent = (q : ℕ) → length (present (sent q)) ≤ 36
-
-length-padded : (o : Option (List ℕ)) → length (present o) ≤ 36 → length (padded o) ≡ 36
-length-padded o l =
-    let a : length (present o ++ replicate (36 - length (present o)) 0) ≡ length (present o) + length (replicate {A = ℕ} (36 - length (present o)) 0) = length-append (present o) (replicate (36 - length (present o)) 0) in
-    let b : length (replicate {A = ℕ} (36 - length (present o)) 0) ≡ 36 - length (present o) = length-replicate {A = ℕ} (36 - length (present o)) 0 in
-    omega arith
-
-length-slots : (n : ℕ) (sent : ℕ → Option (List ℕ)) → Short sent → length (slots n sent) ≡ 36 * n
-unfolding slots
-length-slots zero sent s = refl
-length-slots (suc n) sent s =
-    let a : length (slots n sent ++ padded (sent n)) ≡ length (slots n sent) + length (padded (sent n)) = length-append (slots n sent) (padded (sent n)) in
-    let b : length (slots n sent) ≡ 36 * n = length-slots n sent s in
-    let c : length (padded (sent n)) ≡ 36 = length-padded (sent n) (s n) in
-    omega arith
 
 -- ---- a channel on which n nodes have sent is their slots, and zeros
 
@@ -78,50 +57,44 @@ put-next s x n m l k h =
     ap₂ (λ (u v : List ℕ). u ++ x ++ v) a (b ∙ ap (λ (j : ℕ). replicate {A = ℕ} j 0) c ∙ replicate-add (36 - length x) (m - 36))
     ∙ simp append-assoc
 
-channel-slots : (n : ℕ) (sent : ℕ → Option (List ℕ)) → n ≤ 64 → Short sent → channelOf n sent ≡ slots n sent ++ replicate (36 * (64 - n)) 0
-unfolding channelOf slots
+channel-slots : (n : ℕ) (sent : ℕ → Option (List ℕ)) → n ≤ 64 → Short n sent → channelOf n sent ≡ inSlots n sent ++ replicate (36 * (64 - n)) 0
+unfolding channelOf inSlots
 channel-slots zero sent l s = refl
 channel-slots (suc n) sent l s =
-    ap (withSent n (sent n)) (channel-slots n sent (omega arith) s) ∙ go (sent n) (s n)
-    ∙ ap (λ (j : ℕ). (slots n sent ++ padded (sent n)) ++ replicate {A = ℕ} j 0) (let e : 36 * (64 - n) - 36 ≡ 36 * (64 - suc n) = omega arith in e)
+    ap (withSent n (sent n)) (channel-slots n sent (omega arith) (fewer-short n sent s)) ∙ go (sent n) (s n (omega arith))
+    ∙ ap (λ (j : ℕ). (inSlots n sent ++ padded (sent n)) ++ replicate {A = ℕ} j 0) (let e : 36 * (64 - n) - 36 ≡ 36 * (64 - suc n) = omega arith in e)
   where
     go : (o : Option (List ℕ)) → length (present o) ≤ 36
-        → withSent n o (slots n sent ++ replicate (36 * (64 - n)) 0) ≡ (slots n sent ++ padded o) ++ replicate (36 * (64 - n) - 36) 0
+        → withSent n o (inSlots n sent ++ replicate (36 * (64 - n)) 0) ≡ (inSlots n sent ++ padded o) ++ replicate (36 * (64 - n) - 36) 0
     go none k =
         let e : 36 * (64 - n) ≡ 36 + (36 * (64 - n) - 36) = omega arith in
-        ap (λ (j : ℕ). slots n sent ++ replicate {A = ℕ} j 0) e ∙ ap (λ (v : List ℕ). slots n sent ++ v) (replicate-add 36 (36 * (64 - n) - 36)) ∙ sym (append-assoc (slots n sent) (replicate 36 0) (replicate (36 * (64 - n) - 36) 0))
-    go (some x) k = put-next (slots n sent) x n (36 * (64 - n)) (length-slots n sent s) k (omega arith)
+        ap (λ (j : ℕ). inSlots n sent ++ replicate {A = ℕ} j 0) e ∙ ap (λ (v : List ℕ). inSlots n sent ++ v) (replicate-add 36 (36 * (64 - n) - 36)) ∙ sym (append-assoc (inSlots n sent) (replicate 36 0) (replicate (36 * (64 - n) - 36) 0))
+    go (some x) k = put-next (inSlots n sent) x n (36 * (64 - n)) (length-slots n sent (fewer-short n sent s)) k (omega arith)
 
 -- slots of nodes that send nothing
-slots-none : (n k : ℕ) (sent : ℕ → Option (List ℕ)) → ((q : ℕ) → n ≤ q → sent q ≡ none) → slots (n + k) sent ≡ slots n sent ++ replicate (36 * k) 0
-unfolding slots
-slots-none n zero sent e = ap (λ (j : ℕ). slots j sent) (add-zero n) ∙ sym (append-nil (slots n sent))
+slots-none : (n k : ℕ) (sent : ℕ → Option (List ℕ)) → ((q : ℕ) → n ≤ q → sent q ≡ none) → inSlots (n + k) sent ≡ inSlots n sent ++ replicate (36 * k) 0
+unfolding inSlots
+slots-none n zero sent e = ap (λ (j : ℕ). inSlots j sent) (add-zero n) ∙ sym (append-nil (inSlots n sent))
 slots-none n (suc k) sent e =
     let f : 36 * suc k ≡ 36 * k + 36 = omega arith in
     let g : n ≤ n + k = omega arith in
-    ap (λ (j : ℕ). slots j sent) (add-suc n k) ∙ ap₂ (λ (u : List ℕ) (o : Option (List ℕ)). u ++ padded o) (slots-none n k sent e) (e (n + k) g)
-    ∙ append-assoc (slots n sent) (replicate (36 * k) 0) (replicate 36 0)
-    ∙ ap (λ (u : List ℕ). slots n sent ++ u) (sym (ap (λ (j : ℕ). replicate {A = ℕ} j 0) f ∙ replicate-add (36 * k) 36))
+    ap (λ (j : ℕ). inSlots j sent) (add-suc n k) ∙ ap₂ (λ (u : List ℕ) (o : Option (List ℕ)). u ++ padded o) (slots-none n k sent e) (e (n + k) g)
+    ∙ append-assoc (inSlots n sent) (replicate (36 * k) 0) (replicate 36 0)
+    ∙ ap (λ (u : List ℕ). inSlots n sent ++ u) (sym (ap (λ (j : ℕ). replicate {A = ℕ} j 0) f ∙ replicate-add (36 * k) 36))
 
-slots-ext : (n : ℕ) (a b : ℕ → Option (List ℕ)) → ((q : ℕ) → q < n → a q ≡ b q) → slots n a ≡ slots n b
-unfolding slots
+slots-ext : (n : ℕ) (a b : ℕ → Option (List ℕ)) → ((q : ℕ) → q < n → a q ≡ b q) → inSlots n a ≡ inSlots n b
+unfolding inSlots
 slots-ext zero a b e = refl
 slots-ext (suc n) a b e = ap₂ (λ (u : List ℕ) (o : Option (List ℕ)). u ++ padded o) (slots-ext n a b (λ q l. e q (omega arith))) (e n (omega arith))
 
 -- all 64 slots
-pub channel-shown : (n : ℕ) (sent shown : ℕ → Option (List ℕ)) → n ≤ 64 → Short sent → ((q : ℕ) → q < n → sent q ≡ shown q) → ((q : ℕ) → n ≤ q → shown q ≡ none)
-    → channelOf n sent ≡ slots 64 shown
+channel-shown : (n : ℕ) (sent shown : ℕ → Option (List ℕ)) → n ≤ 64 → Short 64 shown → ((q : ℕ) → q < n → sent q ≡ shown q) → ((q : ℕ) → n ≤ q → shown q ≡ none)
+    → channelOf n sent ≡ inSlots 64 shown
 channel-shown n sent shown l s e o =
     let k : 64 ≡ n + (64 - n) = omega arith in
-    channel-slots n sent l s ∙ ap (λ (u : List ℕ). u ++ replicate (36 * (64 - n)) 0) (slots-ext n sent shown e) ∙ sym (slots-none n (64 - n) shown o)
-    ∙ ap (λ (j : ℕ). slots j shown) (sym k)
-
-channel-length : (n : ℕ) (sent : ℕ → Option (List ℕ)) → n ≤ 64 → Short sent → length (channelOf n sent) ≡ 2304
-channel-length n sent l s =
-    let a : length (slots n sent ++ replicate (36 * (64 - n)) 0) ≡ length (slots n sent) + length (replicate {A = ℕ} (36 * (64 - n)) 0) = length-append (slots n sent) (replicate (36 * (64 - n)) 0) in
-    let b : length (slots n sent) ≡ 36 * n = length-slots n sent s in
-    let c : length (replicate {A = ℕ} (36 * (64 - n)) 0) ≡ 36 * (64 - n) = length-replicate {A = ℕ} (36 * (64 - n)) 0 in
-    ap (λ (x : List ℕ). length x) (channel-slots n sent l s) ∙ omega arith
+    let fits : Short n sent = λ q h. subst (λ (x : Option (List ℕ)). length (present x) ≤ 36) (sym (e q h)) (s q (omega arith)) in
+    channel-slots n sent l fits ∙ ap (λ (u : List ℕ). u ++ replicate (36 * (64 - n)) 0) (slots-ext n sent shown e) ∙ sym (slots-none n (64 - n) shown o)
+    ∙ ap (λ (j : ℕ). inSlots j shown) (sym k)
 
 -- ---- heartbeats and votes of masks and arrays are those of the row that they stand for
 
@@ -148,25 +121,11 @@ module _ (n : ℕ) (s : States) (f : Faults) (count channel : ℕ) (few : n ≤ 
       go Joining = refl
       go (Member g) = refl
 
-  heartbeat-short : Short (heartbeatPut w count channel)
-  heartbeat-short q = short (has q (w .members)) (has q (w .joining))
-    where
-      ten : (join : ℕ) → length (heartbeatFrame q join 0 0 count channel) ≤ 36
-      ten join = let e : length (heartbeatFrame q join 0 0 count channel) ≡ 10 = length-heartbeat q join 0 0 count channel in omega arith
-
-      short : (m j : Bool) → length (present (cond m (some (heartbeatFrame q 0 0 0 count channel)) (cond j (some (heartbeatFrame q 1 0 0 count channel)) none))) ≤ 36
-      short true j = ten 0
-      short false true = ten 1
-      short false false = lit≤ tt
-
-  pub heartbeats-length : length (channelOf n (heartbeatPut w count channel)) ≡ 2304
-  heartbeats-length = channel-length n (heartbeatPut w count channel) few heartbeat-short
-
   pub heartbeats-shown : channelOf n (heartbeatPut w count channel) ≡ heartbeatsShown C count f (rowOf n s) channel
   unfolding heartbeatsShown
   heartbeats-shown =
       channel-shown n (heartbeatPut w count channel) (λ q. heartbeatSent 0 0 count q (at r q) channel) few
-      heartbeat-short heartbeat-put (λ q l. ap (λ (t : State). heartbeatSent 0 0 count q t channel) (past-out n f (rowOf n s) q l))
+      (beats-short C count f (rowOf n s) channel) heartbeat-put (λ q l. ap (λ (t : State). heartbeatSent 0 0 count q t channel) (past-out n f (rowOf n s) q l))
 
   module _ (counted : count < 64) (formed : FormedRow n (rowOf n s)) (views : List ℕ)
       (seen : (p : ℕ) → p < n → getD views p 0 ≡ viewAt n (s .sets) (w .members ∖ f .«heartbeat_lost») (w .joining ∖ f .«heartbeat_lost») (f .«heartbeat_missed») p) where
@@ -189,18 +148,8 @@ module _ (n : ℕ) (s : States) (f : Faults) (count channel : ℕ) (few : n ≤ 
         go false false false true = refl
         go false false false false = refl
 
-    vote-short : Short (votePut (s .numbers) (s .sets) (s .bases) views (w .members) count channel)
-    vote-short q = short (has q (w .members))
-      where
-        short : (m : Bool) → length (present (cond m (some (voteFrame q (voteAt (s .numbers) (s .sets) (s .bases) views q) count channel)) none)) ≤ 36
-        short true = let e : length (voteFrame q (voteAt (s .numbers) (s .sets) (s .bases) views q) count channel) ≡ 36 = length-vote q (voteAt (s .numbers) (s .sets) (s .bases) views q) count channel in omega arith
-        short false = lit≤ tt
-
-    pub votes-length : length (channelOf n (votePut (s .numbers) (s .sets) (s .bases) views (w .members) count channel)) ≡ 2304
-    votes-length = channel-length n (votePut (s .numbers) (s .sets) (s .bases) views (w .members) count channel) few vote-short
-
     pub votes-shown : channelOf n (votePut (s .numbers) (s .sets) (s .bases) views (w .members) count channel) ≡ votesShown C count f (rowOf n s) channel
     unfolding votesShown
     votes-shown =
         channel-shown n (votePut (s .numbers) (s .sets) (s .bases) views (w .members) count channel) (λ q. voteSent n count (bus .heartbeats) q (at r q) channel) few
-        vote-short vote-put (λ q l. ap (λ (t : State). voteSent n count (bus .heartbeats) q t channel) (past-out n f (rowOf n s) q l))
+        (ballots-short C count f (rowOf n s) channel) vote-put (λ q l. ap (λ (t : State). voteSent n count (bus .heartbeats) q t channel) (past-out n f (rowOf n s) q l))

@@ -13,7 +13,7 @@ ghost use Rattle.roles.specs.States.{stateAt, rowOf};
 ghost use Rattle.roles.specs.Decided.{decidedAt};
 ghost use Rattle.parts.specs.Parts.{withPart};
 ghost use Rattle.framing.specs.Run.{framesShown, framesLength};
-ghost use Rattle.channels.specs.Channels.{channelOf, voteSent, ballotsRead, decidedRead};
+ghost use Rattle.channels.specs.Channels.{channelOf, votePut, ballotsRead, decidedRead};
 use roles::Roles;
 use roles::States;
 use rules::Faults;
@@ -169,7 +169,7 @@ fn vote_phase(
     requires { ⌜ length (now frames) ≡ framesLength ⌝ }
     requires { ⌜ ((p : ℕ) → has p (w .members) ≡ true → (p < n) × (getD (now numbers) p 0 < 2 ^ 32) × (formedVote n p (voteAt (now numbers) (now sets) (now bases) (now views) p) ≡ true)) ⌝ }
     ensures { λ r. ⌜ ((q : ℕ) → q < n → stateAt r q ≡ decidedAt (now (numbers .entry)) (now (sets .entry)) (now (bases .entry)) (now (views .entry)) n w (w .members ∖ lost ∖ getD (now (missed .entry)) q 0) q) ⌝ }
-    ensures { λ _. ⌜ now (frames .exit) ≡ withPart 6912 (channelOf n (voteSent (now (numbers .entry)) (now (sets .entry)) (now (bases .entry)) (now (views .entry)) (w .members) count 1)) (withPart 4608 (channelOf n (voteSent (now (numbers .entry)) (now (sets .entry)) (now (bases .entry)) (now (views .entry)) (w .members) count 0)) (now (frames .entry))) ⌝ }
+    ensures { λ _. ⌜ now (frames .exit) ≡ withPart 6912 (channelOf n (votePut (now (numbers .entry)) (now (sets .entry)) (now (bases .entry)) (now (views .entry)) (w .members) count 1)) (withPart 4608 (channelOf n (votePut (now (numbers .entry)) (now (sets .entry)) (now (bases .entry)) (now (views .entry)) (w .members) count 0)) (now (frames .entry))) ⌝ }
 {
     let a = ballots::votes(n, numbers, sets, bases, views, w.members, count, 0);
     let b = ballots::votes(n, numbers, sets, bases, views, w.members, count, 1);

@@ -16,9 +16,9 @@ use Rattle.rules.specs.declared.Faults.{Faults}
 use Rattle.rules.specs.Faults.{Row, cycle}
 use Rattle.rules.specs.Reference.{Cluster, beginning, step, after}
 use Rattle.agreement.proofs.Histories.{after-append, demand3}
-use Rattle.table.specs.Records.{countAt, foundingAt, startRefusal, cycleLength, cycleRefusal, faultsAt}
-use Rattle.table.specs.Table.{Cycles, tableOf}
-use Rattle.table.proofs.Laws.{begins, table-refused}
+use Rattle.table.specs.Records.{countAt, foundingAt, cycleLength, cycleRefusal, faultsAt}
+use Rattle.table.specs.Table.{tableOf}
+use Rattle.table.proofs.Laws.{begins}
 use Rattle.row.specs.Row.{statesOf, nodesOf, inOrder}
 use Rattle.row.proofs.Meaning.{states-nodes, length-nodes}
 use Rattle.formed.proofs.Formed.{length-founding, length-after}

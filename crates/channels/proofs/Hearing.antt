@@ -23,7 +23,7 @@ use Rattle.frames.proofs.RoundTrip.{heartbeat-back}
 use Rattle.roles.specs.declared.Roles.{Roles}
 use Rattle.roles.specs.Decided.{viewAt}
 use Rattle.framing.specs.Units.{isAlive, isJoin}
-use Rattle.channels.specs.Channels.{channelOf, heartbeatSent, copyOf, heartbeatRead, aliveRead, joinRead, viewRead}
+use Rattle.channels.specs.Channels.{channelOf, heartbeatPut, copyOf, heartbeatRead, aliveRead, joinRead, viewRead}
 use Rattle.channels.proofs.Carried.{Carries, carries}
 
 -- an absent copy
@@ -50,34 +50,34 @@ module _ (n count : ℕ) (w : Roles) (few : n ≤ 64) (counted : count < 64) whe
   sent-is channel p false true x e = let z : heartbeatFrame p 1 0 0 count channel ≡ x = cc in ap (λ (s : List ℕ). length s) (sym z) ∙ length-heartbeat p 1 0 0 count channel
   sent-is channel p false false x e = absurd (let z : _≡_ {A = ℕ} 0 1 = cc in omega arith)
 
-  pub carried : (channel : ℕ) → Carries n (heartbeatSent w count channel) (channelOf n (heartbeatSent w count channel))
-  carried channel = carries (heartbeatSent w count channel) (λ q x e. short q x (sent-is channel q (has q (w .members)) (has q (w .joining)) x e)) n few
+  pub carried : (channel : ℕ) → Carries n (heartbeatPut w count channel) (channelOf n (heartbeatPut w count channel))
+  carried channel = carries (heartbeatPut w count channel) (λ q x e. short q x (sent-is channel q (has q (w .members)) (has q (w .joining)) x e)) n few
     where
       short : (q : ℕ) (x : List ℕ) → length x ≡ 10 → length x ≤ 36
       short q x e = omega arith
 
   -- the copy of a frame that reaches the unit is the one sent
-  copy-is : (channel reach p : ℕ) (x : List ℕ) → p < n → has p reach ≡ true → heartbeatSent w count channel p ≡ some x → length x ≡ 10
-      → copyOf 10 reach p (channelOf n (heartbeatSent w count channel)) ≡ x
+  copy-is : (channel reach p : ℕ) (x : List ℕ) → p < n → has p reach ≡ true → heartbeatPut w count channel p ≡ some x → length x ≡ 10
+      → copyOf 10 reach p (channelOf n (heartbeatPut w count channel)) ≡ x
   copy-is channel reach p x l r e k =
-      ap (λ (b : Bool). take (cond b 10 0) (drop (36 * p) (channelOf n (heartbeatSent w count channel)))) r
-      ∙ ap (λ (m : ℕ). take m (drop (36 * p) (channelOf n (heartbeatSent w count channel)))) (sym k) ∙ carried channel .there p x l e
+      ap (λ (b : Bool). take (cond b 10 0) (drop (36 * p) (channelOf n (heartbeatPut w count channel)))) r
+      ∙ ap (λ (m : ℕ). take m (drop (36 * p) (channelOf n (heartbeatPut w count channel)))) (sym k) ∙ carried channel .there p x l e
 
   -- one copy, by what its node sends and whether it reaches the unit
   abbrev answer : Bool → Bool → HeartbeatRead
   answer r m = cond r (cond m beat.Alive beat.Join) (beat.Refused Length)
 
   one-copy : (channel reach p : ℕ) → p < n → (has p reach ≡ true → (has p (w .members) || has p (w .joining)) ≡ true)
-      → readHeartbeat p count channel (copyOf 10 reach p (channelOf n (heartbeatSent w count channel))) ≡ answer (has p reach) (has p (w .members))
+      → readHeartbeat p count channel (copyOf 10 reach p (channelOf n (heartbeatPut w count channel))) ≡ answer (has p reach) (has p (w .members))
   one-copy channel reach p l within = go (has p reach) (has p (w .members)) (has p (w .joining)) refl refl refl within
     where
       s : List ℕ
-      s = channelOf n (heartbeatSent w count channel)
+      s = channelOf n (heartbeatPut w count channel)
 
       small : p < 64
       small = omega arith
 
-      back : (join : ℕ) → join < 2 → has p reach ≡ true → heartbeatSent w count channel p ≡ some (heartbeatFrame p join 0 0 count channel)
+      back : (join : ℕ) → join < 2 → has p reach ≡ true → heartbeatPut w count channel p ≡ some (heartbeatFrame p join 0 0 count channel)
           → readHeartbeat p count channel (copyOf 10 reach p s) ≡ readHeartbeat p count channel (heartbeatFrame p join 0 0 count channel)
       back join h r e = ap (readHeartbeat p count channel) (copy-is channel reach p (heartbeatFrame p join 0 0 count channel) l r e (length-heartbeat p join 0 0 count channel))
 
@@ -89,7 +89,7 @@ module _ (n count : ℕ) (w : Roles) (few : n ≤ 64) (counted : count < 64) whe
 
   -- both copies
   both-copies : (reach p : ℕ) → p < n → (has p reach ≡ true → (has p (w .members) || has p (w .joining)) ≡ true)
-      → heartbeatRead count reach (channelOf n (heartbeatSent w count 0)) (channelOf n (heartbeatSent w count 1)) p ≡ cond (has p reach) (cond (has p (w .members)) Alive Join) Missed
+      → heartbeatRead count reach (channelOf n (heartbeatPut w count 0)) (channelOf n (heartbeatPut w count 1)) p ≡ cond (has p reach) (cond (has p (w .members)) Alive Join) Missed
   unfolding heartbeatRead
   both-copies reach p l within = ap₂ receiveHeartbeat (one-copy 0 reach p l within) (one-copy 1 reach p l within) ∙ go (has p reach) (has p (w .members))
     where
@@ -111,7 +111,7 @@ module _ (n count : ℕ) (w : Roles) (few : n ≤ 64) (counted : count < 64) whe
     two m missed x = has-diff x (m ∖ lost) missed ∙ ap (λ (b : Bool). b && not (has x missed)) (has-diff x m lost)
 
     heard : (missed x : ℕ) → x < n
-        → heartbeatRead count (reached missed) (channelOf n (heartbeatSent w count 0)) (channelOf n (heartbeatSent w count 1)) x
+        → heartbeatRead count (reached missed) (channelOf n (heartbeatPut w count 0)) (channelOf n (heartbeatPut w count 1)) x
         ≡ cond (((has x (w .members) || has x (w .joining)) && not (has x lost)) && not (has x missed)) (cond (has x (w .members)) Alive Join) Missed
     heard missed x l =
         both-copies (reached missed) x l (λ e. sender (has x (w .members) || has x (w .joining)) (not (has x lost)) (not (has x missed)) (sym (reached-is missed x) ∙ e))
@@ -121,10 +121,10 @@ module _ (n count : ℕ) (w : Roles) (few : n ≤ 64) (counted : count < 64) whe
         sender true b c e = refl
         sender false b c e = e
 
-    alive-is : (missed x : ℕ) → x < n → has x (aliveRead n count (reached missed) (channelOf n (heartbeatSent w count 0)) (channelOf n (heartbeatSent w count 1))) ≡ has x (w .members ∖ lost ∖ missed)
+    alive-is : (missed x : ℕ) → x < n → has x (aliveRead n count (reached missed) (channelOf n (heartbeatPut w count 0)) (channelOf n (heartbeatPut w count 1))) ≡ has x (w .members ∖ lost ∖ missed)
     unfolding aliveRead
     alive-is missed x l =
-        those-in x n (λ p. isAlive (heartbeatRead count (reached missed) (channelOf n (heartbeatSent w count 0)) (channelOf n (heartbeatSent w count 1)) p)) l
+        those-in x n (λ p. isAlive (heartbeatRead count (reached missed) (channelOf n (heartbeatPut w count 0)) (channelOf n (heartbeatPut w count 1)) p)) l
         ∙ ap isAlive (heard missed x l) ∙ go (has x (w .members)) (has x (w .joining)) (has x lost) (has x missed) ∙ sym (two (w .members) missed x)
       where
         go : (m j u v : Bool) → isAlive (cond (((m || j) && not u) && not v) (cond m Alive Join) Missed) ≡ ((m && not u) && not v)
@@ -136,10 +136,10 @@ module _ (n count : ℕ) (w : Roles) (few : n ≤ 64) (counted : count < 64) whe
         go false true false false = refl
         go false false u v = refl
 
-    join-is : (missed x : ℕ) → x < n → has x (joinRead n count (reached missed) (channelOf n (heartbeatSent w count 0)) (channelOf n (heartbeatSent w count 1))) ≡ has x (w .joining ∖ lost ∖ missed)
+    join-is : (missed x : ℕ) → x < n → has x (joinRead n count (reached missed) (channelOf n (heartbeatPut w count 0)) (channelOf n (heartbeatPut w count 1))) ≡ has x (w .joining ∖ lost ∖ missed)
     unfolding joinRead
     join-is missed x l =
-        those-in x n (λ p. isJoin (heartbeatRead count (reached missed) (channelOf n (heartbeatSent w count 0)) (channelOf n (heartbeatSent w count 1)) p)) l
+        those-in x n (λ p. isJoin (heartbeatRead count (reached missed) (channelOf n (heartbeatPut w count 0)) (channelOf n (heartbeatPut w count 1)) p)) l
         ∙ ap isJoin (heard missed x l) ∙ go (has x (w .members)) (has x (w .joining)) (has x lost) (has x missed) (apart x) ∙ sym (two (w .joining) missed x)
       where
         go : (m j u v : Bool) → (j ≡ true → m ≡ false) → isJoin (cond (((m || j) && not u) && not v) (cond m Alive Join) Missed) ≡ ((j && not u) && not v)
@@ -154,20 +154,20 @@ module _ (n count : ℕ) (w : Roles) (few : n ≤ 64) (counted : count < 64) whe
 
     -- the view by what is read is the view by who sent
     pub view-read : (q set missed : ℕ)
-        → viewRead n count (reached missed) (channelOf n (heartbeatSent w count 0)) (channelOf n (heartbeatSent w count 1)) set q
+        → viewRead n count (reached missed) (channelOf n (heartbeatPut w count 0)) (channelOf n (heartbeatPut w count 1)) set q
         ≡ viewOf n q set (w .members ∖ lost ∖ missed) (w .joining ∖ lost ∖ missed)
     unfolding viewRead
     view-read q set missed =
-        view-ext n q set (aliveRead n count (reached missed) (channelOf n (heartbeatSent w count 0)) (channelOf n (heartbeatSent w count 1)))
-        (joinRead n count (reached missed) (channelOf n (heartbeatSent w count 0)) (channelOf n (heartbeatSent w count 1))) (w .members ∖ lost ∖ missed) (w .joining ∖ lost ∖ missed)
+        view-ext n q set (aliveRead n count (reached missed) (channelOf n (heartbeatPut w count 0)) (channelOf n (heartbeatPut w count 1)))
+        (joinRead n count (reached missed) (channelOf n (heartbeatPut w count 0)) (channelOf n (heartbeatPut w count 1))) (w .members ∖ lost ∖ missed) (w .joining ∖ lost ∖ missed)
         (alive-is missed) (join-is missed)
 
     -- the same from the values that the code has on its way: the channels a and b, and the nodes whose heartbeats go out
-    pub views-read : (a b sets missed views : List ℕ) (u sent : ℕ) → a ≡ channelOf n (heartbeatSent w count 0) → b ≡ channelOf n (heartbeatSent w count 1)
+    pub views-read : (a b sets missed views : List ℕ) (u sent : ℕ) → a ≡ channelOf n (heartbeatPut w count 0) → b ≡ channelOf n (heartbeatPut w count 1)
         → u ≡ w .members ∪ w .joining → sent ≡ u ∖ lost
         → ((q : ℕ) → q < n → getD views q 0 ≡ viewRead n count (sent ∖ getD missed q 0) a b (getD sets q 0) q)
         → (q : ℕ) → q < n → getD views q 0 ≡ viewAt n sets (w .members ∖ lost) (w .joining ∖ lost) missed q
     views-read a b sets missed views u sent ea eb eu es seen q h =
         seen q h ∙ ap₂ (λ (x y : List ℕ). viewRead n count (sent ∖ getD missed q 0) x y (getD sets q 0) q) ea eb
-        ∙ ap (λ (x : ℕ). viewRead n count (x ∖ getD missed q 0) (channelOf n (heartbeatSent w count 0)) (channelOf n (heartbeatSent w count 1)) (getD sets q 0) q) (es ∙ ap (λ (x : ℕ). x ∖ lost) eu)
+        ∙ ap (λ (x : ℕ). viewRead n count (x ∖ getD missed q 0) (channelOf n (heartbeatPut w count 0)) (channelOf n (heartbeatPut w count 1)) (getD sets q 0) q) (es ∙ ap (λ (x : ℕ). x ∖ lost) eu)
         ∙ view-read q (getD sets q 0) (getD missed q 0)

@@ -37,14 +37,14 @@ channelOf (suc n) sent = withSent n (sent n) (channelOf n sent)
 -- ---- what each node sends
 
 -- "Heartbeat: a member sends one with join 0, a joining node with join 1, an out node nothing." "its heartbeats have sync and startup 0"
-abbrev pub heartbeatSent : Roles → ℕ → ℕ → ℕ → Option (List ℕ)
-heartbeatSent w count channel q =
+abbrev pub heartbeatPut : Roles → ℕ → ℕ → ℕ → Option (List ℕ)
+heartbeatPut w count channel q =
     cond (has q (w .members)) (some (heartbeatFrame q 0 0 0 count channel))
     (cond (has q (w .joining)) (some (heartbeatFrame q 1 0 0 count channel)) none)
 
 -- "A member's vote is G, M, B and V. Joining nodes do not vote."
-abbrev pub voteSent : List ℕ → List ℕ → List ℕ → List ℕ → ℕ → ℕ → ℕ → ℕ → Option (List ℕ)
-voteSent numbers sets bases views members count channel q =
+abbrev pub votePut : List ℕ → List ℕ → List ℕ → List ℕ → ℕ → ℕ → ℕ → ℕ → Option (List ℕ)
+votePut numbers sets bases views members count channel q =
     cond (has q members) (some (voteFrame q (voteAt numbers sets bases views q) count channel)) none
 
 -- ---- what a unit reads: `reach` are the nodes whose frame reaches it, a and b the channels

@@ -8,7 +8,7 @@ ghost use Rattle.framing.specs.Units.{isAlive, isJoin};
 ghost use Rattle.framing.specs.Run.{framesLength};
 ghost use Rattle.parts.specs.Parts.{withPart};
 ghost use Rattle.roles.specs.Decided.{viewAt};
-ghost use Rattle.channels.specs.Channels.{withFrame, withSent, channelOf, heartbeatSent, heartbeatRead, aliveRead, joinRead, viewRead};
+ghost use Rattle.channels.specs.Channels.{withFrame, withSent, channelOf, heartbeatPut, heartbeatRead, aliveRead, joinRead, viewRead};
 use frames::HeartbeatReceived;
 use roles::Roles;
 
@@ -36,7 +36,7 @@ pub fn put(channel: [u8; 2304], q: usize, x: &[u8]) -> [u8; 2304]
 // Rule 2: the heartbeat of node q, if it sends one.
 fn put_heartbeat(all: [u8; 2304], w: Roles, count: u32, channel: u32, q: usize) -> [u8; 2304]
     requires { ⌜ (q < 64) × (count < 64) ⌝ }
-    ensures { λ r. ⌜ r ≡ withSent q (heartbeatSent w count channel q) all ⌝ }
+    ensures { λ r. ⌜ r ≡ withSent q (heartbeatPut w count channel q) all ⌝ }
 {
     if sets::contains(w.members, q) {
         put(
@@ -57,7 +57,7 @@ fn put_heartbeat(all: [u8; 2304], w: Roles, count: u32, channel: u32, q: usize) 
 
 fn heartbeats(n: usize, w: Roles, count: u32, channel: u32) -> [u8; 2304]
     requires { ⌜ (n ≤ 64) × (count < 64) ⌝ }
-    ensures { λ r. ⌜ r ≡ channelOf n (heartbeatSent w count channel) ⌝ }
+    ensures { λ r. ⌜ r ≡ channelOf n (heartbeatPut w count channel) ⌝ }
 {
     let mut all = [0u8; 2304];
     let mut q: usize = 0;
@@ -166,7 +166,7 @@ pub fn heartbeat_phase(
     requires { ⌜ length (now frames) ≡ framesLength ⌝ }
     requires { ⌜ ((p : ℕ) → has p (w .joining) ≡ true → has p (w .members) ≡ false) ⌝ }
     ensures { λ r. ⌜ ((q : ℕ) → q < n → getD r q 0 ≡ viewAt n (now (sets .entry)) (w .members ∖ lost) (w .joining ∖ lost) (now (missed .entry)) q) ⌝ }
-    ensures { λ _. ⌜ now (frames .exit) ≡ withPart 2304 (channelOf n (heartbeatSent w count 1)) (withPart 0 (channelOf n (heartbeatSent w count 0)) (now (frames .entry))) ⌝ }
+    ensures { λ _. ⌜ now (frames .exit) ≡ withPart 2304 (channelOf n (heartbeatPut w count 1)) (withPart 0 (channelOf n (heartbeatPut w count 0)) (now (frames .entry))) ⌝ }
 {
     let a = heartbeats(n, w, count, 0);
     let b = heartbeats(n, w, count, 1);

@@ -1,26 +1,22 @@
 -- A bus that delivers carries its fault record; the bus that a record makes delivers. Assumes nothing.
 use mathlib.Core.Path.{_≡_, refl, sym, ap, ap₂, _∙_}
-use mathlib.Core.Logic.{_⊎_, inl, inr}
-use mathlib.Core.Bool.{Bool, true, false, not, _&&_, _||_, cond}
+use mathlib.Core.Bool.{Bool, true, false, _&&_, cond}
 use mathlib.Core.List.{List, []}
-use mathlib.Core.Option.{Option, none, some}
+use mathlib.Core.Option.{none, some}
 use Prim.Native.Nat.{ℕ, _^_, _≤_, _<_}
 use native.Mathlib.Omega.{arith}
 use lib.Dec.{eqb, ltb, lit<, lit≤}
 use borrow.Author.Tests.{eq-eqb}
 use Rattle.sets.specs.Sets.{has, subset, below}
-use Rattle.sets.proofs.Booleans.{bool, and-l, and-r, eqb-self, eqb-true, ltb-lt, ltb-le}
-use Rattle.sets.proofs.Membership.{set-ext}
-use Rattle.sets.proofs.Nodes.{has-below}
+use Rattle.sets.proofs.Booleans.{and-l, and-r, ltb-lt}
 use Rattle.state.specs.declared.Group.{Group}
 use Rattle.state.specs.declared.State.{State}
 use Rattle.state.specs.declared.State.the-variants.{Out, Joining, Member}
 use Rattle.state.specs.State.{formedSets, formedState}
 use Rattle.rules.specs.declared.Vote.{Vote}
 use Rattle.rules.specs.declared.Faults.{Faults}
-use Rattle.rules.specs.OneCycle.{Config, stopped, stopAndStart, sendsMember, sendsJoin, viewOf}
-use Rattle.rules.specs.Faults.{Row, at, tabulate, ruleOne, heartbeatReaches, voteReaches, arriveIf, cycle}
-use Rattle.rules.proofs.Rows.{get-tabulate}
+use Rattle.rules.specs.OneCycle.{Config, sendsMember, viewOf}
+use Rattle.rules.specs.Faults.{Row, at, ruleOne, heartbeatReaches, voteReaches, arriveIf, cycle}
 use Rattle.rules.proofs.States.{some-inj}
 use Rattle.rules.proofs.Votes.{view-own, view-below, vote-self}
 use Rattle.formed.proofs.Formed.{FormedRow, rule-one-formed}
@@ -29,12 +25,11 @@ use Rattle.frames.specs.declared.Fault.the-variants.{Length}
 use Rattle.frames.specs.declared.HeartbeatRead.the-variants as beat
 use Rattle.frames.specs.declared.HeartbeatReceived.the-variants as beats
 use Rattle.frames.specs.declared.VoteRead.the-variants as vote
-use Rattle.frames.specs.declared.VoteReceived.{VoteReceived}
 use Rattle.frames.specs.declared.VoteReceived.the-variants as votes
 use Rattle.frames.specs.Written.{heartbeatFrame, voteFrame, formedVote}
 use Rattle.frames.specs.Read.{wrongLength, faultOf, readHeartbeat, readVote, receiveHeartbeat, receiveVote}
 use Rattle.frames.proofs.RoundTrip.{joinAnswer, heartbeat-back, vote-back}
-use Rattle.framing.specs.Units.{Copies, Bus, heartbeatSent, heartbeatAt, unitHears, isAlive, isJoin, unitVote, voteCast, voteSent, voteAt, received, unitsCycle}
+use Rattle.framing.specs.Units.{Copies, Bus, heartbeatSent, heartbeatGot, unitHears, isAlive, isJoin, unitVote, voteCast, voteSent, voteGot, received, unitsCycle}
 use Rattle.framing.specs.Faulty.{copyIf, heartbeatsOf, votesOf, busOf, framedCycle}
 use Rattle.framing.specs.Carried.{heartbeatKind, Carries, Came, on-both, on-a, on-b, on-none, HeartbeatRefused, VoteRefused, HeartbeatSent, VoteSent, sendsHeartbeat, Delivers}
 use Rattle.framing.proofs.Follow.{units-follow}
@@ -92,7 +87,7 @@ module _ (C : Config) (count : ℕ) (few : C .nodes ≤ 64) (counted : count < 6
 
   pub beat-came : (p q : ℕ) → p < N → (s : State) (t : Bool)
       → Came (HeartbeatSent count p s) (HeartbeatRefused count p) (bus .heartbeats p q 0) (bus .heartbeats p q 1) (sendsHeartbeat s && t)
-      → heartbeatAt count (bus .heartbeats) q p ≡ cond t (heartbeatKind s) beats.Missed
+      → heartbeatGot count (bus .heartbeats) q p ≡ cond t (heartbeatKind s) beats.Missed
   beat-came p q l (Out z) t k =
       nothing-came (readHeartbeat p count) beat.Refused receiveHeartbeat beats.Missed (λ f g. refl) (HeartbeatSent count p (Out z)) _ _ k ∙ go t
     where
@@ -107,7 +102,7 @@ module _ (C : Config) (count : ℕ) (few : C .nodes ≤ 64) (counted : count < 6
       (beat-back p 0 l (lit< tt)) refl (λ f. refl) (λ f. refl) t k
 
   no-ballot : (p q : ℕ) (t : Bool) (s : State) → Came (VoteSent N count (bus .heartbeats) p s) (VoteRefused N count p) (bus .votes p q 0) (bus .votes p q 1) false
-      → received (voteAt N count (bus .votes) q p) ≡ arriveIf t none
+      → received (voteGot N count (bus .votes) q p) ≡ arriveIf t none
   no-ballot p q t s k = ap received (nothing-came (readVote N p count) vote.Refused receiveVote votes.Missed (λ f g. refl) (VoteSent N count (bus .heartbeats) p s) _ _ k) ∙ go t
     where
       go : (t : Bool) → none ≡ arriveIf t none
@@ -116,7 +111,7 @@ module _ (C : Config) (count : ℕ) (few : C .nodes ≤ 64) (counted : count < 6
 
   pub ballot-came : (p q : ℕ) → p < N → (s : State) (t : Bool) → formedState p N s ≡ true
       → Came (VoteSent N count (bus .heartbeats) p s) (VoteRefused N count p) (bus .votes p q 0) (bus .votes p q 1) (sendsMember s && t)
-      → received (voteAt N count (bus .votes) q p) ≡ arriveIf t (voteCast N count (bus .heartbeats) p s)
+      → received (voteGot N count (bus .votes) q p) ≡ arriveIf t (voteCast N count (bus .heartbeats) p s)
   ballot-came p q l (Out z) t w k = no-ballot p q t (Out z) k
   ballot-came p q l Joining t w k = no-ballot p q t Joining k
   ballot-came p q l (Member g) t w k =

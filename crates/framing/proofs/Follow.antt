@@ -1,9 +1,8 @@
 -- On a bus that carries a fault record the units' cycle is the rules' cycle under that record. Assumes nothing.
 use mathlib.Core.Path.{_≡_, refl, sym, ap, ap₂, _∙_}
-use mathlib.Core.Bool.{Bool, true, false, not, _&&_, _||_, cond}
-use mathlib.Core.List.{List}
+use mathlib.Core.Bool.{Bool, true, false, not, _&&_, cond}
 use mathlib.Core.Option.{Option, none, some}
-use Prim.Native.Nat.{ℕ, _≤_, _<_}
+use Prim.Native.Nat.{ℕ, _<_}
 use lib.Dec.{eqb, ltb}
 use lib.ListN.{getD}
 use Rattle.sets.specs.Sets.{has, any}
@@ -15,13 +14,13 @@ use Rattle.state.specs.declared.State.{State}
 use Rattle.state.specs.declared.State.the-variants.{Out, Joining, Member}
 use Rattle.rules.specs.declared.Vote.{Vote}
 use Rattle.rules.specs.declared.Faults.{Faults}
-use Rattle.rules.specs.OneCycle.{Config, Ballots, sendsMember, sendsJoin, viewOf, wins, memberOn, rival, memberDecides, joinerDecides}
-use Rattle.rules.specs.Faults.{Row, at, tabulate, ruleOne, heartbeatReaches, voteReaches, heard, ownVote, voteOf, votes, arriveIf, arrivedAt, decides, decisions, cycle}
+use Rattle.rules.specs.OneCycle.{Config, Ballots, sendsMember, sendsJoin, wins, memberOn, rival, memberDecides, joinerDecides}
+use Rattle.rules.specs.Faults.{Row, at, ruleOne, heartbeatReaches, voteReaches, heard, ownVote, voteOf, votes, arriveIf, arrivedAt, decides, decisions, cycle}
 use Rattle.rules.proofs.Rows.{get-tabulate, get-tabulate-out, tabulate-ext}
 use Rattle.rules.proofs.Votes.{view-others}
 use Rattle.frames.specs.declared.HeartbeatReceived.{HeartbeatReceived}
-use Rattle.frames.specs.declared.HeartbeatReceived.the-variants.{Missed, Alive, Join}
-use Rattle.framing.specs.Units.{Bus, heartbeatAt, isAlive, isJoin, unitHears, unitVote, voteCast, voteAt, received, unitBallots, unitDecides, unitsCycle}
+use Rattle.frames.specs.declared.HeartbeatReceived.the-variants.{Missed}
+use Rattle.framing.specs.Units.{Bus, heartbeatGot, isAlive, isJoin, unitHears, unitVote, voteCast, voteGot, received, unitBallots, unitDecides, unitsCycle}
 use Rattle.framing.specs.Carried.{heartbeatKind, Carries}
 
 module _ (C : Config) (count : ℕ) (bus : Bus) (c : Faults) (r : Row) (carried : Carries C count bus c r) where
@@ -33,8 +32,8 @@ module _ (C : Config) (count : ℕ) (bus : Bus) (c : Faults) (r : Row) (carried 
       → (q x : ℕ) → q < N → x < N → eqb x q ≡ false → has x (unitHears N count (bus .heartbeats) kind q) ≡ has x (heard N c r sends q)
   unfolding unitHears heard
   hears kind sends same q x lq lx o =
-      those-in x N (λ p. not (eqb p q) && kind (heartbeatAt count (bus .heartbeats) q p)) lx
-      ∙ ap (λ (b : Bool). not b && kind (heartbeatAt count (bus .heartbeats) q x)) o
+      those-in x N (λ p. not (eqb p q) && kind (heartbeatGot count (bus .heartbeats) q p)) lx
+      ∙ ap (λ (b : Bool). not b && kind (heartbeatGot count (bus .heartbeats) q x)) o
       ∙ ap kind (carried .beats x q lx lq o)
       ∙ same (heartbeatReaches c x q) (at r x)
       ∙ sym (those-in x N (λ p. sends (at r p) && heartbeatReaches c p q) lx)
@@ -82,13 +81,13 @@ module _ (C : Config) (count : ℕ) (bus : Bus) (c : Faults) (r : Row) (carried 
       nothing true = refl
       nothing false = refl
 
-      go : (low : Bool) → ltb p N ≡ low → cond (ltb p N && not (eqb p q)) (received (voteAt N count (bus .votes) q p)) none ≡ arriveIf (voteReaches c p q) (getD (votes C c r) p none)
+      go : (low : Bool) → ltb p N ≡ low → cond (ltb p N && not (eqb p q)) (received (voteGot N count (bus .votes) q p)) none ≡ arriveIf (voteReaches c p q) (getD (votes C c r) p none)
       go true e =
-          ap₂ (λ (a b : Bool). cond (a && not b) (received (voteAt N count (bus .votes) q p)) none) e o
+          ap₂ (λ (a b : Bool). cond (a && not b) (received (voteGot N count (bus .votes) q p)) none) e o
           ∙ carried .ballots p q (ltb-lt e) l o
           ∙ ap (arriveIf (voteReaches c p q)) (cast-is p (at r p) (ltb-lt e) ∙ sym (get-tabulate N p (λ x. voteOf C c r x (at r x)) none (ltb-lt e)))
       go false e =
-          ap (λ (a : Bool). cond (a && not (eqb p q)) (received (voteAt N count (bus .votes) q p)) none) e
+          ap (λ (a : Bool). cond (a && not (eqb p q)) (received (voteGot N count (bus .votes) q p)) none) e
           ∙ nothing (voteReaches c p q)
           ∙ ap (arriveIf (voteReaches c p q)) (sym (get-tabulate-out N p (λ x. voteOf C c r x (at r x)) none (ltb-le e)))
 
@@ -96,8 +95,8 @@ module _ (C : Config) (count : ℕ) (bus : Bus) (c : Faults) (r : Row) (carried 
   own-none : (q : ℕ) → q < N → at r q ≡ Joining → mine q q ≡ theirs q q
   unfolding unitBallots votes
   own-none q l e =
-      ap (λ (b : Bool). cond (ltb q N && not b) (received (voteAt N count (bus .votes) q q)) none) (eqb-self q)
-      ∙ nothing (ltb q N) (voteReaches c q q) (received (voteAt N count (bus .votes) q q))
+      ap (λ (b : Bool). cond (ltb q N && not b) (received (voteGot N count (bus .votes) q q)) none) (eqb-self q)
+      ∙ nothing (ltb q N) (voteReaches c q q) (received (voteGot N count (bus .votes) q q))
       ∙ ap (arriveIf (voteReaches c q q)) (sym (get-tabulate N q (λ x. voteOf C c r x (at r x)) none l ∙ ap (voteOf C c r q) e))
     where
       nothing : (low reach : Bool) (o : Option Vote) → cond (low && false) o none ≡ arriveIf reach none

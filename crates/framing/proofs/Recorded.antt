@@ -3,27 +3,27 @@ use mathlib.Core.Path.{_≡_, refl, sym, ap, ap₂, _∙_, subst}
 use mathlib.Core.Logic.{_⊎_, inl, inr}
 use mathlib.Core.Bool.{Bool, true, false, not, _&&_, _||_, cond}
 use mathlib.Core.List.{List}
-use mathlib.Core.Option.{Option, none, some}
+use mathlib.Core.Option.{Option}
 use Prim.Native.Nat.{ℕ, _≤_, _<_}
-use lib.Dec.{eqb, ltb, lit<}
+use lib.Dec.{eqb, lit<}
 use lib.ListN.{getD}
 use Rattle.sets.specs.Sets.{has, those}
-use Rattle.sets.proofs.Booleans.{and-l, and-r, and-i, not-e, not-i, ltb-lt, ltb-true}
+use Rattle.sets.proofs.Booleans.{and-i}
 use Rattle.sets.proofs.Membership.{has-none}
 use Rattle.sets.proofs.Nodes.{those-in}
 use Rattle.state.specs.declared.State.{State}
 use Rattle.state.specs.declared.State.the-variants.{Out, Joining, Member}
 use Rattle.rules.specs.declared.Faults.{Faults}
-use Rattle.rules.specs.OneCycle.{Config, stopped, stopAndStart, sendsMember, sendsJoin}
-use Rattle.rules.specs.Faults.{Row, at, tabulate, ruleOne, reaches, heartbeatReaches, voteReaches, arriveIf, cycle}
+use Rattle.rules.specs.OneCycle.{Config, stopped, stopAndStart, sendsMember}
+use Rattle.rules.specs.Faults.{Row, at, tabulate, ruleOne, reaches, arriveIf, cycle}
 use Rattle.rules.proofs.Rows.{get-tabulate}
 use Rattle.rules.proofs.States.{none-some}
 use Rattle.rules.specs.declared.Vote.{Vote}
 use Rattle.formed.proofs.Formed.{FormedRow, rule-one-formed}
 use Rattle.frames.specs.declared.HeartbeatReceived.{HeartbeatReceived}
 use Rattle.frames.specs.declared.HeartbeatReceived.the-variants as beats
-use Rattle.framing.specs.Units.{Bus, Copies, heartbeatSent, heartbeatAt, voteCast, voteSent, voteAt, received, unitsCycle}
-use Rattle.framing.specs.Carried.{Came, on-both, on-a, on-b, on-none, HeartbeatSent, HeartbeatRefused, VoteSent, VoteRefused, sendsHeartbeat, heartbeatKind, Carries}
+use Rattle.framing.specs.Units.{Bus, Copies, heartbeatGot, voteCast, voteGot, received, unitsCycle}
+use Rattle.framing.specs.Carried.{Came, on-both, on-a, on-b, on-none, HeartbeatSent, VoteSent, sendsHeartbeat, heartbeatKind, Carries}
 use Rattle.framing.specs.Recorded.{Sound, isMissed, isNone, recordOf}
 use Rattle.framing.proofs.Follow.{units-follow}
 use Rattle.framing.proofs.Delivered.{beat-came, ballot-came}
@@ -91,17 +91,17 @@ module _ (C : Config) (count : ℕ) (few : C .nodes ≤ 64) (counted : count < 6
             let x = sound .beats p q 0 lp lq o (lit< tt) in
             let y = sound .beats p q 1 lp lq o (lit< tt) in
             let k = if-sent (sendsHeartbeat (at r p)) (left x || left y) (λ channel z h. beat-speaks count p channel z (at r p) h) (of-copies x y) in
-            heard (left x || left y) (at r p) (heartbeatAt count (bus .heartbeats) q p) (beat-came C count few counted bus c p q lp (at r p) (left x || left y) k)
-            ∙ ap (λ (b : Bool). cond b (heartbeatKind (at r p)) beats.Missed) (sym (reaches-by N p q (λ y x. not (eqb x y) && sendsHeartbeat (now x) && isMissed (heartbeatAt count (bus .heartbeats) y x)) lp lq
-            ∙ ap₂ (λ (a : Bool) (s : State). not (not a && sendsHeartbeat s && isMissed (heartbeatAt count (bus .heartbeats) q p))) o (sym (now-is p lp))));
+            heard (left x || left y) (at r p) (heartbeatGot count (bus .heartbeats) q p) (beat-came C count few counted bus c p q lp (at r p) (left x || left y) k)
+            ∙ ap (λ (b : Bool). cond b (heartbeatKind (at r p)) beats.Missed) (sym (reaches-by N p q (λ y x. not (eqb x y) && sendsHeartbeat (now x) && isMissed (heartbeatGot count (bus .heartbeats) y x)) lp lq
+            ∙ ap₂ (λ (a : Bool) (s : State). not (not a && sendsHeartbeat s && isMissed (heartbeatGot count (bus .heartbeats) q p))) o (sym (now-is p lp))));
         ballots = λ p q lp lq o.
             let x = sound .ballots p q 0 lp lq o (lit< tt) in
             let y = sound .ballots p q 1 lp lq o (lit< tt) in
             let k = if-sent (sendsMember (at r p)) (left x || left y) (λ channel z h. vote-speaks N count (bus .heartbeats) p channel z (at r p) h) (of-copies x y) in
-            arrived p (left x || left y) (at r p) (received (voteAt N count (bus .votes) q p))
+            arrived p (left x || left y) (at r p) (received (voteGot N count (bus .votes) q p))
             (ballot-came C count few counted bus c p q lp (at r p) (left x || left y) (rule-one-formed N c row formed p lp) k)
-            ∙ ap (λ (b : Bool). arriveIf b (voteCast N count (bus .heartbeats) p (at r p))) (sym (reaches-by N p q (λ y x. not (eqb x y) && sendsMember (now x) && isNone (received (voteAt N count (bus .votes) y x))) lp lq
-            ∙ ap₂ (λ (a : Bool) (s : State). not (not a && sendsMember s && isNone (received (voteAt N count (bus .votes) q p)))) o (sym (now-is p lp))));
+            ∙ ap (λ (b : Bool). arriveIf b (voteCast N count (bus .heartbeats) p (at r p))) (sym (reaches-by N p q (λ y x. not (eqb x y) && sendsMember (now x) && isNone (received (voteGot N count (bus .votes) y x))) lp lq
+            ∙ ap₂ (λ (a : Bool) (s : State). not (not a && sendsMember s && isNone (received (voteGot N count (bus .votes) q p)))) o (sym (now-is p lp))));
       }
     where
       heard : (t : Bool) (s : State) (got : HeartbeatReceived) → got ≡ cond t (heartbeatKind s) beats.Missed

@@ -1,7 +1,7 @@
 -- A run through frames gives, after every cycle, the states that the fault table alone gives. Assumes nothing.
-use mathlib.Core.Path.{_≡_, refl, sym, ap, ap₂, _∙_, subst}
+use mathlib.Core.Path.{_≡_, refl, ap, _∙_}
 use mathlib.Core.List.{List, [], _∷_}
-use Prim.Native.Nat.{ℕ, suc, _-_, _%_, _≤_, _<_}
+use Prim.Native.Nat.{ℕ, suc, _-_, _≤_}
 use native.Mathlib.Nat.{mod-lt}
 use lib.Dec.{lit<}
 use Rattle.rules.specs.declared.Faults.{Faults}
@@ -9,7 +9,6 @@ use Rattle.rules.specs.OneCycle.{Config}
 use Rattle.rules.specs.Faults.{Row, cycle}
 use Rattle.rules.specs.Reference.{Cluster, step, after}
 use Rattle.formed.proofs.Formed.{FormedRow, cycle-formed}
-use Rattle.framing.specs.Faulty.{framedCycle}
 use Rattle.framing.specs.Run.{cycleCount, framedRows, plainRows, lastRow}
 use Rattle.framing.proofs.Delivered.{framed-is-plain}
 

@@ -17,7 +17,7 @@ use Rattle.frames.specs.declared.VoteRead.the-variants as vote
 use Rattle.frames.specs.declared.HeartbeatReceived.{HeartbeatReceived}
 use Rattle.frames.specs.declared.HeartbeatReceived.the-variants.{Missed, Alive, Join}
 use Rattle.frames.specs.Read.{readHeartbeat, readVote}
-use Rattle.framing.specs.Units.{Copies, Bus, heartbeatSent, heartbeatAt, voteCast, voteSent, voteAt, received}
+use Rattle.framing.specs.Units.{Copies, Bus, heartbeatSent, heartbeatGot, voteCast, voteSent, voteGot, received}
 
 -- ---- a bus that carries a record: what a unit makes of the two copies of another's frame is what was sent if it reaches, and missed if not. r is the row after rule 1
 
@@ -28,9 +28,9 @@ heartbeatKind (Member g) = Alive
 
 pub record Carries (C : Config) (count : ℕ) (bus : Bus) (c : Faults) (r : Row) : Type 0 where
   pub beats : (p q : ℕ) → p < C .nodes → q < C .nodes → eqb p q ≡ false
-      → heartbeatAt count (bus .heartbeats) q p ≡ cond (heartbeatReaches c p q) (heartbeatKind (at r p)) Missed
+      → heartbeatGot count (bus .heartbeats) q p ≡ cond (heartbeatReaches c p q) (heartbeatKind (at r p)) Missed
   pub ballots : (p q : ℕ) → p < C .nodes → q < C .nodes → eqb p q ≡ false
-      → received (voteAt (C .nodes) count (bus .votes) q p) ≡ arriveIf (voteReaches c p q) (voteCast (C .nodes) count (bus .heartbeats) p (at r p))
+      → received (voteGot (C .nodes) count (bus .votes) q p) ≡ arriveIf (voteReaches c p q) (voteCast (C .nodes) count (bus .heartbeats) p (at r p))
 
 -- ---- what came of one frame in its copies a and b: each is the frame as sent on that channel, or bytes that reading refuses (none, cut, damaged, a null frame, a
 -- frame of another cycle or unit); it came if one at least is as sent

@@ -14,7 +14,7 @@ use Rattle.rules.specs.OneCycle.{Config, stopAndStart, sendsMember}
 use Rattle.rules.specs.Faults.{Row, at, tabulate}
 use Rattle.frames.specs.declared.HeartbeatReceived.{HeartbeatReceived}
 use Rattle.frames.specs.declared.HeartbeatReceived.the-variants.{Missed, Alive, Join}
-use Rattle.framing.specs.Units.{Bus, heartbeatAt, voteAt, received}
+use Rattle.framing.specs.Units.{Bus, heartbeatGot, voteGot, received}
 use Rattle.framing.specs.Carried.{HeartbeatSent, HeartbeatRefused, VoteSent, VoteRefused, sendsHeartbeat}
 
 -- ---- a bus on which every copy is the frame as sent on that channel, or is refused by reading; r is the row after rule 1
@@ -46,6 +46,6 @@ recordOf N count bus stop start row =
       start = start;
       «heartbeat_lost» = 0;
       «vote_lost» = 0;
-      «heartbeat_missed» = tabulate N (λ q. those N (λ p. not (eqb p q) && sendsHeartbeat (now p) && isMissed (heartbeatAt count (bus .heartbeats) q p)));
-      «vote_missed» = tabulate N (λ q. those N (λ p. not (eqb p q) && sendsMember (now p) && isNone (received (voteAt N count (bus .votes) q p))));
+      «heartbeat_missed» = tabulate N (λ q. those N (λ p. not (eqb p q) && sendsHeartbeat (now p) && isMissed (heartbeatGot count (bus .heartbeats) q p)));
+      «vote_missed» = tabulate N (λ q. those N (λ p. not (eqb p q) && sendsMember (now p) && isNone (received (voteGot N count (bus .votes) q p))));
     }

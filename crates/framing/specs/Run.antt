@@ -7,7 +7,7 @@ use lib.ListN.{length, replicate}
 use Rattle.rules.specs.declared.Faults.{Faults}
 use Rattle.rules.specs.OneCycle.{Config}
 use Rattle.rules.specs.Faults.{Row, at, ruleOne, cycle}
-use Rattle.framing.specs.Units.{Bus, heartbeatSent, voteSent}
+use Rattle.framing.specs.Units.{heartbeatSent, voteSent}
 use Rattle.framing.specs.Faulty.{present, busOf, framedCycle}
 
 -- "Cycle n of a run has cycle count n - 1 modulo 64"
@@ -33,16 +33,16 @@ lastRow row (r ∷ rs) = lastRow r rs
 abbrev pub padded : Option (List ℕ) → List ℕ
 padded sent = present sent ++ replicate (36 - length (present sent)) 0
 
-unfoldable pub slots : ℕ → (ℕ → Option (List ℕ)) → List ℕ
-slots zero sent = []
-slots (suc n) sent = slots n sent ++ padded (sent n)
+unfoldable pub inSlots : ℕ → (ℕ → Option (List ℕ)) → List ℕ
+inSlots zero sent = []
+inSlots (suc n) sent = inSlots n sent ++ padded (sent n)
 
 unfoldable pub heartbeatsShown : Config → (count : ℕ) → Faults → Row → (channel : ℕ) → List ℕ
-heartbeatsShown C count c row channel = slots 64 (λ q. heartbeatSent 0 0 count q (at (ruleOne (C .nodes) c row) q) channel)
+heartbeatsShown C count c row channel = inSlots 64 (λ q. heartbeatSent 0 0 count q (at (ruleOne (C .nodes) c row) q) channel)
 
 unfoldable pub votesShown : Config → (count : ℕ) → Faults → Row → (channel : ℕ) → List ℕ
 votesShown C count c row channel =
-    slots 64 (λ q. voteSent (C .nodes) count (busOf C count c row .heartbeats) q (at (ruleOne (C .nodes) c row) q) channel)
+    inSlots 64 (λ q. voteSent (C .nodes) count (busOf C count c row .heartbeats) q (at (ruleOne (C .nodes) c row) q) channel)
 
 -- heartbeats on A and on B, votes on A and on B
 unfoldable pub framesShown : Config → (count : ℕ) → Faults → Row → List ℕ

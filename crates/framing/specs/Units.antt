@@ -40,8 +40,8 @@ heartbeatSent sync startup count q (Member g) channel = some (heartbeatFrame q 0
 
 -- ---- "A unit reads both channels.": what unit q makes of the two copies of the heartbeat of p
 
-abbrev pub heartbeatAt : (count : ℕ) → Copies → (q p : ℕ) → HeartbeatReceived
-heartbeatAt count h q p = receiveHeartbeat (readHeartbeat p count 0 (h p q 0)) (readHeartbeat p count 1 (h p q 1))
+abbrev pub heartbeatGot : (count : ℕ) → Copies → (q p : ℕ) → HeartbeatReceived
+heartbeatGot count h q p = receiveHeartbeat (readHeartbeat p count 0 (h p q 0)) (readHeartbeat p count 1 (h p q 1))
 
 -- heard with join 0, and with join 1
 abbrev pub isAlive : HeartbeatReceived → Bool
@@ -56,7 +56,7 @@ isJoin beats.Join = true
 
 -- the other units of which unit q receives a heartbeat of the given kind: a unit does not listen to itself
 unfoldable pub unitHears : (N count : ℕ) → Copies → (HeartbeatReceived → Bool) → (q : ℕ) → ℕ
-unitHears N count h kind q = those N (λ p. not (eqb p q) && kind (heartbeatAt count h q p))
+unitHears N count h kind q = those N (λ p. not (eqb p q) && kind (heartbeatGot count h q p))
 
 -- ---- rules 3 and 4: its view and its vote, "G, M, B and V. Joining nodes do not vote.", and the vote frame for a channel
 
@@ -77,15 +77,15 @@ voteSent N count h q s channel = voteFramed count q (voteCast N count h q s) cha
 
 -- ---- the votes of the others that unit q reads, on both channels
 
-abbrev pub voteAt : (N count : ℕ) → Copies → (q p : ℕ) → VoteReceived
-voteAt N count v q p = receiveVote (readVote N p count 0 (v p q 0)) (readVote N p count 1 (v p q 1))
+abbrev pub voteGot : (N count : ℕ) → Copies → (q p : ℕ) → VoteReceived
+voteGot N count v q p = receiveVote (readVote N p count 0 (v p q 0)) (readVote N p count 1 (v p q 1))
 
 abbrev pub received : VoteReceived → Option Vote
 received votes.Missed = none
 received (votes.Whole v) = some v
 
 unfoldable pub unitBallots : (N count : ℕ) → Copies → (q : ℕ) → Ballots
-unitBallots N count v q p = cond (ltb p N && not (eqb p q)) (received (voteAt N count v q p)) none
+unitBallots N count v q p = cond (ltb p N && not (eqb p q)) (received (voteGot N count v q p)) none
 
 -- ---- rules 5 and 6
 

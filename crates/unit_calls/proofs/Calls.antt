@@ -22,7 +22,7 @@ use Rattle.rules.specs.OneCycle.{stopped, stopAndStart, sendsMember, viewOf}
 use Rattle.frames.specs.declared.HeartbeatReceived.{HeartbeatReceived}
 use Rattle.frames.specs.declared.HeartbeatReceived.the-variants as beats
 use Rattle.frames.specs.Written.{heartbeatFrame}
-use Rattle.framing.specs.Units.{Copies, heartbeatSent, heartbeatAt, isAlive, isJoin, unitHears, voteFramed, voteSent}
+use Rattle.framing.specs.Units.{Copies, heartbeatSent, heartbeatGot, isAlive, isJoin, unitHears, voteFramed, voteSent}
 use Rattle.framing.specs.Carried.{sendsHeartbeat}
 use Rattle.lent.specs.Refusals.{wrongIndicators, wrongCycle, wrongChannel}
 use Rattle.lent.proofs.Bounds.{sending-bounds}
@@ -80,10 +80,10 @@ join-code beats.Join = refl
 
 -- ---- what a unit hears of another, by its bit
 
-pub hears-bit : (n count : ℕ) (h : Copies) (kind : HeartbeatReceived → Bool) (p q : ℕ) → p < n → eqb p q ≡ false → has p (unitHears n count h kind q) ≡ kind (heartbeatAt count h q p)
+pub hears-bit : (n count : ℕ) (h : Copies) (kind : HeartbeatReceived → Bool) (p q : ℕ) → p < n → eqb p q ≡ false → has p (unitHears n count h kind q) ≡ kind (heartbeatGot count h q p)
 unfolding unitHears
 hears-bit n count h kind p q l o =
-    those-in p n (λ y. not (eqb y q) && kind (heartbeatAt count h q y)) l ∙ ap (λ (b : Bool). not b && kind (heartbeatAt count h q p)) o
+    those-in p n (λ y. not (eqb y q) && kind (heartbeatGot count h q y)) l ∙ ap (λ (b : Bool). not b && kind (heartbeatGot count h q p)) o
 
 -- ---- node q of n in a state s
 

@@ -10,7 +10,7 @@ use Rattle.framing.specs.Units.{Bus}
 use Rattle.framing.specs.Carried.{Came, on-both, on-a, on-b, on-none, HeartbeatRefused, VoteRefused}
 use Rattle.framing.specs.Recorded.{recordOf}
 use Rattle.unit_calls.specs.Entries.{Entries}
-use Rattle.unit_calls.specs.Cycle.{beatsOf, votesOf, Wrote, sends, CycleDone, Pressed, none, next, SoundDone, SoundPressed}
+use Rattle.unit_calls.specs.Cycle.{beatsWritten, votesWritten, Wrote, sends, CycleDone, Pressed, none, next, SoundDone, SoundPressed}
 
 -- what came of a frame says of each copy that it is as sent or refused
 came-copies : (Sent Refused : ℕ → List ℕ → Type 0) (copies : ℕ → List ℕ) (t : Bool) → Came Sent Refused (copies 0) (copies 1) t
@@ -31,9 +31,9 @@ cycle-sound E n count c bus x z d =
       counted = d .counted;
       parts = d .parts;
       beats = λ p q channel lp lq o.
-          came-copies (Wrote (beatsOf (d .parts p lp))) (HeartbeatRefused count p) (bus .heartbeats p q) (sends (beatsOf (d .parts p lp)) && heartbeatReaches c p q) (d .beats p q lp lq o) channel;
+          came-copies (Wrote (beatsWritten (d .parts p lp))) (HeartbeatRefused count p) (bus .heartbeats p q) (sends (beatsWritten (d .parts p lp)) && heartbeatReaches c p q) (d .beats p q lp lq o) channel;
       ballots = λ p q channel lp lq o.
-          came-copies (Wrote (votesOf (d .parts p lp))) (VoteRefused n count p) (bus .votes p q) (sends (votesOf (d .parts p lp)) && voteReaches c p q) (d .ballots p q lp lq o) channel;
+          came-copies (Wrote (votesWritten (d .parts p lp))) (VoteRefused n count p) (bus .votes p q) (sends (votesWritten (d .parts p lp)) && voteReaches c p q) (d .ballots p q lp lq o) channel;
     }
 
 pub pressed-sound : (E : Entries) (n : ℕ) (row : Row) (cs : List Faults) (x z : ℕ → List ℕ) → Pressed E n cs x z → (ds : List Faults) × SoundPressed E n row ds x z

@@ -26,7 +26,7 @@ use Rattle.frames.specs.declared.VoteReceived.{VoteReceived}
 use Rattle.frames.specs.declared.VoteReceived.the-variants.{Missed, Whole}
 use Rattle.frames.specs.Written.{votePayload}
 use Rattle.frames.proofs.Lengths.{length-payload}
-use Rattle.framing.specs.Units.{Bus, Copies, heartbeatSent, voteSent, heartbeatAt, isAlive, isJoin, unitHears, unitVote, voteCast, voteFramed}
+use Rattle.framing.specs.Units.{Bus, Copies, heartbeatSent, voteSent, heartbeatGot, isAlive, isJoin, unitHears, unitVote, voteCast, voteFramed}
 use Rattle.framing.specs.Faulty.{copyIf, heartbeatsOf, votesOf, busOf}
 use Rattle.framing.specs.Carried.{Came, on-both, on-none, HeartbeatRefused, VoteRefused, sendsHeartbeat}
 use Rattle.framing.proofs.Delivered.{no-heartbeat, no-vote}
@@ -224,7 +224,7 @@ module _ (n count : ℕ) (two : 2 ≤ n) (few : n ≤ 64) (counted : count < 64)
       place = placed n q two few l
 
       r : ℕ → HeartbeatReceived
-      r p = heartbeatAt count (bus .heartbeats) q p
+      r p = heartbeatGot count (bus .heartbeats) q p
 
       all : Collected E n count (λ p. bus .votes p q) (upto n) (replicate 1792 0) 0 (bufferAfter q) (arrivedAfter q) × Lift {0, 1} (length (bufferAfter q) ≡ 1792)
       all = collects E had n count two few counted (λ p. bus .votes p q) n (replicate 1792 0) 0 (omega arith) (length-replicate {A = ℕ} 1792 0)

@@ -88,13 +88,13 @@ Parts E n count stop start bus x z = (q : ℕ) → q < n → Part E n count stop
 abbrev pub noFrames : ℕ → Frame
 noFrames channel = record { sent = 0; bytes = [] }
 
-abbrev pub beatsOf : {E : Entries} {n count stop start : ℕ} {bus : Bus} {q : ℕ} {x z : List ℕ} → Part E n count stop start bus q x z → ℕ → Frame
-beatsOf (calls d) = d .heartbeat
-beatsOf (rests k a b e) = noFrames
+abbrev pub beatsWritten : {E : Entries} {n count stop start : ℕ} {bus : Bus} {q : ℕ} {x z : List ℕ} → Part E n count stop start bus q x z → ℕ → Frame
+beatsWritten (calls d) = d .heartbeat
+beatsWritten (rests k a b e) = noFrames
 
-abbrev pub votesOf : {E : Entries} {n count stop start : ℕ} {bus : Bus} {q : ℕ} {x z : List ℕ} → Part E n count stop start bus q x z → ℕ → Frame
-votesOf (calls d) = d .vote
-votesOf (rests k a b e) = noFrames
+abbrev pub votesWritten : {E : Entries} {n count stop start : ℕ} {bus : Bus} {q : ℕ} {x z : List ℕ} → Part E n count stop start bus q x z → ℕ → Frame
+votesWritten (calls d) = d .vote
+votesWritten (rests k a b e) = noFrames
 
 -- x was written for the channel; and whether there are frames, on both channels alike
 abbrev pub Wrote : (ℕ → Frame) → ℕ → List ℕ → Type 0
@@ -110,10 +110,10 @@ pub record CycleDone (E : Entries) (n count : ℕ) (c : Faults) (bus : Bus) (x z
   pub counted : count < 64
   pub parts : Parts E n count (c .stop) (c .start) bus x z
   pub beats : (p q : ℕ) (l : p < n) → q < n → eqb p q ≡ false
-      → Came (Wrote (beatsOf (parts p l))) (HeartbeatRefused count p) (bus .heartbeats p q 0) (bus .heartbeats p q 1)
-      (sends (beatsOf (parts p l)) && heartbeatReaches c p q)
+      → Came (Wrote (beatsWritten (parts p l))) (HeartbeatRefused count p) (bus .heartbeats p q 0) (bus .heartbeats p q 1)
+      (sends (beatsWritten (parts p l)) && heartbeatReaches c p q)
   pub ballots : (p q : ℕ) (l : p < n) → q < n → eqb p q ≡ false
-      → Came (Wrote (votesOf (parts p l))) (VoteRefused n count p) (bus .votes p q 0) (bus .votes p q 1) (sends (votesOf (parts p l)) && voteReaches c p q)
+      → Came (Wrote (votesWritten (parts p l))) (VoteRefused n count p) (bus .votes p q 0) (bus .votes p q 1) (sends (votesWritten (parts p l)) && voteReaches c p q)
 
 -- cycles, one after the other, each with a cycle count and a bus of its own
 pub data Pressed (E : Entries) (n : ℕ) : List Faults → (ℕ → List ℕ) → (ℕ → List ℕ) → Type 1 where
@@ -128,9 +128,9 @@ pub record SoundDone (E : Entries) (n count stop start : ℕ) (bus : Bus) (x z :
   pub counted : count < 64
   pub parts : Parts E n count stop start bus x z
   pub beats : (p q channel : ℕ) (l : p < n) → q < n → eqb p q ≡ false → channel < 2
-      → Wrote (beatsOf (parts p l)) channel (bus .heartbeats p q channel) ⊎ HeartbeatRefused count p channel (bus .heartbeats p q channel)
+      → Wrote (beatsWritten (parts p l)) channel (bus .heartbeats p q channel) ⊎ HeartbeatRefused count p channel (bus .heartbeats p q channel)
   pub ballots : (p q channel : ℕ) (l : p < n) → q < n → eqb p q ≡ false → channel < 2
-      → Wrote (votesOf (parts p l)) channel (bus .votes p q channel) ⊎ VoteRefused n count p channel (bus .votes p q channel)
+      → Wrote (votesWritten (parts p l)) channel (bus .votes p q channel) ⊎ VoteRefused n count p channel (bus .votes p q channel)
 
 -- cycles, one after the other, from a row that the rules give: the record of each says what came (`recordOf`), and the next row is the rules' cycle under it
 pub data SoundPressed (E : Entries) (n : ℕ) : Row → List Faults → (ℕ → List ℕ) → (ℕ → List ℕ) → Type 1 where

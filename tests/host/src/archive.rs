@@ -82,7 +82,7 @@ macro_rules! linked {
             fn $decide(state: *mut u8, state_len: usize, heard0: u64, heard1: u64, votes: *const u8, votes_len: usize, arrived: u64) -> u32;
             fn $cycle(n: u32, row: *mut u8, row_len: usize, record: *const u8, record_len: usize) -> u32;
             fn $run(row: *mut u8, row_len: usize, table: *const u8, table_len: usize) -> u32;
-            fn $run_frames(row: *mut u8, row_len: usize, table: *const u8, table_len: usize) -> u32;
+            fn $run_frames(row: *mut u8, row_len: usize, table: *const u8, table_len: usize, frames: *mut u8, frames_len: usize) -> u32;
         }
 
         // SAFETY, of every call below: the pointers and lengths are those of slices and references that live through the call and do not overlap.
@@ -147,8 +147,8 @@ macro_rules! linked {
                 unsafe { $run(row.as_mut_ptr(), row.len(), table.as_ptr(), table.len()) }
             }
 
-            fn run_frames(&self, row: &mut [u8], table: &[u8]) -> u32 {
-                unsafe { $run_frames(row.as_mut_ptr(), row.len(), table.as_ptr(), table.len()) }
+            fn run_frames(&self, row: &mut [u8], table: &[u8], frames: &mut [u8]) -> u32 {
+                unsafe { $run_frames(row.as_mut_ptr(), row.len(), table.as_ptr(), table.len(), frames.as_mut_ptr(), frames.len()) }
             }
         }
     };

@@ -451,19 +451,24 @@ pub fn good_vote(random: &mut Random, n: usize, node: usize, cycle: u32, channel
     vote_frame(node, &vote, cycle, channel)
 }
 
+/// the faults of a cycle in one of three styles: always, mostly or never just a few marks, so that the promise is kept for longer
+pub fn faults_in_style(random: &mut Random, n: usize, style: usize) -> Faults {
+    let mut faults = faults(random, n);
+    if style == 0 || style == 1 && !random.once_in(3) {
+        faults = Faults::none();
+        for _ in 0..random.below(3) {
+            mark(random, n, &mut faults);
+        }
+    }
+    faults
+}
+
 /// a table with `cycles` cycles
 pub fn table(random: &mut Random, n: usize, cycles: usize) -> Vec<u8> {
     let mut bytes = write_first(n as u8, founding(random, n));
     let style = random.below(3);
     for _ in 0..cycles {
-        let mut faults = faults(random, n);
-        if style == 0 || style == 1 && !random.once_in(3) {
-            // few marks, so that the promise is kept for longer
-            faults = Faults::none();
-            for _ in 0..random.below(3) {
-                mark(random, n, &mut faults);
-            }
-        }
+        let faults = faults_in_style(random, n, style);
         if faults.missed_heartbeat.iter().chain(&faults.missed_vote).filter(|mask| **mask != 0).count() <= 128 {
             bytes.extend(write_cycle(&faults));
         }

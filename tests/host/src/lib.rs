@@ -9,6 +9,11 @@ pub mod generate;
 pub mod paper;
 pub mod random;
 
+/// bytes as a report shows them
+pub fn hex(bytes: &[u8]) -> String {
+    bytes.iter().map(|byte| format!("{byte:02x}")).collect()
+}
+
 /// The sixteen entries of include/gm.h, on slices. The paper's implementation and the archive each give them.
 pub trait NodeEnd {
     fn begin(&self, n: u32, node: u32, founding: u64, state: &mut [u8]) -> u32;
@@ -31,5 +36,5 @@ pub trait NodeEnd {
     fn decide(&self, state: &mut [u8], heard0: u64, heard1: u64, votes: &[u8], arrived: u64) -> u32;
     fn cycle(&self, n: u32, row: &mut [u8], record: &[u8]) -> u32;
     fn run(&self, row: &mut [u8], table: &[u8]) -> u32;
-    fn run_frames(&self, row: &mut [u8], table: &[u8]) -> u32;
+    fn run_frames(&self, row: &mut [u8], table: &[u8], frames: &mut [u8]) -> u32;
 }

@@ -8,11 +8,12 @@ use host::paper::entries::Paper;
 use host::paper::faults::Faults;
 use host::paper::frames::{arrived_votes, frame, header_of, heartbeat, vote_frame, HEARTBEAT_BYTES, VOTES_BYTES, VOTE_BYTES, VOTE_FRAME_BYTES};
 use host::paper::rules::{fits, rule3, Heard, Vote};
+use host::paper::run::FRAMES_BYTES;
 use host::paper::sets::{all, has, only, size};
 use host::paper::state::{beginning_from, image, row_image, Group, Reason, State, Unit};
 use host::paper::table::{write_cycle, write_first};
 use host::random::Random;
-use host::NodeEnd;
+use host::{hex, NodeEnd};
 use std::collections::{BTreeMap, BTreeSet, HashSet};
 
 const ENTRIES: [&str; 16] = [
@@ -34,6 +35,8 @@ const ENTRIES: [&str; 16] = [
     "run_frames",
 ];
 const GUARD: usize = 16;
+/// for the frames of a run, where nothing hangs on what stands in it before
+const FILLED_FRAMES: [u8; FRAMES_BYTES] = [7; FRAMES_BYTES];
 
 /// a buffer to be lent, at any address, with bytes around it that nobody may write
 #[derive(Clone, PartialEq)]
@@ -67,10 +70,6 @@ struct Outcome {
     status: u32,
     results: Vec<u64>,
     buffers: Vec<Lent>,
-}
-
-fn hex(bytes: &[u8]) -> String {
-    bytes.iter().map(|byte| format!("{byte:02x}")).collect()
 }
 
 struct Compare {
@@ -264,10 +263,10 @@ impl Compare {
         (status, row)
     }
 
-    fn run_frames(&mut self, row: &[u8], table: &[u8]) -> (u32, Vec<u8>) {
-        let (status, _, row) = self.both("run_frames", &[], &[], &[table, row], |by, _, b| {
-            let [table, row] = b else { unreachable!() };
-            by.run_frames(row.lend(), table.get())
+    fn run_frames(&mut self, row: &[u8], table: &[u8], frames: &[u8]) -> (u32, Vec<u8>) {
+        let (status, _, row) = self.both("run_frames", &[], &[], &[table, frames, row], |by, _, b| {
+            let [table, frames, row] = b else { unreachable!() };
+            by.run_frames(row.lend(), table.get(), frames.lend())
         });
         (status, row)
     }
@@ -393,7 +392,7 @@ fn lengths(compare: &mut Compare) {
         compare.receive_heartbeat([5, 1, 9], &long, &beat, 7);
         compare.cycle(5, &filled, &write_cycle(&Faults::none()));
         compare.run(&filled, &write_first(5, 0x1f));
-        compare.run_frames(&filled, &write_first(5, 0x1f));
+        compare.run_frames(&filled, &write_first(5, 0x1f), &FILLED_FRAMES);
     }
     for len in (0..=VOTES_BYTES + 40).filter(|len| len % 17 == 0 || len.abs_diff(VOTES_BYTES) < 30) {
         let mut slots = votes.clone();
@@ -405,8 +404,27 @@ fn lengths(compare: &mut Compare) {
         for entries in [0, 1, n.saturating_sub(1), n, n + 1, 63, 64, 65] {
             let row = vec![9; 24 * entries];
             compare.run(&row, &write_first(n as u8, 1));
-            compare.run_frames(&row, &write_first(n as u8, 1));
+            compare.run_frames(&row, &write_first(n as u8, 1), &FILLED_FRAMES);
             compare.cycle(n as u32, &row, &write_cycle(&Faults::none()));
+        }
+    }
+}
+
+/// a buffer for frames of another length, with a table and row that are right, and that are refused before it and after it
+fn lengths_of_frames(compare: &mut Compare) {
+    let clean = write_cycle(&Faults::none());
+    let table = |n: u8, founding: u64| [&write_first(n, founding)[..], &clean].concat();
+    let (right, row) = (table(2, 3), [9; 48]);
+    let cut_later = &right[..right.len() - 1];
+    let wrong_kind = [&right[..], &right].concat();
+    let tables = [&right, &right[..12], &right[..11], &right[..2], cut_later, &wrong_kind, &table(1, 1), &table(65, 1), &table(2, 0), &table(2, 4)];
+    let near = FRAMES_BYTES - 40..=FRAMES_BYTES + 40;
+    let far = [0, 1, 10, 36, 48, 1792, FRAMES_BYTES / 4, FRAMES_BYTES / 2, 9 * 1024 + 256, 2 * FRAMES_BYTES, (1 << 16) + FRAMES_BYTES];
+    for len in near.chain(far) {
+        let frames = vec![7; len];
+        for table in tables {
+            compare.run_frames(&row, table, &frames);
+            compare.run_frames(&row[1..], table, &frames);
         }
     }
 }
@@ -485,7 +503,7 @@ fn cut_at_each_byte(compare: &mut Compare) {
         for len in (0..table.len()).filter(|len| len % step == 0) {
             compare.run(&row, &table[..len]);
             if n < 64 {
-                compare.run_frames(&row, &table[..len]);
+                compare.run_frames(&row, &table[..len], &FILLED_FRAMES);
             }
         }
         let press = Press::new(&mut compare.random, n);
@@ -517,7 +535,7 @@ fn every_bit_of_a_mask(compare: &mut Compare) {
         compare.begin(n as u32, 1, bit, &[7; 24]);
         compare.begin(n as u32, 1, bit | 1, &[7; 24]);
         compare.run(&row, &write_first(n as u8, bit));
-        compare.run_frames(&row, &write_first(n as u8, bit | 3));
+        compare.run_frames(&row, &write_first(n as u8, bit | 3), &FILLED_FRAMES);
         for k in 0..5 {
             let part = |place: usize, other: u64| if place == k { other ^ bit } else { other };
             let vote = Vote { group: Group { number: 5, set: part(0, 2), base: part(1, part(0, 3)) }, view: part(2, 2) };
@@ -545,7 +563,7 @@ fn every_count_and_entry(compare: &mut Compare) {
             compare.run(&row, &table);
             // a cycle of 64 nodes through frames takes some milliseconds
             if n < 10 {
-                compare.run_frames(&row, &table);
+                compare.run_frames(&row, &table, &FILLED_FRAMES);
             }
         };
         for count in 0..=255_u8 {
@@ -831,8 +849,10 @@ fn a_table(compare: &mut Compare) {
     let row = random.bytes(len);
     let (status, left) = compare.run(&row, &table);
     if frames {
-        let (framed, framed_left) = compare.run_frames(&row, &table);
-        assert!((status, &left) == (framed, &framed_left), "the paper's run through frames is another run");
+        let buffer = lent_buffer(&mut compare.random, FRAMES_BYTES);
+        let (framed, framed_left) = compare.run_frames(&row, &table, &buffer);
+        let same = (status, &left) == (framed, &framed_left);
+        assert!(same || buffer.len() != FRAMES_BYTES, "the paper's run through frames is another run");
     }
     if status == 0 && cycles < 12 {
         let starts = make::record_starts(&table);
@@ -856,6 +876,7 @@ fn main() {
     let mut compare = Compare { random: Random::new(seed), counts: [[0; 16]; 16], shift: 0, given: BTreeMap::new() };
     counts_and_numbers(&mut compare);
     lengths(&mut compare);
+    lengths_of_frames(&mut compare);
     every_bit_of_an_image(&mut compare);
     every_bit_of_a_frame(&mut compare);
     cut_at_each_byte(&mut compare);

@@ -7,6 +7,7 @@ use host::paper::frames::{
     frame, heartbeat, vote_frame, vote_header, vote_payload, Header, HEARTBEAT_BYTES, VOTES_BYTES, VOTE_BYTES, VOTE_FRAME_BYTES,
 };
 use host::paper::rules::Vote;
+use host::paper::run::FRAMES_BYTES;
 use host::paper::sets::{all, only, Set};
 use host::paper::state::{beginning, image, row_image, Group, State, Unit, IMAGE_BYTES};
 use host::paper::table::{cycle_length, FIRST_BYTES};
@@ -101,9 +102,9 @@ fn call(name: &str, n: usize, status: u32, len: usize, call: &dyn Fn(&dyn NodeEn
     print_row(name, n, Shown::Nanoseconds, time(&Operation { name, n, status, len, call }));
 }
 
-/// one call is many cycles
-fn cycles(name: &str, n: usize, count: usize, call: &dyn Fn(&dyn NodeEnd, &mut [u8]) -> u32) {
-    let operation = Operation { name, n, status: 0, len: n * IMAGE_BYTES, call };
+/// one call is many cycles; it leaves `len` bytes
+fn cycles(name: &str, n: usize, count: usize, len: usize, call: &dyn Fn(&dyn NodeEnd, &mut [u8]) -> u32) {
+    let operation = Operation { name, n, status: 0, len, call };
     print_row(name, n, Shown::CyclesPerSecond, time(&operation).map(|time| time / count as f64));
 }
 
@@ -282,7 +283,7 @@ fn single_cycles(places: &Places, n: usize, mode: usize) {
     let table = places.make_table(n, CYCLES, mode);
     let begun = row_image(&beginning(n, all(n)));
     let records = records(&table);
-    cycles(&format!("cycle, {}", FAULTS[mode]), n, CYCLES, &|hand, row| {
+    cycles(&format!("cycle, {}", FAULTS[mode]), n, CYCLES, n * IMAGE_BYTES, &|hand, row| {
         row.copy_from_slice(&begun);
         records.iter().map(|record| hand.cycle(n as u32, row, record)).max().unwrap_or(0)
     });
@@ -290,12 +291,15 @@ fn single_cycles(places: &Places, n: usize, mode: usize) {
 
 fn run(places: &Places, n: usize, mode: usize) {
     let table = places.make_table(n, CYCLES, mode);
-    cycles(&format!("run, {}", FAULTS[mode]), n, CYCLES, &|hand, row| hand.run(row, &table));
+    cycles(&format!("run, {}", FAULTS[mode]), n, CYCLES, n * IMAGE_BYTES, &|hand, row| hand.run(row, &table));
 }
 
 fn framed_run(places: &Places, n: usize, mode: usize) {
     let table = places.make_table(n, FRAMED_CYCLES, mode);
-    cycles(&format!("run through frames, {}", FAULTS[mode]), n, FRAMED_CYCLES, &|hand, row| hand.run_frames(row, &table));
+    cycles(&format!("run through frames, {}", FAULTS[mode]), n, FRAMED_CYCLES, n * IMAGE_BYTES + FRAMES_BYTES, &|hand, left| {
+        let (row, frames) = left.split_at_mut(n * IMAGE_BYTES);
+        hand.run_frames(row, &table, frames)
+    });
 }
 
 fn programs(places: &Places, n: usize, mode: usize) {

@@ -6,7 +6,7 @@ use super::frames::{
     VOTES_BYTES, VOTE_BYTES, VOTE_FRAME_BYTES,
 };
 use super::rules::{decide, rule1, rule2, rule3, rule4, Heard, Vote};
-use super::run::{run, run_frames};
+use super::run::{run, run_frames, FRAMES_BYTES};
 use super::sets::{all, inside, only};
 use super::state::{beginning, image, read_image, read_row, row_image, Group, State, Unit, IMAGE_BYTES};
 use super::table::{cycle_length, cycle_record, table};
@@ -197,12 +197,19 @@ impl NodeEnd for Paper {
     }
 
     fn run(&self, row: &mut [u8], bytes: &[u8]) -> u32 {
-        let answer = table(bytes, Some(row.len()));
+        let answer = table(bytes, |n| row.len() != n * IMAGE_BYTES);
         status(answer, |(n, founding, cycles)| row.copy_from_slice(&row_image(&run(n, founding, &cycles))))
     }
 
-    fn run_frames(&self, row: &mut [u8], bytes: &[u8]) -> u32 {
-        let answer = table(bytes, Some(row.len()));
-        status(answer, |(n, founding, cycles)| row.copy_from_slice(&row_image(&run_frames(n, founding, &cycles))))
+    /// the place of the frames' length is that of the row's
+    fn run_frames(&self, row: &mut [u8], bytes: &[u8], frames: &mut [u8]) -> u32 {
+        let answer = table(bytes, |n| row.len() != n * IMAGE_BYTES || frames.len() != FRAMES_BYTES);
+        status(answer, |(n, founding, cycles)| {
+            let (states, sent) = run_frames(n, founding, &cycles);
+            row.copy_from_slice(&row_image(&states));
+            if let Some(sent) = sent {
+                frames.copy_from_slice(&sent.shown());
+            }
+        })
     }
 }

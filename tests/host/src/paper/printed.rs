@@ -44,7 +44,7 @@ pub fn printed_by(table: &[u8], mistake: Option<Mistake>) -> String {
 }
 
 fn lines(table: &[u8], mistake: Option<Mistake>, text: &mut String) -> Result<(), u32> {
-    let (n, founding, mut rest) = first_record(table, None)?;
+    let (n, founding, mut rest) = first_record(table, |_| false)?;
     let (mut row, mut record, mut number) = (beginning(n, founding), Record::beginning(founding), 0);
     while !rest.is_empty() {
         let (faults, after): (Faults, &[u8]) = cycle_record(n, rest)?;

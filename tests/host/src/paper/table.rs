@@ -29,8 +29,9 @@ fn all_there(bytes: &[u8], len: usize) -> Answer<(&[u8], &[u8])> {
     }
 }
 
-/// "Kind 1, first and only once: N (1 byte), founding set (8)." Gives N, the founding set and what follows. A run lends a row of `row_bytes`.
-pub fn first_record(bytes: &[u8], row_bytes: Option<usize>) -> Answer<(usize, Set, &[u8])> {
+/// "Kind 1, first and only once: N (1 byte), founding set (8)." Gives N, the founding set and what follows. Whether a buffer that a run lends has another
+/// length than this N asks for, `wrong_length` says.
+pub fn first_record(bytes: &[u8], wrong_length: impl Fn(usize) -> bool) -> Answer<(usize, Set, &[u8])> {
     begins_with_kind(bytes, 1)?;
     let (record, rest) = all_there(bytes, FIRST_BYTES)?;
     let (n, founding) = (usize::from(record[3]), number(&record[4..12]));
@@ -39,7 +40,7 @@ pub fn first_record(bytes: &[u8], row_bytes: Option<usize>) -> Answer<(usize, Se
         return Err(1);
     }
     // "then 3 for a run's row"
-    if row_bytes.is_some_and(|len| len != 24 * n) {
+    if wrong_length(n) {
         return Err(3);
     }
     // "then 13": "founding set empty; a bit .. beyond its limit"
@@ -90,8 +91,8 @@ fn entry_into(n: usize, entry: &[u8], faults: &mut Faults) -> Answer<()> {
 }
 
 /// a whole table: N, the founding set and the cycles, or the first refusal
-pub fn table(bytes: &[u8], row_bytes: Option<usize>) -> Answer<(usize, Set, Vec<Faults>)> {
-    let (n, founding, mut rest) = first_record(bytes, row_bytes)?;
+pub fn table(bytes: &[u8], wrong_length: impl Fn(usize) -> bool) -> Answer<(usize, Set, Vec<Faults>)> {
+    let (n, founding, mut rest) = first_record(bytes, wrong_length)?;
     let mut cycles = Vec::new();
     while !rest.is_empty() {
         let (faults, after) = cycle_record(n, rest)?;
