@@ -1,21 +1,21 @@
 -- Every bus on which each copy is as sent or refused carries a fault record: the one that says what came. Assumes nothing.
 use mathlib.Core.Path.{_≡_, refl, sym, ap, ap₂, _∙_, subst}
 use mathlib.Core.Logic.{_⊎_, inl, inr}
-use mathlib.Core.Bool.{Bool, true, false, not, _&&_, _||_, cond}
+use mathlib.Core.Bool.{Bool, true, false, not, _&&_, _||_, cond, false≢true}
 use mathlib.Core.List.{List}
 use mathlib.Core.Option.{Option}
 use Prim.Native.Nat.{ℕ, _≤_, _<_}
-use lib.Dec.{eqb, lit<}
+use lib.Dec.{eqb, ltb, lit<}
 use lib.ListN.{getD}
-use Rattle.sets.specs.Sets.{has, those}
-use Rattle.sets.proofs.Booleans.{and-i}
-use Rattle.sets.proofs.Membership.{has-none}
-use Rattle.sets.proofs.Nodes.{those-in}
+use Rattle.sets.specs.Sets.{has, single, _∖_, any}
+use Rattle.sets.proofs.Booleans.{and-i, ltb-lt}
+use Rattle.sets.proofs.Membership.{has-diff, has-none, set-ext}
+use Rattle.sets.proofs.Nodes.{has-those, those-in, any-i}
 use Rattle.state.specs.declared.State.{State}
 use Rattle.state.specs.declared.State.the-variants.{Out, Joining, Member}
 use Rattle.rules.specs.declared.Faults.{Faults}
-use Rattle.rules.specs.OneCycle.{Config, stopped, stopAndStart, sendsMember}
-use Rattle.rules.specs.Faults.{Row, at, tabulate, ruleOne, reaches, arriveIf, cycle}
+use Rattle.rules.specs.OneCycle.{Config, stopped, sendsMember}
+use Rattle.rules.specs.Faults.{Row, at, tabulate, ruleOne, reaches, missesOther, disturbed, arriveIf, cycle}
 use Rattle.rules.proofs.Rows.{get-tabulate}
 use Rattle.rules.proofs.States.{none-some}
 use Rattle.rules.specs.declared.Vote.{Vote}
@@ -24,7 +24,7 @@ use Rattle.frames.specs.declared.HeartbeatReceived.{HeartbeatReceived}
 use Rattle.frames.specs.declared.HeartbeatReceived.the-variants as beats
 use Rattle.framing.specs.Units.{Bus, Copies, heartbeatGot, voteCast, voteGot, received, unitsCycle}
 use Rattle.framing.specs.Carried.{Came, on-both, on-a, on-b, on-none, HeartbeatSent, VoteSent, sendsHeartbeat, heartbeatKind, Carries}
-use Rattle.framing.specs.Recorded.{Sound, isMissed, isNone, recordOf}
+use Rattle.framing.specs.Recorded.{Sound, lostOf, missedOf, isHeard, isSome, beatHeard, voteTaken, ruledAt, recordOf, Untouched}
 use Rattle.framing.proofs.Follow.{units-follow}
 use Rattle.framing.proofs.Delivered.{beat-came, ballot-came}
 
@@ -61,10 +61,67 @@ vote-speaks N count h p channel z (Out r) k = absurd (none-some k)
 vote-speaks N count h p channel z Joining k = absurd (none-some k)
 vote-speaks N count h p channel z (Member g) k = refl
 
-reaches-by : (N p q : ℕ) (f : ℕ → ℕ → Bool) → p < N → q < N → reaches 0 (getD (tabulate N (λ x. those N (f x))) q 0) p ≡ not (f q p)
-unfolding reaches
-reaches-by N p q f lp lq =
-    ap₂ (λ (a b : Bool). not a && not b) (has-none p) (ap (has p) (get-tabulate N q (λ x. those N (f x)) 0 lq) ∙ those-in p N (f q) lp)
+-- ---- the marks of one phase
+
+module _ (N : ℕ) (sent : ℕ → Bool) (got : ℕ → ℕ → Bool) where
+  -- whether the frame of p came to another unit
+  abbrev cameTo : ℕ → Bool
+  cameTo p = any N (λ x. not (eqb p x) && got x p)
+
+  lost-at : (p : ℕ) → p < N → has p (lostOf N sent got) ≡ (sent p && not (cameTo p))
+  unfolding lostOf
+  lost-at p l = those-in p N (λ x. sent x && not (cameTo x)) l
+
+  missed-at : (p q : ℕ) → p < N → has p (missedOf N sent got q) ≡ (not (eqb p q) && sent p && not (got q p) && not (sent p && not (cameTo p)))
+  unfolding missedOf
+  missed-at p q l =
+      those-in p N (λ x. not (eqb x q) && sent x && not (got q x) && not (has x (lostOf N sent got))) l
+      ∙ ap (λ (b : Bool). not (eqb p q) && sent p && not (got q p) && not b) (lost-at p l)
+
+  -- a frame reaches another unit by these marks unless it was sent and the unit made nothing of it
+  reaches-by : (p q : ℕ) → p < N → q < N → eqb p q ≡ false → reaches (lostOf N sent got) (getD (tabulate N (missedOf N sent got)) q 0) p ≡ not (sent p && not (got q p))
+  unfolding reaches
+  reaches-by p q lp lq o =
+      ap₂ (λ (a b : Bool). not a && not b) (lost-at p lp) (ap (has p) (get-tabulate N q (missedOf N sent got) 0 lq) ∙ missed-at p q lp)
+      ∙ ap (λ (e : Bool). not (sent p && not (cameTo p)) && not (not e && sent p && not (got q p) && not (sent p && not (cameTo p)))) o
+      ∙ go (sent p) (got q p) (cameTo p) (λ g. any-i N q (λ x. not (eqb p x) && got x p) lq (ap₂ (λ (a b : Bool). not a && b) o g))
+    where
+      go : (s g a : Bool) → (g ≡ true → a ≡ true) → (not (s && not a) && not (true && s && not g && not (s && not a))) ≡ not (s && not g)
+      go false g a h = refl
+      go true true true h = refl
+      go true true false h = absurd (false≢true (h refl))
+      go true false true h = refl
+      go true false false h = refl
+
+  -- a unit that is untouched in this phase has no mark
+  module _ (q : ℕ) (l : q < N) (calm : Untouched N sent got q) where
+    not-lost : has q (lostOf N sent got) ≡ false
+    not-lost = lost-at q l ∙ go (sent q) (cameTo q) (calm .heard)
+      where
+        go : (s a : Bool) → (s ≡ true → a ≡ true) → (s && not a) ≡ false
+        go true a h = ap not (h refl)
+        go false a h = refl
+
+    none-missed : missesOther q (getD (tabulate N (missedOf N sent got)) q 0) ≡ false
+    unfolding missedOf
+    none-missed =
+        ap (λ (m : ℕ). not (eqb m 0)) (ap (λ (m : ℕ). m ∖ single q) (get-tabulate N q (missedOf N sent got) 0 l) ∙ set-ext (λ x. has-diff x (missedOf N sent got q) (single q) ∙ ap (λ (b : Bool). b && not (has x (single q))) (clear x) ∙ sym (has-none x)))
+      where
+        nothing : (e s g a : Bool) → (e ≡ false → s ≡ true → a ≡ true → g ≡ true) → (not e && s && not g && not (s && not a)) ≡ false
+        nothing true s g a h = refl
+        nothing false false g a h = refl
+        nothing false true true a h = refl
+        nothing false true false true h = absurd (false≢true (h refl refl refl))
+        nothing false true false false h = refl
+
+        clear : (x : ℕ) → has x (missedOf N sent got q) ≡ false
+        clear x = go (ltb x N) refl
+          where
+            go : (low : Bool) → ltb x N ≡ low → has x (missedOf N sent got q) ≡ false
+            go true e = missed-at x q (ltb-lt e) ∙ nothing (eqb x q) (sent x) (got q x) (cameTo x) (λ o s a. calm .hears x (ltb-lt e) o s a)
+            go false e = has-those x N (λ y. not (eqb y q) && sent y && not (got q y) && not (has y (lostOf N sent got))) ∙ ap (λ (b : Bool). b && (not (eqb x q) && sent x && not (got q x) && not (has x (lostOf N sent got)))) e
+
+-- ---- a sound bus carries the record of what came
 
 module _ (C : Config) (count : ℕ) (few : C .nodes ≤ 64) (counted : count < 64) (bus : Bus) (stop start : ℕ) (row : Row) (formed : FormedRow (C .nodes) row) where
   abbrev N : ℕ
@@ -76,15 +133,12 @@ module _ (C : Config) (count : ℕ) (few : C .nodes ≤ 64) (counted : count < 6
   abbrev r : Row
   r = ruleOne N c row
 
-  now : ℕ → State
-  now p = stopAndStart (has p stop) (has p start) (at row p)
-
-  now-is : (p : ℕ) → p < N → at r p ≡ now p
-  unfolding recordOf ruleOne now
-  now-is p l = get-tabulate N p now stopped l
+  now-is : (p : ℕ) → p < N → at r p ≡ ruledAt stop start row p
+  unfolding recordOf ruleOne
+  now-is p l = get-tabulate N p (ruledAt stop start row) stopped l
 
   pub bus-recorded : Sound C count bus r → Carries C count bus c r
-  unfolding recordOf now
+  unfolding recordOf
   bus-recorded sound =
       record {
         beats = λ p q lp lq o.
@@ -92,23 +146,23 @@ module _ (C : Config) (count : ℕ) (few : C .nodes ≤ 64) (counted : count < 6
             let y = sound .beats p q 1 lp lq o (lit< tt) in
             let k = if-sent (sendsHeartbeat (at r p)) (left x || left y) (λ channel z h. beat-speaks count p channel z (at r p) h) (of-copies x y) in
             heard (left x || left y) (at r p) (heartbeatGot count (bus .heartbeats) q p) (beat-came C count few counted bus c p q lp (at r p) (left x || left y) k)
-            ∙ ap (λ (b : Bool). cond b (heartbeatKind (at r p)) beats.Missed) (sym (reaches-by N p q (λ y x. not (eqb x y) && sendsHeartbeat (now x) && isMissed (heartbeatGot count (bus .heartbeats) y x)) lp lq
-            ∙ ap₂ (λ (a : Bool) (s : State). not (not a && sendsHeartbeat s && isMissed (heartbeatGot count (bus .heartbeats) q p))) o (sym (now-is p lp))));
+            ∙ ap (λ (b : Bool). cond b (heartbeatKind (at r p)) beats.Missed) (sym (reaches-by N (λ x. sendsHeartbeat (ruledAt stop start row x)) (beatHeard count bus) p q lp lq o
+            ∙ ap (λ (s : State). not (sendsHeartbeat s && not (beatHeard count bus q p))) (sym (now-is p lp))));
         ballots = λ p q lp lq o.
             let x = sound .ballots p q 0 lp lq o (lit< tt) in
             let y = sound .ballots p q 1 lp lq o (lit< tt) in
             let k = if-sent (sendsMember (at r p)) (left x || left y) (λ channel z h. vote-speaks N count (bus .heartbeats) p channel z (at r p) h) (of-copies x y) in
             arrived p (left x || left y) (at r p) (received (voteGot N count (bus .votes) q p))
             (ballot-came C count few counted bus c p q lp (at r p) (left x || left y) (rule-one-formed N c row formed p lp) k)
-            ∙ ap (λ (b : Bool). arriveIf b (voteCast N count (bus .heartbeats) p (at r p))) (sym (reaches-by N p q (λ y x. not (eqb x y) && sendsMember (now x) && isNone (received (voteGot N count (bus .votes) y x))) lp lq
-            ∙ ap₂ (λ (a : Bool) (s : State). not (not a && sendsMember s && isNone (received (voteGot N count (bus .votes) q p)))) o (sym (now-is p lp))));
+            ∙ ap (λ (b : Bool). arriveIf b (voteCast N count (bus .heartbeats) p (at r p))) (sym (reaches-by N (λ x. sendsMember (ruledAt stop start row x)) (voteTaken N count bus) p q lp lq o
+            ∙ ap (λ (s : State). not (sendsMember s && not (voteTaken N count bus q p))) (sym (now-is p lp))));
       }
     where
       heard : (t : Bool) (s : State) (got : HeartbeatReceived) → got ≡ cond t (heartbeatKind s) beats.Missed
-          → got ≡ cond (not (sendsHeartbeat s && isMissed got)) (heartbeatKind s) beats.Missed
-      heard t s got e = subst (λ (x : HeartbeatReceived). x ≡ cond (not (sendsHeartbeat s && isMissed x)) (heartbeatKind s) beats.Missed) (sym e) (go t s)
+          → got ≡ cond (not (sendsHeartbeat s && not (isHeard got))) (heartbeatKind s) beats.Missed
+      heard t s got e = subst (λ (x : HeartbeatReceived). x ≡ cond (not (sendsHeartbeat s && not (isHeard x))) (heartbeatKind s) beats.Missed) (sym e) (go t s)
         where
-          go : (t : Bool) (s : State) → cond t (heartbeatKind s) beats.Missed ≡ cond (not (sendsHeartbeat s && isMissed (cond t (heartbeatKind s) beats.Missed))) (heartbeatKind s) beats.Missed
+          go : (t : Bool) (s : State) → cond t (heartbeatKind s) beats.Missed ≡ cond (not (sendsHeartbeat s && not (isHeard (cond t (heartbeatKind s) beats.Missed)))) (heartbeatKind s) beats.Missed
           go true (Out z) = refl
           go true Joining = refl
           go true (Member g) = refl
@@ -117,11 +171,11 @@ module _ (C : Config) (count : ℕ) (few : C .nodes ≤ 64) (counted : count < 6
           go false (Member g) = refl
 
       arrived : (p : ℕ) (t : Bool) (s : State) (got : Option Vote) → got ≡ arriveIf t (voteCast N count (bus .heartbeats) p s)
-          → got ≡ arriveIf (not (sendsMember s && isNone got)) (voteCast N count (bus .heartbeats) p s)
-      arrived p t s got e = subst (λ (x : Option Vote). x ≡ arriveIf (not (sendsMember s && isNone x)) (voteCast N count (bus .heartbeats) p s)) (sym e) (go t s)
+          → got ≡ arriveIf (not (sendsMember s && not (isSome got))) (voteCast N count (bus .heartbeats) p s)
+      arrived p t s got e = subst (λ (x : Option Vote). x ≡ arriveIf (not (sendsMember s && not (isSome x))) (voteCast N count (bus .heartbeats) p s)) (sym e) (go t s)
         where
           go : (t : Bool) (s : State) → arriveIf t (voteCast N count (bus .heartbeats) p s)
-              ≡ arriveIf (not (sendsMember s && isNone (arriveIf t (voteCast N count (bus .heartbeats) p s)))) (voteCast N count (bus .heartbeats) p s)
+              ≡ arriveIf (not (sendsMember s && not (isSome (arriveIf t (voteCast N count (bus .heartbeats) p s))))) (voteCast N count (bus .heartbeats) p s)
           go true (Out z) = refl
           go true Joining = refl
           go true (Member g) = refl
@@ -129,9 +183,20 @@ module _ (C : Config) (count : ℕ) (few : C .nodes ≤ 64) (counted : count < 6
           go false Joining = refl
           go false (Member g) = refl
 
--- so that on every such bus the units' cycle is the rules' cycle under some record
+-- so that on every such bus the units' cycle is the rules' cycle under that record
 pub units-recorded : (C : Config) (count : ℕ) (bus : Bus) (stop start : ℕ) (row : Row) → C .nodes ≤ 64 → count < 64 → FormedRow (C .nodes) row
     → Sound C count bus (ruleOne (C .nodes) (recordOf (C .nodes) count bus stop start row) row)
     → unitsCycle C count bus (recordOf (C .nodes) count bus stop start row) row ≡ cycle C (recordOf (C .nodes) count bus stop start row) row
 units-recorded C count bus stop start row few counted formed sound =
     units-follow C count bus (recordOf (C .nodes) count bus stop start row) row (bus-recorded C count few counted bus stop start row formed sound)
+
+-- ---- whom the record leaves untouched
+
+pub recorded-untouched : (N count : ℕ) (bus : Bus) (stop start : ℕ) (row : Row) (q : ℕ) → q < N → has q stop ≡ false
+    → Untouched N (λ p. sendsHeartbeat (ruledAt stop start row p)) (beatHeard count bus) q → Untouched N (λ p. sendsMember (ruledAt stop start row p)) (voteTaken N count bus) q
+    → disturbed (recordOf N count bus stop start row) q ≡ false
+unfolding recordOf disturbed
+recorded-untouched N count bus stop start row q l runs beats votes =
+    let sent : ℕ → Bool = λ p. sendsHeartbeat (ruledAt stop start row p) in
+    let cast : ℕ → Bool = λ p. sendsMember (ruledAt stop start row p) in
+    rw (runs, not-lost N sent (beatHeard count bus) q l beats, not-lost N cast (voteTaken N count bus) q l votes, none-missed N sent (beatHeard count bus) q l beats, none-missed N cast (voteTaken N count bus) q l votes)

@@ -6,7 +6,7 @@ use mathlib.Core.Bool.{Bool, true, false, not, _&&_}
 use mathlib.Core.Option.{Option, none, some}
 use Prim.Native.Nat.{ℕ, _<_}
 use lib.Dec.{eqb}
-use Rattle.sets.specs.Sets.{has, those}
+use Rattle.sets.specs.Sets.{has, those, any}
 use Rattle.state.specs.declared.State.{State}
 use Rattle.rules.specs.declared.Vote.{Vote}
 use Rattle.rules.specs.declared.Faults.{Faults}
@@ -25,27 +25,51 @@ pub record Sound (C : Config) (count : ℕ) (bus : Bus) (r : Row) : Type 0 where
   pub ballots : (p q channel : ℕ) → p < C .nodes → q < C .nodes → eqb p q ≡ false → channel < 2
       → VoteSent (C .nodes) count (bus .heartbeats) p (at r p) channel (bus .votes p q channel) ⊎ VoteRefused (C .nodes) count p channel (bus .votes p q channel)
 
--- ---- the record that says what came: a unit misses the frames of others that were sent and of which it makes nothing. What was never sent is not marked, since
--- "Marks count even if no frame was sent."
+-- ---- the marks of one phase: `sent p` says whether unit p sent a frame, `got q p` whether unit q made anything of it
 
-abbrev pub isMissed : HeartbeatReceived → Bool
-isMissed Missed = true
-isMissed Alive = false
-isMissed Join = false
+-- what came to no other unit was lost in sending
+unfoldable pub lostOf : (N : ℕ) → (sent : ℕ → Bool) → (got : ℕ → ℕ → Bool) → ℕ
+lostOf N sent got = those N (λ p. sent p && not (any N (λ q. not (eqb p q) && got q p)))
 
-abbrev pub isNone : Option Vote → Bool
-isNone none = true
-isNone (some v) = false
+-- what came to another unit and not to q is what q missed. What was never sent is not marked, since "Marks count even if no frame was sent."
+unfoldable pub missedOf : (N : ℕ) → (sent : ℕ → Bool) → (got : ℕ → ℕ → Bool) → (q : ℕ) → ℕ
+missedOf N sent got q = those N (λ p. not (eqb p q) && sent p && not (got q p) && not (has p (lostOf N sent got)))
 
--- `stop` and `start` are who is stopped and who is started; no frame is marked as lost in sending: one that comes to nobody is missed by all others
+-- ---- the record that says what came: who sent is by the states after rule 1; `stop` and `start` are who is stopped and who is started
+
+abbrev pub isHeard : HeartbeatReceived → Bool
+isHeard Missed = false
+isHeard Alive = true
+isHeard Join = true
+
+abbrev pub isSome : Option Vote → Bool
+isSome none = false
+isSome (some v) = true
+
+abbrev pub beatHeard : (count : ℕ) → Bus → (q p : ℕ) → Bool
+beatHeard count bus q p = isHeard (heartbeatGot count (bus .heartbeats) q p)
+
+abbrev pub voteTaken : (N count : ℕ) → Bus → (q p : ℕ) → Bool
+voteTaken N count bus q p = isSome (received (voteGot N count (bus .votes) q p))
+
+-- the state of unit p after rule 1
+abbrev pub ruledAt : (stop start : ℕ) → Row → (p : ℕ) → State
+ruledAt stop start row p = stopAndStart (has p stop) (has p start) (at row p)
+
 unfoldable pub recordOf : (N count : ℕ) → Bus → (stop start : ℕ) → Row → Faults
 recordOf N count bus stop start row =
-    let now : ℕ → State = λ p. stopAndStart (has p stop) (has p start) (at row p) in
+    let beats : ℕ → Bool = λ p. sendsHeartbeat (ruledAt stop start row p) in
+    let votes : ℕ → Bool = λ p. sendsMember (ruledAt stop start row p) in
     record {
       stop = stop;
       start = start;
-      «heartbeat_lost» = 0;
-      «vote_lost» = 0;
-      «heartbeat_missed» = tabulate N (λ q. those N (λ p. not (eqb p q) && sendsHeartbeat (now p) && isMissed (heartbeatGot count (bus .heartbeats) q p)));
-      «vote_missed» = tabulate N (λ q. those N (λ p. not (eqb p q) && sendsMember (now p) && isNone (received (voteGot N count (bus .votes) q p))));
+      «heartbeat_lost» = lostOf N beats (beatHeard count bus);
+      «vote_lost» = lostOf N votes (voteTaken N count bus);
+      «heartbeat_missed» = tabulate N (missedOf N beats (beatHeard count bus));
+      «vote_missed» = tabulate N (missedOf N votes (voteTaken N count bus));
     }
+
+-- whom it leaves untouched: a unit that is not stopped, whose frames came to another unit, and to which came what came to another
+pub record Untouched (N : ℕ) (sent : ℕ → Bool) (got : ℕ → ℕ → Bool) (q : ℕ) : Type 0 where
+  pub heard : sent q ≡ true → any N (λ x. not (eqb q x) && got x q) ≡ true
+  pub hears : (p : ℕ) → p < N → eqb p q ≡ false → sent p ≡ true → any N (λ x. not (eqb p x) && got x p) ≡ true → got q p ≡ true
