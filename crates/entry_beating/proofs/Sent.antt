@@ -18,7 +18,7 @@ use Rattle.refusal.proofs.Laws.{here, next, unless-done, unless-refused}
 use Rattle.lent.specs.Refusals.{wrongCycle, wrongChannel, wrongIndicators}
 use Rattle.entry_beating.specs.Beating.{sendsByte, joinBit, sentOf, heartbeatOf, heartbeatFrom, sendHeartbeatStatus, sendHeartbeatLeft, sendHeartbeatSent}
 use Rattle.lent.proofs.Bounds.{sending-bounds}
-use Rattle.lent.proofs.Copies.{whole}
+use Rattle.parts.proofs.Copies.{whole}
 use Rattle.lent.proofs.Images.{good-place, lentConditions, other-length, by-image}
 
 -- a node that sends, and one that does not

@@ -11,7 +11,7 @@ use Rattle.state.proofs.RoundTrip.{image-length}
 use Rattle.refusal.proofs.Laws.{none, unless-done}
 use Rattle.lent.specs.Refusals.{wrongCount, wrongNode, wrongLength}
 use Rattle.lent.proofs.Bounds.{count-bounds, length-is}
-use Rattle.lent.proofs.Copies.{whole}
+use Rattle.parts.proofs.Copies.{whole}
 use Rattle.entry_begin.specs.Begin.{beginStatus, beginLeft}
 
 pub begin-bounds : (n q F : ℕ) (s : List ℕ) → beginStatus n q F s ≡ 0 → (n ≤ 64) × (q < n) × (length s ≡ 24)

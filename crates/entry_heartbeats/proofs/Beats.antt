@@ -13,7 +13,7 @@ use Rattle.refusal.proofs.Laws.{none, unless-done}
 use Rattle.lent.specs.Refusals.{wrongCount, wrongNode, wrongCycle, wrongChannel, wrongBit, wrongIndicators, wrongLength}
 use Rattle.entry_heartbeats.specs.Heartbeats.{writeHeartbeatStatus, writeHeartbeatLeft}
 use Rattle.lent.proofs.Bounds.{count-bounds, slot-bounds, indicator-bounds, length-is}
-use Rattle.lent.proofs.Copies.{whole}
+use Rattle.parts.proofs.Copies.{whole}
 
 -- what is tested of a heartbeat's numbers, in the order of the code
 pub in-order : (a b c d e : Bool) → (a || b || c || d || e) ≡ (b || (c || (a || d || e)))

@@ -10,7 +10,7 @@ use Rattle.state.specs.declared.Decoded.the-variants.{Good}
 use Rattle.state.specs.Image.{imageOf, decoded, refusal}
 use Rattle.state.proofs.RoundTrip.{image-length}
 use Rattle.lent.specs.Refusals.{imageStatus}
-use Rattle.lent.proofs.Copies.{whole}
+use Rattle.parts.proofs.Copies.{whole}
 use Rattle.lent.proofs.Images.{good-length}
 use Rattle.entry_stop_start.specs.StopStart.{stoppedAndStarted, ruleOneOf}
 

@@ -13,7 +13,7 @@ use Rattle.refusal.specs.Refusal.{unless}
 use Rattle.entry_arrivals.specs.Arrivals.{readVoteNumbers, voteRefusal, payloadOr, readVoteStatus, readVoteLeft}
 use Rattle.refusal.proofs.Laws.{unless-done, unless-refused}
 use Rattle.entry_votes.proofs.Accepted.{slotStatus, accepted}
-use Rattle.lent.proofs.Copies.{copied}
+use Rattle.parts.proofs.Copies.{copied}
 use native.Mathlib.Omega.{arith}
 use borrow.Author.Needs.{needs}
 use Rattle.entry_arrivals.proofs.read.Statement.{statement}

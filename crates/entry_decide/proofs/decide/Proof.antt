@@ -11,7 +11,7 @@ use Rattle.state.specs.declared.Decoded.the-variants.{Good}
 use Rattle.state.specs.Image.{imageOf, decoded, refusal}
 use Rattle.state.proofs.RoundTrip.{image-length}
 use Rattle.refusal.proofs.Laws.{unless-done, unless-refused}
-use Rattle.lent.proofs.Copies.{copied}
+use Rattle.parts.proofs.Copies.{copied}
 use Rattle.lent.proofs.Images.{good-length, good-place, other-length, by-image}
 use Rattle.entry_decide.specs.Decide.{decideStatus, decision, decidedFrom, decideLeft}
 use borrow.Author.Needs.{needs}

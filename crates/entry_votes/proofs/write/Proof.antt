@@ -10,7 +10,7 @@ use Rattle.refusal.specs.Refusal.{when}
 use Rattle.entry_votes.specs.Votes.{writeVoteStatus, writeVoteLeft}
 use Rattle.refusal.proofs.Laws.{unless-done, unless-refused}
 use Rattle.entry_votes.proofs.Accepted.{Accepted, accepted, small}
-use Rattle.lent.proofs.Copies.{copied}
+use Rattle.parts.proofs.Copies.{copied}
 use native.Mathlib.Omega.{arith}
 use borrow.Author.Needs.{needs}
 use Rattle.entry_votes.proofs.write.Statement.{statement}

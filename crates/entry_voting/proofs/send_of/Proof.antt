@@ -10,7 +10,7 @@ use Rattle.state.specs.declared.Node.{Node}
 use Rattle.rules.specs.declared.Vote.{Vote}
 use Rattle.frames.specs.Written.{voteFrame}
 use Rattle.frames.proofs.Lengths.{length-vote}
-use Rattle.lent.proofs.Copies.{copied}
+use Rattle.parts.proofs.Copies.{copied}
 use Rattle.entry_voting.specs.Voting.{ownView}
 use Rattle.entry_voting.specs.Voting.{votesByte, voteIn}
 use borrow.Author.Needs.{needs}
