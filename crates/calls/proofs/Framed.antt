@@ -1,13 +1,14 @@
 -- A run through frames answers what the plain run answers, and its states after every cycle are the plain run's. Assumes nothing.
 use mathlib.Core.Path.{_≡_, refl, sym, ap, ap₂, _∙_}
-use mathlib.Core.Bool.{Bool, true, false}
+use mathlib.Core.Bool.{Bool, true, false, not, _||_, cond}
 use mathlib.Core.List.{List, []}
 use Prim.Native.Nat.{ℕ}
-use lib.Dec.{eqb}
+use native.Mathlib.Omega.{arith}
+use lib.Dec.{eqb, ltb}
 use lib.ListN.{length}
 use lib.Pow.{pow-pos}
-use borrow.Author.Tests.{eqb-true, eqb-false}
-use Rattle.refusal.specs.Refusal.{unless}
+use borrow.Author.Tests.{eqb-true, eqb-false, ne-eqb}
+use Rattle.refusal.specs.Refusal.{first, unless}
 use Rattle.state.specs.declared.Node.{Node}
 use Rattle.rules.specs.declared.Faults.{Faults}
 use Rattle.rules.specs.Faults.{Row}
@@ -15,7 +16,7 @@ use Rattle.rules.specs.Reference.{beginning}
 use Rattle.formed.proofs.Formed.{FormedRow, founding-formed}
 use Rattle.framing.specs.Run.{framedRows, plainRows, lastRow, framesLength}
 use Rattle.framing.proofs.Run.{framed-run-is-plain, last-plain}
-use Rattle.table.specs.Records.{countAt, foundingAt, startRefusal}
+use Rattle.table.specs.Records.{isKind, beyond, wrongRow, countAt, foundingAt, startRefusal}
 use Rattle.table.specs.Table.{Cycles, Table, tableOf}
 use Rattle.table.proofs.Laws.{begins, table-refused}
 use Rattle.row.specs.Row.{nodesOf}
@@ -72,3 +73,26 @@ framed-as-plain nodes s =
 -- so that one that is not refused leaves what the plain run leaves
 pub framed-left : (nodes : List Node) (room : ℕ) (s : List ℕ) → framedStatus (length nodes) room s ≡ 0 → framedLeft nodes room s ≡ runLeft nodes s
 framed-left nodes room s e = ap (λ (k : ℕ). framedLeft nodes k s) (framed-fits (length nodes) room s e .0) ∙ framed-as-plain nodes s .left
+
+-- ---- frames of another length: 3, in the place of the row's
+
+start-3 : (entries : ℕ) (s : List ℕ) → startRefusal true entries s ≡ 0 → startRefusal true 0 s ≡ 3
+unfolding startRefusal first
+start-3 entries s e =
+    go (ltb (length s) 3) (not (isKind 1 s)) (ltb (length s) 12) (ltb (countAt s) 2 || ltb 64 (countAt s)) (wrongRow true entries (countAt s)) (wrongRow true 0 (countAt s))
+    (eqb (foundingAt s) 0 || beyond (countAt s) (foundingAt s)) (ap not (ne-eqb 0 (countAt s) (λ z. let two = begins true entries s e .least in omega arith))) e
+  where
+    go : (a b c d r z f : Bool) → z ≡ true → _≡_ {A = ℕ} (cond a 11 (cond b 12 (cond c 11 (cond d 1 (cond r 3 (cond f 13 0)))))) 0
+        → _≡_ {A = ℕ} (cond a 11 (cond b 12 (cond c 11 (cond d 1 (cond z 3 (cond f 13 0)))))) 3
+    go true b c d r z f w e = absurd (eqb-false 11 0 refl e)
+    go false true c d r z f w e = absurd (eqb-false 12 0 refl e)
+    go false false true d r z f w e = absurd (eqb-false 11 0 refl e)
+    go false false false true r z f w e = absurd (eqb-false 1 0 refl e)
+    go false false false false r z f w e = ap (λ (t : Bool). cond t 3 (cond f 13 0)) w
+
+pub wrong-frames : (entries room : ℕ) (s : List ℕ) → eqb room framesLength ≡ false → startRefusal true entries s ≡ 0 → framedStatus entries room s ≡ 3
+unfolding framedStatus
+wrong-frames entries room s o e =
+    let three = start-3 entries s e in
+    ap (λ (b : Bool). tableOf true (cond b entries 0) s .cycles .refusal) o
+    ∙ ap (λ (c : Cycles). c .refusal) (table-refused true 0 s (λ z. eqb-false 3 0 refl (sym three ∙ z))) ∙ three

@@ -18,6 +18,9 @@ use calls::Task;
 use roles::States;
 use row::Gathered;
 
+// The bytes of the frames of a cycle: on two channels, heartbeats and votes, 64 slots of 36.
+const FRAMES: usize = 9216;
+
 // What a call answers; where it is not refused, N and the states that it leaves.
 pub struct Outcome {
     pub status: u32,
@@ -66,7 +69,7 @@ fn lent_entries(framed: bool, room: usize, len: usize) -> usize
     ensures { λ r. ⌜ r ≡ lentEntries framed room len ⌝ }
 {
     if framed {
-        if room == 9216 { len } else { 0 }
+        if room == FRAMES { len } else { 0 }
     } else {
         len
     }
@@ -154,6 +157,6 @@ pub fn answer_without_frames(task: Task, n: u32, len: usize, g: Gathered, s: &[u
     ensures answered { λ r. ⌜ ((nodes : List Node) → GatheredFrom n g len nodes → r .status ≡ callStatus task n nodes framesLength (now (s .entry))) ⌝ }
     ensures left { λ r. ⌜ ((nodes : List Node) → GatheredFrom n g len nodes → r .status ≡ 0 → Leaves (r .nodes) (r .states) len (callLeft task n nodes framesLength (now (s .entry)))) ⌝ }
 {
-    let mut frames = [0u8; 9216];
+    let mut frames = [0u8; FRAMES];
     answer(task, n, len, g, s, &mut frames)
 }
