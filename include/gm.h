@@ -18,8 +18,9 @@
  *   5. gm_receive_vote for every other node, into the vote buffer, whatever stands in it, and `arrived`
  *   6. gm_decide, with the same heard0 and heard1
  * In 3 and 5 the nodes may come in any order, and the call for a node of which nothing came on both channels may be left out: its bit is then 0, which is
- * why the masks are 0 before the cycle. A node that is out, and neither stopped nor started, may make no calls at all; one that lost its state comes back
- * by gm_begin with a founding set that lacks it, which leaves what gm_stop leaves.
+ * why the masks are 0 before the cycle. A node that is out, and neither stopped nor started, may make no calls at all, and one that is stopped and not
+ * started none but gm_stop. One that lost its state, or its power, counts as stopped in that cycle: instead of gm_stop it comes back, in that cycle or a
+ * later one, by gm_begin with a founding set that lacks it, which leaves what gm_stop leaves.
  *
  * gm_cycle, gm_run and gm_run_frames work on a row: the states of all n nodes, one after the other, node q at byte 24 q.
  */
@@ -169,7 +170,7 @@ uint32_t gm_run(uint8_t *row, size_t row_len, const uint8_t *table, size_t table
 
 /*
  * The same run through frames: in every cycle each node writes its frames for both channels, and reads those of the others. It leaves what gm_run leaves,
- * and in `frames` what an analyser on the bus would show of the last cycle: heartbeats on A, heartbeats on B, votes on A, votes on B, each of these four
+ * and in `frames` what an analyser at the senders would show of the last cycle: heartbeats on A, heartbeats on B, votes on A, votes on B, each of these four
  * parts 64 slots of GM_VOTE_FRAME_BYTES. The frame that node q sent stands at the front of slot q, whether or not it reached anybody; zeros stand behind
  * it, and where nothing was sent. Cycle n of the run has cycle count n - 1 modulo 64, and its heartbeats have sync and startup 0. A table without cycles
  * leaves `frames` as it came in. Fixed are the states of every cycle and the frames of the last: that the earlier cycles go through frames too is so, but

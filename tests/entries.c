@@ -119,6 +119,16 @@ static void shown(const uint8_t *frames, uint32_t part, uint32_t channel, uint32
 }
 
 /* a run through frames: refused for their length, which stands behind a record that is cut; a table without cycles shows none */
+/* nothing stands in the slots of nodes that there are not */
+static void others_zero(const uint8_t *frames)
+{
+    for (size_t k = 0; k < GM_FRAMES_BYTES; k++)
+        if (k / GM_VOTE_FRAME_BYTES % 64 >= 3 && frames[k] != 0) {
+            printf("gm_run_frames shows a frame of no node, at byte %zu\n", k);
+            exit(1);
+        }
+}
+
 static void through_frames(uint8_t *row, size_t row_len)
 {
     static uint8_t frames[GM_FRAMES_BYTES + 1], kept[sizeof frames];
@@ -132,6 +142,8 @@ static void through_frames(uint8_t *row, size_t row_len)
     expect("gm_run_frames", gm_run_frames(row, row_len, table, sizeof table, frames, GM_FRAMES_BYTES), 0);
     for (uint32_t k = 0; k < 3 * 4; k++)
         shown(frames, k / 6, k / 3 % 2, k % 3);
+    others_zero(frames);
+    unchanged("gm_run_frames", frames + GM_FRAMES_BYTES, kept + GM_FRAMES_BYTES, 1);
     entries--;
 }
 

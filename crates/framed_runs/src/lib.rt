@@ -19,7 +19,7 @@ fn cycle_count(k: u64) -> u32
     ((k - 1) % 64) as u32
 }
 
-// A run through frames, whose cost is far above that of such copies. `frames` shows those of the last cycle afterwards.
+// A run through frames; the states are copied from cycle to cycle, which costs little beside the frames. `frames` shows those of the last cycle afterwards.
 pub fn run_framed(n: usize, start: States, s: &[u8], frames: &mut [u8]) -> States
     requires { ⌜ (n ≤ 64) × (cyclesIn (length (now s)) n 1 (now s) .refusal ≡ 0) ⌝ }
     requires { ⌜ length (now frames) ≡ framesLength ⌝ }

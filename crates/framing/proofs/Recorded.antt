@@ -8,8 +8,8 @@ use Prim.Native.Nat.{ℕ, _≤_, _<_}
 use lib.Dec.{eqb, ltb, lit<}
 use lib.ListN.{getD}
 use Rattle.sets.specs.Sets.{has, single, _∖_, any}
-use Rattle.sets.proofs.Booleans.{and-i, ltb-lt}
-use Rattle.sets.proofs.Membership.{has-diff, has-none, set-ext}
+use Rattle.sets.proofs.Booleans.{and-i, or-f-l, or-f-r, eqb-true, ltb-lt, not-f}
+use Rattle.sets.proofs.Membership.{has-diff, has-none, has-single, set-ext}
 use Rattle.sets.proofs.Nodes.{has-those, those-in, any-i}
 use Rattle.state.specs.declared.State.{State}
 use Rattle.state.specs.declared.State.the-variants.{Out, Joining, Member}
@@ -24,7 +24,7 @@ use Rattle.frames.specs.declared.HeartbeatReceived.{HeartbeatReceived}
 use Rattle.frames.specs.declared.HeartbeatReceived.the-variants as beats
 use Rattle.framing.specs.Units.{Bus, Copies, heartbeatGot, voteCast, voteGot, received, unitsCycle}
 use Rattle.framing.specs.Carried.{Came, on-both, on-a, on-b, on-none, HeartbeatSent, VoteSent, sendsHeartbeat, heartbeatKind, Carries}
-use Rattle.framing.specs.Recorded.{Sound, lostOf, missedOf, isHeard, isSome, beatHeard, voteTaken, ruledAt, recordOf, Untouched}
+use Rattle.framing.specs.Recorded.{Sound, lostOf, missedOf, isHeard, isSome, beatHeard, voteTaken, ruledAt, recordOf, Served, Untouched}
 use Rattle.framing.proofs.Follow.{units-follow}
 use Rattle.framing.proofs.Delivered.{beat-came, ballot-came}
 
@@ -94,7 +94,7 @@ module _ (N : ℕ) (sent : ℕ → Bool) (got : ℕ → ℕ → Bool) where
       go true false false h = refl
 
   -- a unit that is untouched in this phase has no mark
-  module _ (q : ℕ) (l : q < N) (calm : Untouched N sent got q) where
+  module _ (q : ℕ) (l : q < N) (calm : Served N sent got q) where
     not-lost : has q (lostOf N sent got) ≡ false
     not-lost = lost-at q l ∙ go (sent q) (cameTo q) (calm .heard)
       where
@@ -190,13 +190,69 @@ pub units-recorded : (C : Config) (count : ℕ) (bus : Bus) (stop start : ℕ) (
 units-recorded C count bus stop start row few counted formed sound =
     units-follow C count bus (recordOf (C .nodes) count bus stop start row) row (bus-recorded C count few counted bus stop start row formed sound)
 
--- ---- whom the record leaves untouched
+-- ---- whom the record leaves untouched: who is not stopped and is served in both phases, and nobody else
 
-pub recorded-untouched : (N count : ℕ) (bus : Bus) (stop start : ℕ) (row : Row) (q : ℕ) → q < N → has q stop ≡ false
-    → Untouched N (λ p. sendsHeartbeat (ruledAt stop start row p)) (beatHeard count bus) q → Untouched N (λ p. sendsMember (ruledAt stop start row p)) (voteTaken N count bus) q
-    → disturbed (recordOf N count bus stop start row) q ≡ false
-unfolding recordOf disturbed
-recorded-untouched N count bus stop start row q l runs beats votes =
-    let sent : ℕ → Bool = λ p. sendsHeartbeat (ruledAt stop start row p) in
-    let cast : ℕ → Bool = λ p. sendsMember (ruledAt stop start row p) in
-    rw (runs, not-lost N sent (beatHeard count bus) q l beats, not-lost N cast (voteTaken N count bus) q l votes, none-missed N sent (beatHeard count bus) q l beats, none-missed N cast (voteTaken N count bus) q l votes)
+module _ (N : ℕ) (sent : ℕ → Bool) (got : ℕ → ℕ → Bool) (q : ℕ) (l : q < N) where
+  served-by : has q (lostOf N sent got) ≡ false → missesOther q (getD (tabulate N (missedOf N sent got)) q 0) ≡ false → Served N sent got q
+  served-by a b =
+      record {
+        heard = λ s. go (sent q) (cameTo N sent got q) s (sym (lost-at N sent got q l) ∙ a);
+        hears = λ p lp o s c. other (eqb p q) (sent p) (got q p) (cameTo N sent got p) o s c (sym (missed-at N sent got p q lp) ∙ clear p o);
+      }
+    where
+      go : (s a : Bool) → s ≡ true → (s && not a) ≡ false → a ≡ true
+      go true true h k = refl
+      go true false h k = absurd (false≢true (sym k))
+      go false a h k = absurd (false≢true h)
+
+      other : (e s g a : Bool) → e ≡ false → s ≡ true → a ≡ true → (not e && s && not g && not (s && not a)) ≡ false → g ≡ true
+      other e s true a o h c k = refl
+      other true s false a o h c k = absurd (false≢true (sym o))
+      other false false false a o h c k = absurd (false≢true h)
+      other false true false false o h c k = absurd (false≢true c)
+      other false true false true o h c k = absurd (false≢true (sym k))
+
+      clear : (p : ℕ) → eqb p q ≡ false → has p (missedOf N sent got q) ≡ false
+      clear p o =
+          let m = missedOf N sent got q in
+          let z : (m ∖ single q) ≡ 0 = ap (λ (x : ℕ). x ∖ single q) (sym (get-tabulate N q (missedOf N sent got) 0 l)) ∙ eqb-true (not-f (eqb (getD (tabulate N (missedOf N sent got)) q 0 ∖ single q) 0) b) in
+          keep (has p m) (sym (ap (λ (x : Bool). has p m && not x) (has-single p q ∙ o)) ∙ sym (has-diff p m (single q)) ∙ ap (has p) z ∙ has-none p)
+        where
+          keep : (x : Bool) → (x && not false) ≡ false → x ≡ false
+          keep true k = k
+          keep false k = refl
+
+module _ (N count : ℕ) (bus : Bus) (stop start : ℕ) (row : Row) (q : ℕ) (l : q < N) where
+  abbrev sent : ℕ → Bool
+  sent p = sendsHeartbeat (ruledAt stop start row p)
+
+  abbrev cast : ℕ → Bool
+  cast p = sendsMember (ruledAt stop start row p)
+
+  pub recorded-untouched : Untouched N count bus stop start row q → disturbed (recordOf N count bus stop start row) q ≡ false
+  unfolding recordOf disturbed
+  recorded-untouched calm =
+      rw (
+        calm .runs,
+        not-lost N sent (beatHeard count bus) q l (calm .beats),
+        not-lost N cast (voteTaken N count bus) q l (calm .votes),
+        none-missed N sent (beatHeard count bus) q l (calm .beats),
+        none-missed N cast (voteTaken N count bus) q l (calm .votes),
+      )
+
+  pub untouched-recorded : disturbed (recordOf N count bus stop start row) q ≡ false → Untouched N count bus stop start row q
+  unfolding recordOf disturbed
+  untouched-recorded e =
+      let a = has q stop in
+      let b = has q (lostOf N sent (beatHeard count bus)) in
+      let c = has q (lostOf N cast (voteTaken N count bus)) in
+      let d = missesOther q (getD (tabulate N (missedOf N sent (beatHeard count bus))) q 0) in
+      let f = missesOther q (getD (tabulate N (missedOf N cast (voteTaken N count bus))) q 0) in
+      let abcd = or-f-l (a || b || c || d) f e in
+      let abc = or-f-l (a || b || c) d abcd in
+      let ab = or-f-l (a || b) c abc in
+      record {
+        runs = or-f-l a b ab;
+        beats = served-by N sent (beatHeard count bus) q l (or-f-r a b ab) (or-f-r (a || b || c) d abcd);
+        votes = served-by N cast (voteTaken N count bus) q l (or-f-r (a || b) c abc) (or-f-r (a || b || c || d) f e);
+      }

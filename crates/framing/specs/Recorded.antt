@@ -8,7 +8,6 @@ use Prim.Native.Nat.{ℕ, _<_}
 use lib.Dec.{eqb}
 use Rattle.sets.specs.Sets.{has, those, any}
 use Rattle.state.specs.declared.State.{State}
-use Rattle.rules.specs.declared.Vote.{Vote}
 use Rattle.rules.specs.declared.Faults.{Faults}
 use Rattle.rules.specs.OneCycle.{Config, stopAndStart, sendsMember}
 use Rattle.rules.specs.Faults.{Row, at, tabulate}
@@ -42,7 +41,7 @@ isHeard Missed = false
 isHeard Alive = true
 isHeard Join = true
 
-abbrev pub isSome : Option Vote → Bool
+abbrev pub isSome : {A : Type 0} → Option A → Bool
 isSome none = false
 isSome (some v) = true
 
@@ -69,7 +68,15 @@ recordOf N count bus stop start row =
       «vote_missed» = tabulate N (missedOf N votes (voteTaken N count bus));
     }
 
--- whom it leaves untouched: a unit that is not stopped, whose frames came to another unit, and to which came what came to another
-pub record Untouched (N : ℕ) (sent : ℕ → Bool) (got : ℕ → ℕ → Bool) (q : ℕ) : Type 0 where
+-- ---- whom it leaves untouched
+
+-- in one phase: the frame of q, if it sent one, came to another unit, and to q came what came to another
+pub record Served (N : ℕ) (sent : ℕ → Bool) (got : ℕ → ℕ → Bool) (q : ℕ) : Type 0 where
   pub heard : sent q ≡ true → any N (λ x. not (eqb q x) && got x q) ≡ true
   pub hears : (p : ℕ) → p < N → eqb p q ≡ false → sent p ≡ true → any N (λ x. not (eqb p x) && got x p) ≡ true → got q p ≡ true
+
+-- in the cycle: it is not stopped either
+pub record Untouched (N count : ℕ) (bus : Bus) (stop start : ℕ) (row : Row) (q : ℕ) : Type 0 where
+  pub runs : has q stop ≡ false
+  pub beats : Served N (λ p. sendsHeartbeat (ruledAt stop start row p)) (beatHeard count bus) q
+  pub votes : Served N (λ p. sendsMember (ruledAt stop start row p)) (voteTaken N count bus) q

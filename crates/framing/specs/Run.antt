@@ -1,4 +1,4 @@
--- A table's cycles run through frames, beside the same by the rules alone; and the frames of a cycle, as an analyser on the bus would show them.
+-- A table's cycles run through frames, beside the same by the rules alone; and the frames that the units write in a cycle, lost ones too.
 -- Assumes nothing.
 use mathlib.Core.List.{List, [], _∷_, _++_}
 use mathlib.Core.Option.{Option}

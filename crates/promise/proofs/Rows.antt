@@ -60,14 +60,15 @@ module _ {M : Type 1} (𝓤 : URA M) (H : Heap 𝓤) (A : Atoms 𝓤) (mem : Mem
   tells =
       exE 𝓤 _ (λ ws.
       via 𝓤 _ (monoR 𝓤 (Last ws) (both-facts 𝓤 (r ≡ status made (now x)) (last-row ws ≡ left made (now x))))
-      (exI 𝓤 (λ (ws : Ends). sep 𝓤 (Last ws) (fact 𝓤 (Told made (now x) r (last-row ws)))) ws))
+      (via 𝓤 _ (monoR 𝓤 (Last ws) (fact-mono 𝓤 ((r ≡ status made (now x)) × (last-row ws ≡ left made (now x))) (Told made (now x) r (last-row ws)) (λ k. (refl, k .0, k .1))))
+      (exI 𝓤 (λ (ws : Ends). sep 𝓤 (Last ws) (fact 𝓤 (Told made (now x) r (last-row ws)))) ws)))
 
 -- ---- a list of calls
 
 done-rows : {cs : List Call} {x z : List Node} → Done cs x z → z ≡ rowAfter cs x
 unfolding rowAfter
 done-rows none = refl
-done-rows (one-more {c} {cs} {x} {y} {z} r room told rest) = done-rows rest ∙ ap (λ (v : List Node). rowAfter cs v) (told .1)
+done-rows (one-more {c} {cs} {x} {y} {z} r told rest) = done-rows rest ∙ ap (λ (v : List Node). rowAfter cs v) (told .2)
 
 pub promised : OverRows
 promised n h cs x z b d = subst (λ (v : List Node). Promised n v (historyAfter cs x h)) (sym (done-rows d)) (over-calls n x h cs b)

@@ -10,13 +10,13 @@ use Rattle.calls.specs.Histories.{Call, status, left, History, historyAfter, Be
 
 -- what the contract of the entry tells the caller of a call on the row x (`tells` in proofs): its status r, and the row y that it leaves, refused or not
 abbrev pub Told : Call → List Node → ℕ → List Node → Type 0
-Told c x r y = (r ≡ status c x) × (y ≡ left c x)
+Told c x r y = (c .room ≡ framesLength) × (r ≡ status c x) × (y ≡ left c x)
 
 -- "each call gets it as the last one left it, and nobody else writes it meanwhile": the calls that were made, and the row before and after them; the entry has room of
 -- its own for frames, which nobody sees
 pub data Done : List Call → List Node → List Node → Type 0 where
   none : {x : List Node} → Done [] x x
-  call : {c : Call} {cs : List Call} {x y z : List Node} (r : ℕ) → c .room ≡ framesLength → Told c x r y → Done cs y z → Done (c ∷ cs) x z
+  call : {c : Call} {cs : List Call} {x y z : List Node} (r : ℕ) → Told c x r y → Done cs y z → Done (c ∷ cs) x z
 
 -- "Before the first, unless that is an accepted run, the row stands at the beginning for some founding set" (`Begun`). "After each call the row holds the
 -- states that the rules give from that beginning through those cycles. Demand 3 speaks of the states after every one of the cycles, those inside a run too"

@@ -23,6 +23,7 @@ use Rattle.frames.specs.declared.HeartbeatReceived.{HeartbeatReceived}
 use Rattle.frames.specs.declared.HeartbeatReceived.the-variants as beats
 use Rattle.frames.specs.Written.{heartbeatFrame}
 use Rattle.framing.specs.Units.{Copies, heartbeatSent, heartbeatGot, isAlive, isJoin, unitHears, voteFramed, voteSent}
+use Rattle.framing.specs.Recorded.{isSome}
 use Rattle.framing.specs.Carried.{sendsHeartbeat}
 use Rattle.lent.specs.Refusals.{wrongIndicators, wrongCycle, wrongChannel}
 use Rattle.lent.proofs.Bounds.{sending-bounds}
@@ -43,10 +44,6 @@ imageIn n q s = imageOf (record { state = s; id = q; nodes = n })
 abbrev pub Gives : Frame → Option (List ℕ) → Type 0
 Gives g none = g .sent ≡ 0
 Gives g (some x) = (g .sent ≡ 1) × (g .bytes ≡ x)
-
-abbrev pub isSome : Option (List ℕ) → Bool
-isSome none = false
-isSome (some x) = true
 
 pub given-wrote : (g : Frame) (o : Option (List ℕ)) (y : List ℕ) → Gives g o → g .sent ≡ 1 → g .bytes ≡ y → o ≡ some y
 given-wrote g none y a b e = absurd (let z : 0 ≡ 1 = sym a ∙ b in omega arith)

@@ -1,20 +1,23 @@
 -- The premises of the theorem over units can be met: for every fault record there is a cycle of calls on the bus that it makes. Assumes nothing.
 use mathlib.Core.Path.{_≡_, refl, sym, ap, _∙_, subst}
 use mathlib.Core.Logic.{_⊎_, inl, inr, Lift}
-use mathlib.Core.Bool.{Bool, true, false, _&&_, true≢false}
+use mathlib.Core.Bool.{Bool, true, false, _&&_, cond, true≢false}
 use mathlib.Core.List.{List, [], _∷_}
 use mathlib.Core.Option.{Option, none, some}
-use Prim.Native.Nat.{ℕ, zero, suc, _≤_, _<_}
+use Prim.Native.Nat.{ℕ, zero, suc, _-_, _≤_, _<_}
+use native.Mathlib.Nat.{mod-lt}
 use native.Mathlib.Omega.{arith}
 use lib.Dec.{eqb, lit<}
-use lib.ListN.{length, replicate, length-replicate}
+use lib.ListN.{length, replicate}
 use borrow.Author.Tests.{eqb-false}
 use Rattle.sets.specs.Sets.{has, below}
 use Rattle.sets.proofs.Booleans.{eqb-true}
 use Rattle.refusal.proofs.Laws.{unless-done}
+use Rattle.state.specs.declared.Reason.{Reason}
 use Rattle.state.specs.declared.State.{State}
 use Rattle.state.specs.declared.State.the-variants.{Out, Joining, Member}
-use Rattle.state.specs.State.{formedPlace, formedState, initial}
+use Rattle.state.specs.State.{formedPlace, formedState, foundingGroup, initial}
+use Rattle.state.specs.Image.{imageOf}
 use Rattle.rules.specs.declared.Vote.{Vote}
 use Rattle.rules.specs.declared.Faults.{Faults}
 use Rattle.rules.specs.OneCycle.{Config, stopped, stopAndStart, sendsMember}
@@ -29,6 +32,8 @@ use Rattle.frames.proofs.Lengths.{length-payload}
 use Rattle.framing.specs.Units.{Bus, Copies, heartbeatSent, voteSent, heartbeatGot, isAlive, isJoin, unitHears, unitVote, voteCast, voteFramed}
 use Rattle.framing.specs.Faulty.{copyIf, heartbeatsOf, votesOf, busOf}
 use Rattle.framing.specs.Carried.{Came, on-both, on-none, HeartbeatRefused, VoteRefused, sendsHeartbeat}
+use Rattle.framing.specs.Recorded.{isSome}
+use Rattle.framing.specs.Run.{cycleCount}
 use Rattle.framing.proofs.Delivered.{no-heartbeat, no-vote}
 use Rattle.entry_begin.specs.Begin.{beginStatus, beginLeft}
 use Rattle.entry_beating.specs.Beating.{sendHeartbeatLeft, sendHeartbeatSent}
@@ -38,9 +43,9 @@ use Rattle.entry_arrivals.specs.Arrivals.{slotOr, receivedVote, receiveVoteStat
 use Rattle.entry_decide.specs.Decide.{decideLeft}
 use Rattle.slots.proofs.Back.{slot-length}
 use Rattle.unit_calls.specs.Entries.{Frame, Entries, Within, byDefinition}
-use Rattle.unit_calls.specs.Cycle.{Stops, by-stop, not-stopped, Starts, by-start, not-started, In, Collected, none as no-call, one-more, UnitDone, calls, Wrote, sends, CycleDone, Pressed, none as no-cycle, next}
+use Rattle.unit_calls.specs.Cycle.{Stops, by-stop, by-begin, not-stopped, Starts, by-start, not-started, In, Collected, none as no-call, one-more, Silent, UnitDone, Part, calls, rests, Wrote, sends, CycleDone, Pressed, none as no-cycle, next}
 use Rattle.unit_calls.specs.Promise.{Begins}
-use Rattle.unit_calls.proofs.Calls.{imageIn, Gives, isSome, given-sends, beat-speaks, vote-speaks, alive-code, join-code, hears-bit, voteBy, stop-gives, start-gives, beat-gives, vote-gives}
+use Rattle.unit_calls.proofs.Calls.{imageIn, Gives, given-sends, beat-speaks, vote-speaks, alive-code, join-code, hears-bit, voteBy, stop-gives, start-gives, beat-gives, vote-gives}
 use Rattle.unit_calls.proofs.Press.{placed, ruled, cycle-holds}
 use Rattle.unit_calls.proofs.Accepting.{image-good, beat-good, vote-good, decide-good, hear-good, arrive-good, begin-good}
 
@@ -143,7 +148,9 @@ stands frames Refused sent speaks t empty given k = go (sent 0) (sent 1) t (give
     go none none true a b e = by-first false true (given-sends (frames 0) none a) (on-none (empty 0) (empty 1))
     go none none false a b e = by-first false false (given-sends (frames 0) none a) (on-none (empty 0) (empty 1))
 
-module _ (n count : ℕ) (two : 2 ≤ n) (few : n ≤ 64) (counted : count < 64) (c : Faults) (row : Row) (formed : FormedRow n row) where
+-- into a vote buffer of any bytes, with any mask
+module _ (n count : ℕ) (two : 2 ≤ n) (few : n ≤ 64) (counted : count < 64) (c : Faults) (row : Row) (formed : FormedRow n row) (buffer : List ℕ)
+    (sized : length buffer ≡ 1792) (mask : ℕ) where
   abbrev C : Config
   C = record { nodes = n }
 
@@ -168,10 +175,10 @@ module _ (n count : ℕ) (two : 2 ≤ n) (few : n ≤ 64) (counted : count < 64)
       }
 
   abbrev bufferAfter : ℕ → List ℕ
-  bufferAfter q = votesLeft n count (λ p. bus .votes p q) (upto n) (replicate 1792 0)
+  bufferAfter q = votesLeft n count (λ p. bus .votes p q) (upto n) buffer
 
   abbrev arrivedAfter : ℕ → ℕ
-  arrivedAfter q = maskLeft n count (λ p. bus .votes p q) (upto n) (replicate 1792 0) 0
+  arrivedAfter q = maskLeft n count (λ p. bus .votes p q) (upto n) buffer mask
 
   abbrev decided : ℕ → List ℕ
   decided q = decideLeft (imageIn n q (now q)) (heard isAlive q) (heard isJoin q) (bufferAfter q) (arrivedAfter q)
@@ -210,8 +217,8 @@ module _ (n count : ℕ) (two : 2 ≤ n) (few : n ≤ 64) (counted : count < 64)
             );
         vote = voteFrames q;
         casts = λ channel k. had .send-vote _ _ _ count channel _ (vote-made q l channel k);
-        buffer = replicate 1792 0;
-        cleared = 0;
+        buffer = buffer;
+        cleared = mask;
         senders = upto n;
         votes = bufferAfter q;
         arrived = arrivedAfter q;
@@ -226,8 +233,8 @@ module _ (n count : ℕ) (two : 2 ≤ n) (few : n ≤ 64) (counted : count < 64)
       r : ℕ → HeartbeatReceived
       r p = heartbeatGot count (bus .heartbeats) q p
 
-      all : Collected E n count (λ p. bus .votes p q) (upto n) (replicate 1792 0) 0 (bufferAfter q) (arrivedAfter q) × Lift {0, 1} (length (bufferAfter q) ≡ 1792)
-      all = collects E had n count two few counted (λ p. bus .votes p q) n (replicate 1792 0) 0 (omega arith) (length-replicate {A = ℕ} 1792 0)
+      all : Collected E n count (λ p. bus .votes p q) (upto n) buffer mask (bufferAfter q) (arrivedAfter q) × Lift {0, 1} (length (bufferAfter q) ≡ 1792)
+      all = collects E had n count two few counted (λ p. bus .votes p q) n buffer mask (omega arith) sized
 
   -- ---- all units
 
@@ -261,21 +268,43 @@ module _ (n count : ℕ) (two : 2 ≤ n) (few : n ≤ 64) (counted : count < 64)
       cycle-made E had (λ q. imageIn n q (at (cycle C c row) q))
       (λ q l. sym (cycle-holds byDefinition same n two few count c bus (λ y. imageIn n y (at row y)) decided row formed (λ y h. refl) (cycle-made byDefinition same decided (λ y h. refl)) q l))
 
--- for every founding set and list of cycles there is such a press
-pub press-there : (E : Entries) → Within byDefinition E → (n F : ℕ) (cs : List Faults) → 2 ≤ n → n ≤ 64 → eqb F 0 ≡ false → below n F ≡ F
-    → (x : ℕ → List ℕ) × (z : ℕ → List ℕ) × Begins E n F x × Pressed E n cs x z
-unfolding beginLeft founding
-press-there E had n F cs two few some-founder founders =
-    let run = cycles cs (founding n 0 F) (founding-formed n 0 F (lit< tt) founders) in
-    ((λ q. imageIn n q (at (founding n 0 F) q)), run .0, (λ q l. had .begin n q F _ (lift (replicate 24 0, begin-good n q F two few l some-founder founders, began q l))), run .1)
-  where
-    began : (q : ℕ) → q < n → imageIn n q (at (founding n 0 F) q) ≡ beginLeft n q F (replicate 24 0)
-    began q l =
-        ap (imageIn n q) (get-tabulate n q (initial 0 F) stopped l)
-        ∙ sym (unless-done (beginStatus n q F (replicate 24 0)) (imageIn n q (initial 0 F q)) (replicate 24 0) (sym (begin-good n q F two few l some-founder founders)))
+begin-made : (E : Entries) → Within byDefinition E → (n q F : ℕ) → 2 ≤ n → n ≤ 64 → q < n → eqb F 0 ≡ false → below n F ≡ F → E .begin n q F (imageIn n q (initial 0 F q))
+unfolding beginLeft
+begin-made E had n q F two few l some-founder founders =
+    let good = begin-good n q F two few l some-founder founders in
+    had .begin n q F _ (lift (replicate 24 0, good, sym (unless-done (beginStatus n q F (replicate 24 0)) (imageIn n q (initial 0 F q)) (replicate 24 0) (sym good))))
 
-    cycles : (cs : List Faults) (row : Row) → FormedRow n row → (z : ℕ → List ℕ) × Pressed E n cs (λ q. imageIn n q (at row q)) z
-    cycles [] row w = ((λ q. imageIn n q (at row q)), no-cycle)
-    cycles (c ∷ cs) row w =
-        let rest = cycles cs (cycle (record { nodes = n }) c row) (cycle-formed n c row w) in
-        (rest .0, next 0 (busOf (record { nodes = n }) 0 c row) (cycle-there n 0 two few (lit< tt) c row w E had) (rest .1))
+-- for every founding set and list of cycles there is such a press, whose cycles have the counts of a run, from vote buffers of any bytes and masks
+pub press-there : (E : Entries) → Within byDefinition E → (n F : ℕ) (cs : List Faults) (buffer : List ℕ) (mask : ℕ) → 2 ≤ n → n ≤ 64 → eqb F 0 ≡ false → below n F ≡ F
+    → length buffer ≡ 1792 → (x : ℕ → List ℕ) × (z : ℕ → List ℕ) × Begins E n F x × Pressed E n cs x z
+unfolding founding
+press-there E had n F cs buffer mask two few some-founder founders sized =
+    let run = cycles cs 1 (founding n 0 F) (founding-formed n 0 F (lit< tt) founders) in
+    ((λ q. imageIn n q (at (founding n 0 F) q)), run .0, began, run .1)
+  where
+    began : Begins E n F (λ q. imageIn n q (at (founding n 0 F) q))
+    began q l =
+        subst (λ (y : List ℕ). E .begin n q F y) (ap (imageIn n q) (sym (get-tabulate n q (initial 0 F) stopped l))) (begin-made E had n q F two few l some-founder founders)
+
+    cycles : (cs : List Faults) (k : ℕ) (row : Row) → FormedRow n row → (z : ℕ → List ℕ) × Pressed E n cs (λ q. imageIn n q (at row q)) z
+    cycles [] k row w = ((λ q. imageIn n q (at row q)), no-cycle)
+    cycles (c ∷ cs) k row w =
+        let rest = cycles cs (suc k) (cycle (record { nodes = n }) c row) (cycle-formed n c row w) in
+        (rest .0, next (cycleCount k) (busOf (record { nodes = n }) (cycleCount k) c row) (cycle-there n (cycleCount k) two few (mod-lt (k - 1) (lit< tt)) c row w buffer sized mask E had) (rest .1))
+
+-- ---- each other way that a part may go can be gone
+
+pub silent-there : Silent (λ channel. [])
+silent-there = (refl, refl)
+
+pub rests-there : (E : Entries) (n count stop start : ℕ) (bus : Bus) (q : ℕ) (r : Reason) → has q stop ≡ false → has q start ≡ false
+    → Part E n count stop start bus q (imageIn n q (Out r)) (imageIn n q (Out r))
+unfolding imageOf
+rests-there E n count stop start bus q r a b = rests refl a b refl
+
+-- whatever image it held, a unit that lost its memory is stopped by a founding set that lacks it
+pub begin-there : (E : Entries) → Within byDefinition E → (n q F : ℕ) (x : List ℕ) → 2 ≤ n → n ≤ 64 → q < n → eqb F 0 ≡ false → below n F ≡ F → has q F ≡ false
+    → Stops E n q true x (imageIn n q stopped)
+begin-there E had n q F x two few l some-founder founders lacks =
+    by-begin F lacks
+    (subst (λ (y : List ℕ). E .begin n q F y) (ap (λ (b : Bool). imageIn n q (cond b (Member (foundingGroup 0 F)) stopped)) lacks) (begin-made E had n q F two few l some-founder founders))

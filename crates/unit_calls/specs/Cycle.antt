@@ -73,10 +73,12 @@ pub record UnitDone (E : Entries) (n count stop start : ℕ) (bus : Bus) (q : �
   -- with the heard masks of the vote
   pub decides : E .decide ruled heard0 heard1 votes arrived z
 
--- A unit's part of a cycle: it makes its calls; or it is out (kind 0) and is neither stopped nor started, makes none and sends nothing, as one that is switched off.
+-- A unit's part of a cycle: it makes its calls; or it rests, being out (kind 0) and neither stopped nor started: it makes none and sends nothing, as one that is switched
+-- off; or it leaves, being stopped and not started: by `gm_stop`, or by the `gm_begin` with which it will come back if its power failed, and it makes no other call.
 pub data Part (E : Entries) (n count stop start : ℕ) (bus : Bus) (q : ℕ) (x z : List ℕ) : Type 1 where
   calls : UnitDone E n count stop start bus q x z → Part E n count stop start bus q x z
   rests : getD x 0 0 ≡ 0 → has q stop ≡ false → has q start ≡ false → z ≡ x → Part E n count stop start bus q x z
+  leaves : has q stop ≡ true → has q start ≡ false → Stops E n q true x z → Part E n count stop start bus q x z
 
 -- ---- all units
 
@@ -84,17 +86,19 @@ pub data Part (E : Entries) (n count stop start : ℕ) (bus : Bus) (q : ℕ) (x 
 abbrev pub Parts : Entries → (n count stop start : ℕ) → Bus → (x z : ℕ → List ℕ) → Type 1
 Parts E n count stop start bus x z = (q : ℕ) → q < n → Part E n count stop start bus q (x q) (z q)
 
--- the frames that a unit gave for the channels; one that rests gave none
+-- the frames that a unit gave for the channels; one that rests or leaves gave none
 abbrev pub noFrames : ℕ → Frame
 noFrames channel = record { sent = 0; bytes = [] }
 
 abbrev pub beatsWritten : {E : Entries} {n count stop start : ℕ} {bus : Bus} {q : ℕ} {x z : List ℕ} → Part E n count stop start bus q x z → ℕ → Frame
 beatsWritten (calls d) = d .heartbeat
 beatsWritten (rests k a b e) = noFrames
+beatsWritten (leaves a b k) = noFrames
 
 abbrev pub votesWritten : {E : Entries} {n count stop start : ℕ} {bus : Bus} {q : ℕ} {x z : List ℕ} → Part E n count stop start bus q x z → ℕ → Frame
 votesWritten (calls d) = d .vote
 votesWritten (rests k a b e) = noFrames
+votesWritten (leaves a b k) = noFrames
 
 -- x was written for the channel; and whether there are frames, on both channels alike
 abbrev pub Wrote : (ℕ → Frame) → ℕ → List ℕ → Type 0
@@ -123,7 +127,8 @@ pub data Pressed (E : Entries) (n : ℕ) : List Faults → (ℕ → List ℕ) �
 
 -- ---- cycles where nobody knows the records
 
--- One cycle: every copy that another unit gets is the frame as written for that channel, or is refused by reading.
+-- One cycle: every copy that another unit gets is the frame as written for that channel, or is refused by reading. What comes to a unit that makes no calls is read by
+-- nobody: it may be taken as written.
 pub record SoundDone (E : Entries) (n count stop start : ℕ) (bus : Bus) (x z : ℕ → List ℕ) : Type 1 where
   pub counted : count < 64
   pub parts : Parts E n count stop start bus x z

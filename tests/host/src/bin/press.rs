@@ -74,9 +74,10 @@ struct Counts {
     saved: u64,
     /// copies damaged on both channels, where the record says missed or nothing was sent
     both_damaged: u64,
-    /// receive calls left out, cycles of a unit that was switched off, and units that lost their memory
+    /// receive calls left out, cycles of a unit that was switched off, units that went off as they were stopped, and units that lost their memory
     left_out: u64,
     off: u64,
+    gone: u64,
     forgotten: u64,
     /// units that a decision put out, and that it made members
     halted: u64,
@@ -112,6 +113,8 @@ struct Press<'a> {
     damage_rate: usize,
     /// of the fault records
     style: usize,
+    /// heartbeats with sync and startup, on each channel its own: gm_run_frames has none
+    indicators: bool,
     random: Random,
     mistake: Option<Mistake>,
     counts: &'a mut Counts,
@@ -158,14 +161,14 @@ fn damaged(random: &mut Random, n: usize, node: usize, phase: Phase, copy: &[u8]
 }
 
 /// the frame that a unit writes for a channel, and whether it sends it
-fn write(unit: &Unit, phase: Phase, count: u32, channel: u32) -> (u32, Vec<u8>) {
+fn write(unit: &Unit, phase: Phase, count: u32, channel: u32, [sync, startup]: [u32; 2]) -> (u32, Vec<u8>) {
     let (mut sent, heard) = (9, unit.heard);
     let mut frame = match phase {
         Phase::Heartbeats => vec![0xa5; HEARTBEAT_BYTES],
         Phase::Votes => vec![0xa5; VOTE_FRAME_BYTES],
     };
     match phase {
-        Phase::Heartbeats => must(Archive.send_heartbeat(&unit.state, 0, 0, count, channel, &mut frame, &mut sent), "send_heartbeat"),
+        Phase::Heartbeats => must(Archive.send_heartbeat(&unit.state, sync, startup, count, channel, &mut frame, &mut sent), "send_heartbeat"),
         Phase::Votes => must(Archive.send_vote(&unit.state, heard.join0, heard.join1, count, channel, &mut frame, &mut sent), "send_vote"),
     }
     (sent, frame)
@@ -176,7 +179,7 @@ impl Press<'_> {
         let mut random = Random::new(seed);
         let n = make::count(&mut random);
         let founding = make::founding(&mut random, n);
-        let (damage_rate, style) = (random.pick(&[2, 4, 10, 100]), random.below(3));
+        let (damage_rate, style, indicators) = (random.pick(&[2, 4, 10, 100]), random.below(3), random.once_in(4));
         let begun = |node: usize| {
             let mut state = vec![0; IMAGE_BYTES];
             must(Archive.begin(n as u32, node as u32, founding, &mut state), "begin");
@@ -185,7 +188,7 @@ impl Press<'_> {
         let units: Vec<Unit> = (0..n).map(begun).collect();
         let row = units.iter().flat_map(|unit| unit.state.clone()).collect();
         counts.presses += 1;
-        Press { n, units, row, table: write_first(n as u8, founding), cycles: 0, damage_rate, style, random, mistake, counts }
+        Press { n, units, row, table: write_first(n as u8, founding), cycles: 0, damage_rate, style, indicators, random, mistake, counts }
     }
 
     fn mistaken(&self, mistake: Mistake) -> bool {
@@ -210,13 +213,17 @@ impl Press<'_> {
         faults
     }
 
-    /// the masks are cleared, the vote buffer holds anything; then rule 1
+    /// sync and startup of a heartbeat, "but startup only with sync"
+    fn indicators(&self, q: usize, channel: u32) -> [u32; 2] {
+        let sync = u32::from(self.indicators) & (q as u32 + self.cycles as u32 + channel);
+        [sync, sync & (self.cycles as u32 >> 1)]
+    }
+
+    /// the masks are cleared, the vote buffer holds anything; then rule 1. A unit that is out then, and is not started, may be off: it makes no further call
     fn begin_cycle(&mut self, q: usize, faults: &Faults) {
         let (stop, start) = (has(faults.stop, q), has(faults.start, q));
         let kept = self.mistaken(Mistake::MasksKept);
         let unit = &mut self.units[q];
-        unit.off = unit.state[0] == 0 && !stop && !start && self.random.once_in(2);
-        self.counts.off += u64::from(unit.off);
         if !kept {
             (unit.heard, unit.arrived) = (Heard::default(), 0);
         }
@@ -231,6 +238,10 @@ impl Press<'_> {
         if start {
             must(Archive.start(&mut self.units[q].state), "start");
         }
+        let off = self.units[q].state[0] == 0 && !start && self.random.once_in(2);
+        self.units[q].off = off;
+        self.counts.off += u64::from(off);
+        self.counts.gone += u64::from(off && stop);
     }
 
     /// a unit that lost its memory: instead of gm_stop it begins, with a founding set that lacks it
@@ -254,7 +265,7 @@ impl Press<'_> {
             return None;
         }
         let b = if self.mistaken(Mistake::ChannelAOnBoth) { 0 } else { 1 };
-        let [(on_a, a), (on_b, b)] = [0, b].map(|channel| write(unit, phase, self.count(), channel));
+        let [(on_a, a), (on_b, b)] = [0, b].map(|channel| write(unit, phase, self.count(), channel, self.indicators(q, channel)));
         assert_eq!(on_a, on_b, "a unit sends on both channels or on none");
         (on_a == 1).then_some([a, b])
     }
@@ -398,7 +409,7 @@ impl Press<'_> {
         }
     }
 
-    /// gm_run_frames on the table so far gives the same row, and shows the frames that the units wrote in the last cycle
+    /// gm_run_frames on the table so far gives the same row, and shows the frames that the units wrote in the last cycle; of heartbeats with indicators only the votes
     fn same_frames(&mut self, written: &SentFrames) -> Result<(), String> {
         let (mut row, mut frames) = (self.random.bytes(self.row.len()), self.random.bytes(FRAMES_BYTES));
         must(Archive.run_frames(&mut row, &self.table, &mut frames), "run_frames");
@@ -407,7 +418,8 @@ impl Press<'_> {
             return Err(format!("N {}, cycle {}: gm_run_frames leaves another row", self.n, self.cycles));
         }
         let wrote = written.shown();
-        let mut slots = frames.chunks(VOTE_FRAME_BYTES).zip(wrote.chunks(VOTE_FRAME_BYTES)).enumerate();
+        let heartbeats = if self.indicators { 128 } else { 0 };
+        let mut slots = frames.chunks(VOTE_FRAME_BYTES).zip(wrote.chunks(VOTE_FRAME_BYTES)).enumerate().skip(heartbeats);
         match slots.find(|(_, (shown, wrote))| shown != wrote) {
             None => Ok(()),
             Some((k, (shown, wrote))) => {
@@ -441,14 +453,14 @@ fn presses(seed: u64, number: u64, mistake: Option<Mistake>) -> Result<Counts, S
 }
 
 fn print_counts(counts: &Counts) {
-    let Counts { presses, cycles, shown, damaged, saved, both_damaged, left_out, off, forgotten, halted, entered, refusals } = counts;
+    let Counts { presses, cycles, shown, damaged, saved, both_damaged, left_out, off, gone, forgotten, halted, entered, refusals } = counts;
     let refusals: Vec<String> = refusals.iter().map(|(number, count)| format!("{number}: {count}")).collect();
     println!("press: {presses} presses of 2 to 64 units, {cycles} cycles: all units hold what gm_cycle gives; frames of {shown} cycles as gm_run_frames shows");
     println!(
         "press: {damaged} copies damaged on one channel, {saved} frames saved by the other; {both_damaged} copies damaged on both, where nothing comes"
     );
     println!("press: damaged copies by the number that refuses them: {}", refusals.join(", "));
-    println!("press: {left_out} receive calls left out, {off} cycles of units switched off, {forgotten} units that lost their memory");
+    println!("press: {left_out} receive calls left out, {off} cycles of units switched off, {gone} that went off as they were stopped, {forgotten} that lost their memory");
     println!("press: {halted} units halted, {entered} entered a group");
 }
 
