@@ -38,7 +38,8 @@ run: $(GROUPRUN) $(TABLETEXT)
 	@diff examples/p1.out $(BUILD)/p1.out
 
 # the whole gate; its last line is 'N passed, 0 failed'
-test: format trace-test archive-test host run examples-test vectors-test badinput-test text-test install-test
+test: format trace-test archive
+	@$(MAKE) --no-print-directory -j2 --output-sync archive-test host run examples-test vectors-test badinput-test text-test install-test
 	@$(MAKE) --no-print-directory -j2 --output-sync compare-test load-test
 	rt ci
 
