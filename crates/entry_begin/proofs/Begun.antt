@@ -9,8 +9,8 @@ use Rattle.state.specs.State.{initial}
 use Rattle.state.specs.Image.{imageOf}
 use Rattle.state.proofs.RoundTrip.{image-length}
 use Rattle.refusal.proofs.Laws.{none, unless-done}
-use Rattle.lent.specs.Refusals.{wrongCount, wrongNode, wrongLength}
-use Rattle.lent.proofs.Bounds.{count-bounds, length-is}
+use Rattle.entry_lent.specs.Refusals.{wrongCount, wrongNode, wrongLength}
+use Rattle.entry_lent.proofs.Bounds.{count-bounds, length-is}
 use Rattle.parts.proofs.Copies.{whole}
 use Rattle.entry_begin.specs.Begin.{beginStatus, beginLeft}
 

@@ -5,7 +5,7 @@ use Prim.Native.Nat.{ℕ}
 use Rattle.state.specs.State.{initial}
 use Rattle.state.specs.Image.{imageOf}
 use Rattle.refusal.specs.Refusal.{when, first, unless}
-use Rattle.lent.specs.Refusals.{wrongCount, wrongNode, wrongLength, wrongFounding}
+use Rattle.entry_lent.specs.Refusals.{wrongCount, wrongNode, wrongLength, wrongFounding}
 
 -- begin: "At the beginning the nodes of the founding set are members with G 0 and M and B the founding set; the others are out with reason 0."
 unfoldable pub beginStatus : ℕ → ℕ → ℕ → List ℕ → ℕ

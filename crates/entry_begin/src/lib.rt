@@ -2,9 +2,9 @@
 ghost use mathlib.Core.Path.{_≡_};
 ghost use Prim.Native.Nat.{_≤_, _<_};
 ghost use Rattle.state.specs.State.{initial as theInitial};
-ghost use Rattle.lent.specs.Refusals.{wrongFounding};
+ghost use Rattle.entry_lent.specs.Refusals.{wrongFounding};
 ghost use Rattle.entry_begin.specs.Begin.{beginStatus, beginLeft};
-use lent::wrong_count;
+use entry_lent::wrong_count;
 use state::Group;
 use state::Node;
 use state::Reason;
@@ -64,7 +64,7 @@ pub fn begin(n: u32, node: u32, founding: u64, state: &mut [u8]) -> u32
     if status != 0 {
         return status;
     }
-    let image = encoding::encode(Node {
+    let image = state_encoding::encode(Node {
         state: initial(founding, node as usize),
         id: node as u8,
         nodes: n as u8,

@@ -11,9 +11,9 @@ use Rattle.state.specs.declared.Decoded.the-variants.{Good, WrongLength, Malfor
 use Rattle.state.specs.Image.{imageOf, decoded}
 use Rattle.rules.specs.OneCycle.{memberDecides, joinerDecides}
 use Rattle.refusal.specs.Refusal.{when, first, unless}
-use Rattle.lent.specs.Refusals.{wrongLength, malformed}
-use Rattle.entry_voting.specs.Voting.{ownView}
-use Rattle.slots.specs.Slots.{bufferBallots}
+use Rattle.entry_lent.specs.Refusals.{wrongLength, malformed}
+use Rattle.entry_send_vote.specs.Voting.{ownView}
+use Rattle.entry_slots.specs.Slots.{bufferBallots}
 
 unfoldable pub decideStatus : List ℕ → List ℕ → ℕ
 decideStatus s votes = first (when (wrongLength 24 s || wrongLength 1792 votes) 3 ∷ when (malformed s) 4 ∷ [])

@@ -3,7 +3,7 @@ ghost use mathlib.Core.Path.{_≡_};
 ghost use Prim.Native.Nat.{_≤_, _<_};
 ghost use lib.ListN.{length};
 ghost use Rattle.entry_decide.specs.Decide.{decision, decideStatus, decideLeft};
-use entry_voting::own_vote;
+use entry_send_vote::own_vote;
 use state::Decoded;
 use state::Node;
 use state::State;
@@ -20,7 +20,7 @@ fn next_state(n: Node, heard0: u64, heard1: u64, votes: &[u8], arrived: u64) -> 
     let mut sets = [0u64; 64];
     let mut bases = [0u64; 64];
     let mut views = [0u64; 64];
-    let present = slots::read_votes(
+    let present = entry_slots::read_votes(
         nodes,
         q,
         votes,
@@ -32,7 +32,7 @@ fn next_state(n: Node, heard0: u64, heard1: u64, votes: &[u8], arrived: u64) -> 
     );
     match s {
         State::Out(r) => State::Out(r),
-        State::Joining => joiner_decision::joiner_decides(
+        State::Joining => rule_joiner::joiner_decides(
             nodes,
             q,
             &numbers,
@@ -43,7 +43,7 @@ fn next_state(n: Node, heard0: u64, heard1: u64, votes: &[u8], arrived: u64) -> 
         ),
         State::Member(g) => {
             let own = own_vote(n, g, heard0, heard1);
-            member_decision::member_decides(nodes, q, own, &numbers, &sets, &bases, &views, present)
+            rule_member::member_decides(nodes, q, own, &numbers, &sets, &bases, &views, present)
         }
     }
 }
@@ -56,14 +56,14 @@ pub fn decide(state: &mut [u8], heard0: u64, heard1: u64, votes: &[u8], arrived:
     if votes.len() != 1792 {
         return 3;
     }
-    match decoding::decode(state) {
+    match state_decoding::decode(state) {
         Decoded::Good(n) => {
             let next = Node {
                 state: next_state(n, heard0, heard1, votes, arrived),
                 id: n.id,
                 nodes: n.nodes,
             };
-            bytes::copy(&encoding::encode(next), state);
+            bytes::copy(&state_encoding::encode(next), state);
             0
         }
         Decoded::WrongLength => 3,

@@ -6,18 +6,18 @@ use native.Mathlib.Omega.{arith}
 use lib.ListN.{length}
 use Rattle.refusal.proofs.Laws.{unless-done, unless-refused}
 use Rattle.rules.proofs.Rows.{length-tabulate}
-use Rattle.roles.specs.declared.States.{States}
-use Rattle.roles.specs.States.{rowOf}
+use Rattle.cluster_states.specs.declared.States.{States}
+use Rattle.cluster_states.specs.States.{rowOf}
 use Rattle.row.specs.declared.Gathered.{Gathered}
 use Rattle.row.specs.Row.{nodesOf}
 use Rattle.row.specs.Gathered.{nothingOf, gathered}
-use Rattle.calls.specs.declared.Task.{Task}
-use Rattle.calls.proofs.Counts.{counted}
-use Rattle.calls.specs.Calls.{callLeft, callFrames}
-use Rattle.runs.specs.Answered.{countByte, GatheredFrom, Leaves}
-use Rattle.images.specs.Images.{nodeIn, entriesIn, nodesIn, imagesOf}
+use Rattle.row_calls.specs.declared.Task.{Task}
+use Rattle.row_calls.proofs.Counts.{counted}
+use Rattle.row_calls.specs.Calls.{callLeft, callFrames}
+use Rattle.run_answer.specs.Answered.{countByte, GatheredFrom, Leaves}
+use Rattle.row_images.specs.Images.{nodeIn, entriesIn, nodesIn, imagesOf}
 use Rattle.entry_row.specs.OnImages.{lentStatus, lentLeft, lentFrames}
-use Rattle.images.proofs.Images.{entries-all}
+use Rattle.row_images.proofs.Images.{entries-all}
 
 length-nodes : (row : List ℕ) → length (nodesIn row) ≡ entriesIn row
 unfolding nodesIn

@@ -3,9 +3,9 @@
 use mathlib.Core.List.{List}
 use Prim.Native.Nat.{ℕ}
 use Rattle.refusal.specs.Refusal.{unless}
-use Rattle.calls.specs.declared.Task.{Task}
-use Rattle.calls.specs.Calls.{callStatus, callLeft, callFrames}
-use Rattle.images.specs.Images.{entriesIn, nodesIn, imagesOf}
+use Rattle.row_calls.specs.declared.Task.{Task}
+use Rattle.row_calls.specs.Calls.{callStatus, callLeft, callFrames}
+use Rattle.row_images.specs.Images.{entriesIn, nodesIn, imagesOf}
 
 -- ---- a call that is lent `room` bytes for frames
 

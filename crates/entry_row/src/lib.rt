@@ -2,7 +2,7 @@
 ghost use mathlib.Core.Path.{_≡_};
 ghost use lib.ListN.{length};
 ghost use Rattle.entry_row.specs.OnImages.{lentStatus, lentLeft, lentFrames, imagesStatus, imagesLeft};
-use calls::Task;
+use row_calls::Task;
 
 // A call on a row of images that is lent a buffer for frames. One that is refused leaves both as they are.
 pub fn call_with(task: Task, n: u32, images: &mut [u8], bytes: &[u8], frames: &mut [u8]) -> u32
@@ -10,12 +10,12 @@ pub fn call_with(task: Task, n: u32, images: &mut [u8], bytes: &[u8], frames: &m
     ensures { λ _. ⌜ now (images .exit) ≡ lentLeft task n (now (images .entry)) (length (now (frames .entry))) (now (bytes .entry)) ⌝ }
     ensures { λ _. ⌜ now (frames .exit) ≡ lentFrames task (now (images .entry)) (now (bytes .entry)) (now (frames .entry)) ⌝ }
 {
-    let count = images::entries(images);
-    let g = images::gather(runs::count_byte(n), images);
-    let a = runs::answer(task, n, count, g, bytes, frames);
+    let count = row_images::entries(images);
+    let g = row_images::gather(run_answer::count_byte(n), images);
+    let a = run_answer::answer(task, n, count, g, bytes, frames);
     let status = a.status;
     if status == 0 {
-        images::scatter(a.nodes, a.states, images);
+        row_images::scatter(a.nodes, a.states, images);
     }
     status
 }

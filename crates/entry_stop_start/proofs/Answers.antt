@@ -9,9 +9,9 @@ use Rattle.state.specs.declared.Decoded.{Decoded}
 use Rattle.state.specs.declared.Decoded.the-variants.{Good}
 use Rattle.state.specs.Image.{imageOf, decoded, refusal}
 use Rattle.state.proofs.RoundTrip.{image-length}
-use Rattle.lent.specs.Refusals.{imageStatus}
+use Rattle.entry_lent.specs.Refusals.{imageStatus}
 use Rattle.parts.proofs.Copies.{whole}
-use Rattle.lent.proofs.Images.{good-length}
+use Rattle.entry_lent.proofs.Images.{good-length}
 use Rattle.entry_stop_start.specs.StopStart.{stoppedAndStarted, ruleOneOf}
 
 module _ (stop· start· : Bool) (s : List ℕ) where

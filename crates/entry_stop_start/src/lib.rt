@@ -1,7 +1,7 @@
 // Rule 1 on a state: stop and start.
 ghost use mathlib.Core.Path.{_≡_};
 ghost use Rattle.state.specs.Image.{decoded};
-ghost use Rattle.lent.specs.Refusals.{imageStatus};
+ghost use Rattle.entry_lent.specs.Refusals.{imageStatus};
 ghost use Rattle.entry_stop_start.specs.StopStart.{stoppedAndStarted, ruleOneOf, stopLeft, startLeft};
 use state::Decoded;
 use state::Node;
@@ -11,7 +11,7 @@ fn stopped_and_started(stop: bool, start: bool, n: Node) -> Node
 {
     let s = n.state;
     Node {
-        state: steps::stop_and_start(stop, start, s),
+        state: rule_steps::stop_and_start(stop, start, s),
         id: n.id,
         nodes: n.nodes,
     }
@@ -22,9 +22,9 @@ fn rule_one(stop: bool, start: bool, state: &mut [u8]) -> u32
     ensures { λ r. ⌜ r ≡ imageStatus (now (state .entry)) ⌝ }
     ensures { λ _. ⌜ now (state .exit) ≡ ruleOneOf stop start (decoded (now (state .entry))) (now (state .entry)) ⌝ }
 {
-    match decoding::decode(state) {
+    match state_decoding::decode(state) {
         Decoded::Good(n) => {
-            let image = encoding::encode(stopped_and_started(stop, start, n));
+            let image = state_encoding::encode(stopped_and_started(stop, start, n));
             bytes::copy(&image, state);
             0
         }

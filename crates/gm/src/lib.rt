@@ -3,18 +3,18 @@
 ghost use mathlib.Core.Path.{_≡_};
 ghost use lib.ListN.{length};
 ghost use Rattle.state.specs.Image.{decoded};
-ghost use Rattle.lent.specs.Refusals.{imageStatus};
+ghost use Rattle.entry_lent.specs.Refusals.{imageStatus};
 ghost use Rattle.entry_stop_start.specs.StopStart.{stopLeft, startLeft};
 ghost use Rattle.entry_begin.specs.Begin.{beginStatus, beginLeft};
-ghost use Rattle.entry_heartbeats.specs.Heartbeats.{writeHeartbeatStatus, writeHeartbeatLeft};
-ghost use Rattle.entry_beating.specs.Beating.{sendHeartbeatStatus, sendHeartbeatLeft, sendHeartbeatSent};
-ghost use Rattle.entry_hearing.specs.Hearing.{readHeartbeatStatus, readHeartbeatJoin, receiveHeartbeatStatus, receiveHeartbeatHeard};
-ghost use Rattle.entry_votes.specs.Votes.{voteOf, writeVoteStatus, writeVoteLeft};
-ghost use Rattle.entry_voting.specs.Voting.{viewFrom, sendVoteStatus, sendVoteLeft, sendVoteSent};
-ghost use Rattle.entry_arrivals.specs.Arrivals.{readVoteStatus, readVoteLeft, receiveVoteStatus, receiveVoteLeft, receiveVoteArrived};
+ghost use Rattle.entry_write_heartbeat.specs.Heartbeats.{writeHeartbeatStatus, writeHeartbeatLeft};
+ghost use Rattle.entry_send_heartbeat.specs.Beating.{sendHeartbeatStatus, sendHeartbeatLeft, sendHeartbeatSent};
+ghost use Rattle.entry_receive_heartbeat.specs.Hearing.{readHeartbeatStatus, readHeartbeatJoin, receiveHeartbeatStatus, receiveHeartbeatHeard};
+ghost use Rattle.entry_write_vote.specs.Votes.{voteOf, writeVoteStatus, writeVoteLeft};
+ghost use Rattle.entry_send_vote.specs.Voting.{viewFrom, sendVoteStatus, sendVoteLeft, sendVoteSent};
+ghost use Rattle.entry_receive_vote.specs.Arrivals.{readVoteStatus, readVoteLeft, receiveVoteStatus, receiveVoteLeft, receiveVoteArrived};
 ghost use Rattle.entry_decide.specs.Decide.{decideStatus, decideLeft};
 ghost use Rattle.entry_row.specs.OnImages.{lentStatus, lentLeft, lentFrames, imagesStatus, imagesLeft};
-use calls::Task;
+use row_calls::Task;
 
 // Puts a node at the beginning.
 #[no_mangle]
@@ -58,7 +58,7 @@ pub extern "C" fn gm_write_heartbeat(
     ensures { λ r. ⌜ r ≡ writeHeartbeatStatus n node join sync startup cycle channel (now (frame .entry)) ⌝ }
     ensures { λ _. ⌜ now (frame .exit) ≡ writeHeartbeatLeft n node join sync startup cycle channel (now (frame .entry)) ⌝ }
 {
-    entry_heartbeats::write(n, node, join, sync, startup, cycle, channel, frame)
+    entry_write_heartbeat::write(n, node, join, sync, startup, cycle, channel, frame)
 }
 
 // Rule 2: the heartbeat that a node sends, if it sends one.
@@ -76,7 +76,7 @@ pub extern "C" fn gm_send_heartbeat(
     ensures { λ _. ⌜ now (frame .exit) ≡ sendHeartbeatLeft (now (state .entry)) sync startup cycle channel (now (frame .entry)) ⌝ }
     ensures { λ _. ⌜ now (sent .exit) ≡ sendHeartbeatSent (now (state .entry)) sync startup cycle channel (now (frame .entry)) (now (sent .entry)) ⌝ }
 {
-    entry_beating::send(state, sync, startup, cycle, channel, frame, sent)
+    entry_send_heartbeat::send(state, sync, startup, cycle, channel, frame, sent)
 }
 
 // One copy of a node's heartbeat: its join bit.
@@ -92,7 +92,7 @@ pub extern "C" fn gm_read_heartbeat(
     ensures { λ r. ⌜ r ≡ readHeartbeatStatus n node cycle channel (now (frame .entry)) ⌝ }
     ensures { λ _. ⌜ now (join .exit) ≡ readHeartbeatJoin n node cycle channel (now (frame .entry)) (now (join .entry)) ⌝ }
 {
-    entry_hearing::read(n, node, cycle, channel, frame, join)
+    entry_receive_heartbeat::read(n, node, cycle, channel, frame, join)
 }
 
 // Both copies of a node's heartbeat: missed, a member's or a joining node's.
@@ -108,7 +108,7 @@ pub extern "C" fn gm_receive_heartbeat(
     ensures { λ r. ⌜ r ≡ receiveHeartbeatStatus n node cycle ⌝ }
     ensures { λ _. ⌜ now (heard .exit) ≡ receiveHeartbeatHeard n node cycle (now (a .entry)) (now (b .entry)) (now (heard .entry)) ⌝ }
 {
-    entry_hearing::receive(n, node, cycle, a, b, heard)
+    entry_receive_heartbeat::receive(n, node, cycle, a, b, heard)
 }
 
 // Rule 3: the view of a node, 0 if it is no member.
@@ -117,7 +117,7 @@ pub extern "C" fn gm_view(state: &[u8], heard0: u64, heard1: u64, view: &mut u64
     ensures { λ r. ⌜ r ≡ imageStatus (now (state .entry)) ⌝ }
     ensures { λ _. ⌜ now (view .exit) ≡ viewFrom (decoded (now (state .entry))) heard0 heard1 (now (view .entry)) ⌝ }
 {
-    entry_voting::view(state, heard0, heard1, view)
+    entry_send_vote::view(state, heard0, heard1, view)
 }
 
 // A vote from numbers, into 36 bytes.
@@ -136,7 +136,7 @@ pub extern "C" fn gm_write_vote(
     ensures { λ r. ⌜ r ≡ writeVoteStatus n node (voteOf number set base view) cycle channel (now (frame .entry)) ⌝ }
     ensures { λ _. ⌜ now (frame .exit) ≡ writeVoteLeft n node (voteOf number set base view) cycle channel (now (frame .entry)) ⌝ }
 {
-    entry_votes::write(n, node, number, set, base, view, cycle, channel, frame)
+    entry_write_vote::write(n, node, number, set, base, view, cycle, channel, frame)
 }
 
 // Rule 4: the vote that a node sends, if it sends one.
@@ -154,7 +154,7 @@ pub extern "C" fn gm_send_vote(
     ensures { λ _. ⌜ now (frame .exit) ≡ sendVoteLeft (now (state .entry)) heard0 heard1 cycle channel (now (frame .entry)) ⌝ }
     ensures { λ _. ⌜ now (sent .exit) ≡ sendVoteSent (now (state .entry)) cycle channel (now (frame .entry)) (now (sent .entry)) ⌝ }
 {
-    entry_voting::send(state, heard0, heard1, cycle, channel, frame, sent)
+    entry_send_vote::send(state, heard0, heard1, cycle, channel, frame, sent)
 }
 
 // One copy of a node's vote: its 28 bytes.
@@ -170,7 +170,7 @@ pub extern "C" fn gm_read_vote(
     ensures { λ r. ⌜ r ≡ readVoteStatus n node cycle channel (now (frame .entry)) (now (vote .entry)) ⌝ }
     ensures { λ _. ⌜ now (vote .exit) ≡ readVoteLeft n node cycle channel (now (frame .entry)) (now (vote .entry)) ⌝ }
 {
-    entry_arrivals::read(n, node, cycle, channel, frame, vote)
+    entry_receive_vote::read(n, node, cycle, channel, frame, vote)
 }
 
 // Both copies of a node's vote: into its slot of the vote buffer, and its bit of the mask.
@@ -188,7 +188,7 @@ pub extern "C" fn gm_receive_vote(
     ensures { λ _. ⌜ now (votes .exit) ≡ receiveVoteLeft n node cycle (now (a .entry)) (now (b .entry)) (now (votes .entry)) ⌝ }
     ensures { λ _. ⌜ now (arrived .exit) ≡ receiveVoteArrived n node cycle (now (a .entry)) (now (b .entry)) (now (votes .entry)) (now (arrived .entry)) ⌝ }
 {
-    entry_arrivals::receive(n, node, cycle, a, b, votes, arrived)
+    entry_receive_vote::receive(n, node, cycle, a, b, votes, arrived)
 }
 
 // Rules 3 to 6: the next state, from what the node heard and the votes that arrived.

@@ -5,7 +5,7 @@ use mathlib.Core.Bool.{true, false}
 use mathlib.Core.List.{List}
 use Prim.Native.Nat.{ℕ, _+_, _≤_}
 use lib.ListN.{length}
-use Rattle.report.specs.Pieces.{Sound}
+use Rattle.print_pieces.specs.Pieces.{Sound}
 use Rattle.grouprun.specs.declared.Window.{Window}
 use Rattle.grouprun.specs.declared.Run.{Run}
 

@@ -7,7 +7,7 @@ ghost use Rattle.grouprun.specs.Buffers.{Shows, Filled, Fits};
 use libc::STDERR_FILENO;
 use libc::STDIN_FILENO;
 use libc::STDOUT_FILENO;
-use report::Session;
+use print_pieces::Session;
 
 // The longest record, the room that a piece needs, and the header line.
 const RECORD: usize = 2331;
@@ -131,13 +131,13 @@ fn begin(
 {
     let mut window = fill(input, 0);
     let end = window.end;
-    let piece = report::open(&input[..end], out, 0, numbers, sets, bases);
+    let piece = print_pieces::open(&input[..end], out, 0, numbers, sets, bases);
     let session = piece.session;
     window.at = piece.taken;
     Run {
         session,
         window,
-        used: used_after(window, piece.over, lines::header_length(), piece.at),
+        used: used_after(window, piece.over, print_lines::header_length(), piece.at),
         over: piece.over,
         lost: false,
     }
@@ -172,7 +172,7 @@ fn next(
     let mut window = refill(input, before);
     let at = window.at;
     let end = window.end;
-    let piece = report::turn(session, &input[at..end], out, used, numbers, sets, bases);
+    let piece = print_pieces::turn(session, &input[at..end], out, used, numbers, sets, bases);
     let after = piece.session;
     window.at = at + piece.taken;
     Run {

@@ -15,9 +15,9 @@ use Rattle.state.specs.State.{formed}
 use Rattle.rules.specs.OneCycle.{stopped}
 use Rattle.rules.specs.Faults.{Row, at, tabulate}
 use Rattle.rules.proofs.Rows.{get-tabulate, length-tabulate, tabulate-ext}
-use Rattle.roles.specs.declared.States.{States}
-use Rattle.roles.specs.States.{rolesOf, stateAt, rowOf}
-use Rattle.roles.proofs.Deciding.{Holds, holds-none, holds-next, holds-state}
+use Rattle.cluster_states.specs.declared.States.{States}
+use Rattle.cluster_states.specs.States.{rolesOf, stateAt, rowOf}
+use Rattle.cluster_states.proofs.Deciding.{Holds, holds-none, holds-next, holds-state}
 use Rattle.row.specs.declared.Gathered.{Gathered}
 use Rattle.row.specs.Row.{statesOf, nodesOf, inPlace, inOrder}
 use Rattle.row.specs.Gathered.{withNode, nothingOf, pushOf, gathered, nodeOf, each}

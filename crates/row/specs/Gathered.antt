@@ -7,9 +7,9 @@ use lib.Dec.{ltb}
 use lib.ListN.{set, replicate}
 use Rattle.state.specs.declared.State.{State}
 use Rattle.state.specs.declared.Node.{Node}
-use Rattle.roles.specs.declared.States.{States}
-use Rattle.roles.specs.Decided.{heldBy, withState}
-use Rattle.roles.specs.States.{rolesOf, stateAt}
+use Rattle.cluster_states.specs.declared.States.{States}
+use Rattle.cluster_states.specs.Decided.{heldBy, withState}
+use Rattle.cluster_states.specs.States.{rolesOf, stateAt}
 use Rattle.row.specs.declared.Gathered.{Gathered}
 use Rattle.row.specs.Row.{inPlace}
 

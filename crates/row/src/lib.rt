@@ -3,11 +3,11 @@ ghost use mathlib.Core.Path.{_≡_};
 ghost use Prim.Native.Nat.{_<_, _≤_};
 ghost use lib.ListN.{length};
 ghost use Rattle.state.specs.State.{formedState};
-ghost use Rattle.roles.specs.States.{rolesOf, statesOf, stateAt};
+ghost use Rattle.cluster_states.specs.States.{rolesOf, statesOf, stateAt};
 ghost use Rattle.row.specs.Row.{inPlace};
 ghost use Rattle.row.specs.Gathered.{withNode, placedNode};
-use roles::Roles;
-use roles::States;
+use cluster_states::Roles;
+use cluster_states::States;
 use state::Group;
 use state::Node;
 use state::State;
@@ -25,7 +25,7 @@ fn state_formed(id: u8, n: u8, s: State) -> bool
     match s {
         State::Out(_) => true,
         State::Joining => true,
-        State::Member(g) => decoding::sets_formed(id, n, g.set, g.base),
+        State::Member(g) => state_decoding::sets_formed(id, n, g.set, g.base),
     }
 }
 
@@ -33,7 +33,7 @@ fn state_formed(id: u8, n: u8, s: State) -> bool
 pub fn in_place(n: u8, q: usize, x: Node) -> bool
     ensures { λ r. ⌜ r ≡ inPlace n q x ⌝ }
 {
-    if !decoding::place_formed(x.id, x.nodes) {
+    if !state_decoding::place_formed(x.id, x.nodes) {
         return false;
     }
     let s = x.state;
@@ -69,11 +69,11 @@ pub fn put_state(
     requires { ⌜ (q < 64) × (length (now numbers) ≡ 64) × (length (now sets) ≡ 64) × (length (now bases) ≡ 64) ⌝ }
     ensures { λ r. ⌜ statesOf r (now (numbers .exit)) (now (sets .exit)) (now (bases .exit)) ≡ withNode (statesOf w (now (numbers .entry)) (now (sets .entry)) (now (bases .entry))) q d ⌝ }
 {
-    let g = roles::held_by(d);
+    let g = cluster_states::held_by(d);
     numbers[q] = g.number;
     sets[q] = g.set;
     bases[q] = g.base;
-    roles::with_state(w, q, d)
+    cluster_states::with_state(w, q, d)
 }
 
 fn state_at<'a>(
@@ -95,7 +95,7 @@ fn state_at<'a>(
     } else if sets::contains(w.joining, q) {
         State::Joining
     } else {
-        roles::out_at(w, q)
+        cluster_states::out_at(w, q)
     }
 }
 

@@ -45,7 +45,7 @@ fn show_vote(channel: u32) {
         set: 0x1f,
         base: 0x1f,
     };
-    let frame = writing::write_vote(0, Vote { group, view: 0x1f }, 0, channel);
+    let frame = frame_writing::write_vote(0, Vote { group, view: 0x1f }, 0, channel);
     show_bytes(&frame);
 }
 
@@ -61,11 +61,11 @@ fn show_headers() {
 }
 
 fn show_frames() {
-    let member = writing::write_heartbeat(0, 0, 0, 0, 0, 0);
+    let member = frame_writing::write_heartbeat(0, 0, 0, 0, 0, 0);
     show_bytes(&member);
-    let joining = writing::write_heartbeat(4, 1, 0, 0, 63, 1);
+    let joining = frame_writing::write_heartbeat(4, 1, 0, 0, 63, 1);
     show_bytes(&joining);
-    let starting = writing::write_heartbeat(63, 0, 1, 1, 9, 0);
+    let starting = frame_writing::write_heartbeat(63, 0, 1, 1, 9, 0);
     show_bytes(&starting);
     show_vote(0);
     show_vote(1);

@@ -2,9 +2,9 @@ use mathlib.Core.Path.{_≡_, sym, _∙_}
 use mathlib.Core.Bool.{false}
 use borrow.Author.Tests.{le-leb, lt-leb, ne-eqb}
 use Rattle.refusal.specs.Refusal.{first}
-use Rattle.lent.specs.Refusals.{wrongCount}
+use Rattle.entry_lent.specs.Refusals.{wrongCount}
 use Rattle.entry_begin.specs.Begin.{beginStatus}
-use Rattle.lent.proofs.Bounds.{count-bounds}
+use Rattle.entry_lent.proofs.Bounds.{count-bounds}
 use borrow.Author.Needs.{needs}
 use Rattle.entry_begin.proofs.begin_refusal.Statement.{statement}
 use Rattle.entry_begin.proofs.begin_refusal.Tie as tie

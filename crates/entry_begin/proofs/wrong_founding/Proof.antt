@@ -1,6 +1,6 @@
 use borrow.Author.Needs.{needs}
 use borrow.Author.Tests.{eq-eqb, ne-eqb}
-use Rattle.lent.specs.Refusals.{wrongFounding}
+use Rattle.entry_lent.specs.Refusals.{wrongFounding}
 use Rattle.entry_begin.proofs.wrong_founding.Statement.{statement}
 use Rattle.entry_begin.proofs.wrong_founding.Tie as tie
 

@@ -12,7 +12,7 @@ use Rattle.state.specs.Image.{imageOf, decoded, refusal}
 use Rattle.state.proofs.RoundTrip.{image-length}
 use Rattle.refusal.proofs.Laws.{unless-done, unless-refused}
 use Rattle.parts.proofs.Copies.{copied}
-use Rattle.lent.proofs.Images.{good-length, good-place, other-length, by-image}
+use Rattle.entry_lent.proofs.Images.{good-length, good-place, other-length, by-image}
 use Rattle.entry_decide.specs.Decide.{decideStatus, decision, decidedFrom, decideLeft}
 use borrow.Author.Needs.{needs}
 use Rattle.entry_decide.proofs.decide.Statement.{statement}

@@ -9,10 +9,10 @@ use Rattle.state.specs.declared.Node.{Node}
 use Rattle.rules.specs.declared.Vote.{Vote}
 use Rattle.rules.specs.OneCycle.{Ballots, memberDecides, joinerDecides}
 use Rattle.rules.specs.Ballots.{ballotsOf}
-use Rattle.entry_voting.specs.Voting.{ownView}
+use Rattle.entry_send_vote.specs.Voting.{ownView}
 use Rattle.entry_decide.specs.Decide.{decision}
-use Rattle.slots.specs.Slots.{bufferBallots}
-use Rattle.slots.proofs.Buffers.{same-ballots}
+use Rattle.entry_slots.specs.Slots.{bufferBallots}
+use Rattle.entry_slots.proofs.Buffers.{same-ballots}
 use borrow.Author.Needs.{needs}
 use Rattle.entry_decide.proofs.next_state.Statement.{statement}
 use Rattle.entry_decide.proofs.next_state.Tie as tie

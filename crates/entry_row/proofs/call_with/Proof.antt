@@ -2,8 +2,8 @@ use mathlib.Core.Path.{_≡_, sym, _∙_}
 use lib.ListN.{length}
 use denote.Ref.{now}
 use borrow.Author.Needs.{needs}
-use Rattle.runs.specs.Answered.{GatheredFrom}
-use Rattle.images.specs.Images.{nodesIn}
+use Rattle.run_answer.specs.Answered.{GatheredFrom}
+use Rattle.row_images.specs.Images.{nodesIn}
 use Rattle.entry_row.specs.OnImages.{lentStatus}
 use Rattle.entry_row.proofs.Accepted.{whole-images, images-done, images-kept, from-images, frames-left}
 use Rattle.entry_row.proofs.call_with.Statement.{statement}

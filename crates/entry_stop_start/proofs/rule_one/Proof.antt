@@ -1,6 +1,6 @@
 use mathlib.Core.Path.{refl, sym, _∙_}
 use native.Mathlib.Omega.{arith}
-use Rattle.lent.proofs.Images.{good-length}
+use Rattle.entry_lent.proofs.Images.{good-length}
 use Rattle.entry_stop_start.proofs.Answers.{ruled, kept}
 use borrow.Author.Needs.{needs}
 use Rattle.entry_stop_start.proofs.rule_one.Statement.{statement}

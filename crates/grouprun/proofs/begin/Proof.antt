@@ -3,8 +3,8 @@ use mathlib.Core.Path.{sym}
 use native.Mathlib.Omega.{arith}
 use lib.Seq.{length-take-le}
 use lib.ListN.{length-take}
-use Rattle.printed.proofs.Lengths.{header-length}
-use Rattle.report.proofs.Pieces.{ends-within}
+use Rattle.print_run.proofs.Lengths.{header-length}
+use Rattle.print_pieces.proofs.Pieces.{ends-within}
 use Rattle.grouprun.proofs.begin.Statement.{statement}
 use Rattle.grouprun.proofs.begin.Tie as tie
 

@@ -2,7 +2,7 @@
 use native.Mathlib.Omega.{arith}
 use Prim.Native.Nat.{_-_}
 use lib.ListN.{drop, length-take}
-use Rattle.report.proofs.Pieces.{ends-within}
+use Rattle.print_pieces.proofs.Pieces.{ends-within}
 use borrow.Author.Needs.{needs}
 use Rattle.grouprun.proofs.next.Statement.{statement}
 use Rattle.grouprun.proofs.next.Tie as tie

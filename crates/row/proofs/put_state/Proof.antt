@@ -6,10 +6,10 @@ use lib.ListN.{set}
 use borrow.Author.Needs.{needs}
 use Rattle.state.specs.declared.Group.{Group}
 use Rattle.state.specs.declared.State.{State}
-use Rattle.roles.specs.declared.Roles.{Roles}
-use Rattle.roles.specs.declared.States.{States}
-use Rattle.roles.specs.Decided.{heldBy, withState}
-use Rattle.roles.specs.States.{statesOf}
+use Rattle.cluster_states.specs.declared.Roles.{Roles}
+use Rattle.cluster_states.specs.declared.States.{States}
+use Rattle.cluster_states.specs.Decided.{heldBy, withState}
+use Rattle.cluster_states.specs.States.{statesOf}
 use Rattle.row.specs.Gathered.{withNode}
 use Rattle.row.proofs.put_state.Statement.{statement}
 use Rattle.row.proofs.put_state.Tie as tie

@@ -1,7 +1,7 @@
 -- By the masks, in their order. Assumes nothing.
 use mathlib.Core.Path.{sym, _∙_}
 use borrow.Author.Needs.{needs}
-use Rattle.roles.specs.States.{stateAt}
+use Rattle.cluster_states.specs.States.{stateAt}
 use Rattle.row.proofs.state_at.Statement.{statement}
 use Rattle.row.proofs.state_at.Tie as tie
 

@@ -1,0 +1,91 @@
+-- Paper 01, "Run through frames": what stands on the two channels in each half of a cycle, and what a unit makes of what it reads there.
+-- Assumes nothing.
+use mathlib.Core.Bool.{Bool, true, false, cond}
+use mathlib.Core.List.{List, _++_}
+use mathlib.Core.Option.{Option, none, some}
+use Prim.Native.Nat.{ℕ, zero, suc, _+_, _*_}
+use lib.Dec.{ltb}
+use lib.ListN.{length, take, drop, replicate}
+use Rattle.sets.specs.Sets.{has, those}
+use Rattle.state.specs.declared.State.{State}
+use Rattle.rules.specs.declared.Vote.{Vote}
+use Rattle.rules.specs.OneCycle.{Ballots, viewOf, memberDecides, joinerDecides}
+use Rattle.rules.specs.Ballots.{voteAt}
+use Rattle.frames.specs.declared.HeartbeatReceived.{HeartbeatReceived}
+use Rattle.frames.specs.declared.VoteReceived.{VoteReceived}
+use Rattle.frames.specs.declared.VoteReceived.the-variants as votes
+use Rattle.frames.specs.Written.{heartbeatFrame, voteFrame}
+use Rattle.frames.specs.Read.{readHeartbeat, readVote, receiveHeartbeat, receiveVote}
+use Rattle.bus_units.specs.Units.{isAlive, isJoin, received}
+use Rattle.cluster_states.specs.declared.Roles.{Roles}
+use Rattle.cluster_states.specs.Decided.{outAt}
+
+-- ---- a channel: a slot of 36 bytes for each of 64 nodes, a frame at the beginning of its sender's
+
+unfoldable pub withFrame : ℕ → List ℕ → List ℕ → List ℕ
+withFrame q x channel = take (36 * q) channel ++ x ++ drop (36 * q + length x) channel
+
+abbrev pub withSent : ℕ → Option (List ℕ) → List ℕ → List ℕ
+withSent q none channel = channel
+withSent q (some x) channel = withFrame q x channel
+
+-- what stands there when the first n nodes have sent
+unfoldable pub channelOf : ℕ → (ℕ → Option (List ℕ)) → List ℕ
+channelOf zero sent = replicate 2304 0
+channelOf (suc n) sent = withSent n (sent n) (channelOf n sent)
+
+-- ---- what each node sends
+
+-- "Heartbeat: a member sends one with join 0, a joining node with join 1, an out node nothing." "its heartbeats have sync and startup 0"
+abbrev pub heartbeatPut : Roles → ℕ → ℕ → ℕ → Option (List ℕ)
+heartbeatPut w count channel q =
+    cond (has q (w .members)) (some (heartbeatFrame q 0 0 0 count channel))
+    (cond (has q (w .joining)) (some (heartbeatFrame q 1 0 0 count channel)) none)
+
+-- "A member's vote is G, M, B and V. Joining nodes do not vote."
+abbrev pub votePut : List ℕ → List ℕ → List ℕ → List ℕ → ℕ → ℕ → ℕ → ℕ → Option (List ℕ)
+votePut numbers sets bases views members count channel q =
+    cond (has q members) (some (voteFrame q (voteAt numbers sets bases views q) count channel)) none
+
+-- ---- what a unit reads: `reach` are the nodes whose frame reaches it, a and b the channels
+
+-- its copy of a frame of k bytes of node p: "a lost or missed one is absent on both channels"
+abbrev pub copyOf : ℕ → ℕ → ℕ → List ℕ → List ℕ
+copyOf k reach p channel = take (cond (has p reach) k 0) (drop (36 * p) channel)
+
+-- "A unit reads both channels."
+unfoldable pub heartbeatRead : ℕ → ℕ → List ℕ → List ℕ → ℕ → HeartbeatReceived
+heartbeatRead count reach a b p =
+    receiveHeartbeat (readHeartbeat p count 0 (copyOf 10 reach p a)) (readHeartbeat p count 1 (copyOf 10 reach p b))
+
+unfoldable pub aliveRead : ℕ → ℕ → ℕ → List ℕ → List ℕ → ℕ
+aliveRead n count reach a b = those n (λ p. isAlive (heartbeatRead count reach a b p))
+
+unfoldable pub joinRead : ℕ → ℕ → ℕ → List ℕ → List ℕ → ℕ
+joinRead n count reach a b = those n (λ p. isJoin (heartbeatRead count reach a b p))
+
+-- rule 3, on what node q reads
+unfoldable pub viewRead : ℕ → ℕ → ℕ → List ℕ → List ℕ → ℕ → ℕ → ℕ
+viewRead n count reach a b set q = viewOf n q set (aliveRead n count reach a b) (joinRead n count reach a b)
+
+unfoldable pub voteRead : ℕ → ℕ → ℕ → List ℕ → List ℕ → ℕ → VoteReceived
+voteRead n count reach a b p = receiveVote (readVote n p count 0 (copyOf 36 reach p a)) (readVote n p count 1 (copyOf 36 reach p b))
+
+abbrev pub isWhole : VoteReceived → Bool
+isWhole votes.Missed = false
+isWhole (votes.Whole v) = true
+
+-- zeros where none was received
+abbrev pub voteIn : VoteReceived → Vote
+voteIn votes.Missed = record { group = record { number = 0; set = 0; base = 0 }; view = 0 }
+voteIn (votes.Whole v) = v
+
+unfoldable pub ballotsRead : ℕ → ℕ → ℕ → List ℕ → List ℕ → Ballots
+ballotsRead n count reach a b p = cond (ltb p n) (received (voteRead n count reach a b p)) none
+
+-- rules 5 and 6, on what node q reads; an out node stays as it is
+unfoldable pub decidedRead : List ℕ → List ℕ → List ℕ → List ℕ → ℕ → ℕ → Roles → ℕ → List ℕ → List ℕ → ℕ → State
+decidedRead numbers sets bases views n count w reach a b q =
+    cond (has q (w .members)) (memberDecides (record { nodes = n }) q (voteAt numbers sets bases views q) (ballotsRead n count reach a b))
+    (cond (has q (w .joining)) (joinerDecides (record { nodes = n }) q (ballotsRead n count reach a b))
+    (outAt w q))

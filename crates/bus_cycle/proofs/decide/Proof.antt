@@ -1,0 +1,62 @@
+use mathlib.Core.Path.{sym, ap, _∙_}
+use borrow.Author.Needs.{needs}
+use Rattle.rules.specs.declared.Vote.{Vote}
+use Rattle.rules.specs.OneCycle.{memberDecides}
+use Rattle.bus_channels.specs.Channels.{ballotsRead, decidedRead}
+use Rattle.bus_cycle.proofs.decide.Statement.{statement}
+use Rattle.bus_cycle.proofs.decide.Tie as tie
+
+vote-at-requires : tie.Need-vote-at-requires
+vote-at-requires c κs = search needs
+
+contains-requires : tie.Need-contains-requires
+contains-requires c κs = search needs
+
+member-decides-requires : tie.Need-member-decides-requires
+member-decides-requires c κs = search needs
+
+contains-requires-2 : tie.Need-contains-requires-2
+contains-requires-2 c κs = search needs
+
+joiner-decides-requires : tie.Need-joiner-decides-requires
+joiner-decides-requires c κs = search needs
+
+out-at-requires : tie.Need-out-at-requires
+out-at-requires c κs = search needs
+
+returns : tie.Need-returns
+unfolding decidedRead
+returns c =
+    let t = c .before in
+    let v = t .before .before in
+    let a = v .before .before .before .args in
+    rw (sym (t .before .contains .ensures) ∙ t .if1 .taken)
+    (c .member-decides .ensures ∙ ap (λ (x : Vote). memberDecides (record { nodes = a .n }) (a .q) x (ballotsRead (a .n) (a .count) (a .reach) (a .a .now) (a .b .now))) (v .vote-at .ensures))
+
+returns-2 : tie.Need-returns-2
+unfolding decidedRead
+returns-2 c =
+    let t = c .before in
+    let e = t .before .before in
+    rw (sym (e .before .contains .ensures) ∙ e .if1 .left, sym (t .before .contains2 .ensures) ∙ t .if2 .taken) (c .joiner-decides .ensures)
+
+returns-3 : tie.Need-returns-3
+unfolding decidedRead
+returns-3 c =
+    let t = c .before in
+    let e = t .before .before in
+    rw (sym (e .before .contains .ensures) ∙ e .if1 .left, sym (t .before .contains2 .ensures) ∙ t .if2 .left) (c .out-at .ensures)
+
+pub decide-spec : {M : Type 1} → statement M
+decide-spec =
+    tie.close
+    (tie.spec
+    vote-at-requires
+    contains-requires
+    member-decides-requires
+    contains-requires-2
+    joiner-decides-requires
+    out-at-requires
+    returns
+    returns-2
+    returns-3)

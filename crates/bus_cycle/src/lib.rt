@@ -1,0 +1,233 @@
+// One cycle of all nodes run through frames: what a unit counts is what it reads on the two channels.
+ghost use mathlib.Core.Path.{_≡_};
+ghost use mathlib.Core.Bool.{true};
+ghost use Prim.Native.Nat.{ℕ, _^_, _<_, _≤_};
+ghost use lib.ListN.{length, getD};
+ghost use Rattle.sets.specs.Sets.{has, _∖_};
+ghost use Rattle.state.specs.State.{formedState};
+ghost use Rattle.rules.specs.OneCycle.{memberDecides, joinerDecides};
+ghost use Rattle.rules.specs.Ballots.{voteAt};
+ghost use Rattle.rules.specs.Faults.{cycle as theCycle};
+ghost use Rattle.frames.specs.Written.{formedVote};
+ghost use Rattle.cluster_states.specs.States.{stateAt, rowOf};
+ghost use Rattle.cluster_states.specs.Decided.{decidedAt};
+ghost use Rattle.parts.specs.Parts.{withPart};
+ghost use Rattle.bus_units.specs.Run.{framesShown, framesLength};
+ghost use Rattle.bus_channels.specs.Channels.{channelOf, votePut, ballotsRead, decidedRead};
+use cluster_states::Roles;
+use cluster_states::States;
+use rules::Faults;
+use rules::Vote;
+use state::State;
+
+// Rule 5, on the votes that the member q reads.
+fn member_decides(
+    n: usize,
+    count: u32,
+    reach: u64,
+    a: &[u8],
+    b: &[u8],
+    own: Vote,
+    q: usize,
+) -> State
+    requires { ⌜ (n ≤ 64) × (q < n) ⌝ }
+    requires { ⌜ (length (now a) ≡ 2304) × (length (now b) ≡ 2304) ⌝ }
+    ensures { λ r. ⌜ r ≡ memberDecides (record { nodes = n }) q own (ballotsRead n count reach (now (a .entry)) (now (b .entry))) ⌝ }
+{
+    let arrived = bus_votes::arrive(n, count, reach, a, b);
+    let numbers = arrived.numbers;
+    let sets = arrived.sets;
+    let bases = arrived.bases;
+    let views = arrived.views;
+    let after = rule_member::member_decides(
+        n,
+        q,
+        own,
+        &numbers,
+        &sets,
+        &bases,
+        &views,
+        arrived.present,
+    );
+    after
+}
+
+// Rule 6, on the votes that the joining node q reads.
+fn joiner_decides(n: usize, count: u32, reach: u64, a: &[u8], b: &[u8], q: usize) -> State
+    requires { ⌜ (n ≤ 64) × (q < n) ⌝ }
+    requires { ⌜ (length (now a) ≡ 2304) × (length (now b) ≡ 2304) ⌝ }
+    ensures { λ r. ⌜ r ≡ joinerDecides (record { nodes = n }) q (ballotsRead n count reach (now (a .entry)) (now (b .entry))) ⌝ }
+{
+    let arrived = bus_votes::arrive(n, count, reach, a, b);
+    let numbers = arrived.numbers;
+    let sets = arrived.sets;
+    let bases = arrived.bases;
+    let views = arrived.views;
+    let after = rule_joiner::joiner_decides(n, q, &numbers, &sets, &bases, &views, arrived.present);
+    after
+}
+
+// What node q decides on what it reads. A node that is out reads nothing.
+fn decide(
+    n: usize,
+    count: u32,
+    w: Roles,
+    reach: u64,
+    numbers: &[u32; 64],
+    sets: &[u64; 64],
+    bases: &[u64; 64],
+    views: &[u64; 64],
+    a: &[u8],
+    b: &[u8],
+    q: usize,
+) -> State
+    requires { ⌜ (n ≤ 64) × (q < n) ⌝ }
+    requires { ⌜ (length (now a) ≡ 2304) × (length (now b) ≡ 2304) ⌝ }
+    ensures { λ r. ⌜ r ≡ decidedRead (now (numbers .entry)) (now (sets .entry)) (now (bases .entry)) (now (views .entry)) n count w reach (now (a .entry)) (now (b .entry)) q ⌝ }
+{
+    let own = rule_steps::vote_at(numbers, sets, bases, views, q);
+    if sets::contains(w.members, q) {
+        member_decides(n, count, reach, a, b, own, q)
+    } else if sets::contains(w.joining, q) {
+        joiner_decides(n, count, reach, a, b, q)
+    } else {
+        cluster_states::out_at(w, q)
+    }
+}
+
+// Rules 5 and 6 of all nodes.
+fn decisions(
+    n: usize,
+    count: u32,
+    w: Roles,
+    sent: u64,
+    missed: &[u64; 64],
+    numbers: &[u32; 64],
+    sets: &[u64; 64],
+    bases: &[u64; 64],
+    views: &[u64; 64],
+    a: &[u8],
+    b: &[u8],
+) -> States
+    requires { ⌜ n ≤ 64 ⌝ }
+    requires { ⌜ (length (now a) ≡ 2304) × (length (now b) ≡ 2304) ⌝ }
+    ensures { λ r. ⌜ ((q : ℕ) → q < n → stateAt r q ≡ decidedRead (now (numbers .entry)) (now (sets .entry)) (now (bases .entry)) (now (views .entry)) n count w (sent ∖ getD (now (missed .entry)) q 0) (now (a .entry)) (now (b .entry)) q) ⌝ }
+{
+    let mut next = Roles {
+        members: 0,
+        joining: 0,
+        no_quorum: 0,
+        outvoted: 0,
+    };
+    let mut new_numbers = [0u32; 64];
+    let mut new_sets = [0u64; 64];
+    let mut new_bases = [0u64; 64];
+    let mut q: usize = 0;
+    while q < n {
+        let reach = sets::difference(sent, missed[q]);
+        let d = decide(n, count, w, reach, numbers, sets, bases, views, a, b, q);
+        let g = cluster_states::held_by(d);
+        next = cluster_states::with_state(next, q, d);
+        new_numbers[q] = g.number;
+        new_sets[q] = g.set;
+        new_bases[q] = g.base;
+        q += 1;
+    }
+    States {
+        members: next.members,
+        joining: next.joining,
+        no_quorum: next.no_quorum,
+        outvoted: next.outvoted,
+        numbers: new_numbers,
+        sets: new_sets,
+        bases: new_bases,
+    }
+}
+
+// Rules 4 to 6: all votes go out on both channels, and each node reads what reaches it.
+fn vote_phase(
+    n: usize,
+    count: u32,
+    w: Roles,
+    lost: u64,
+    missed: &[u64; 64],
+    numbers: &[u32; 64],
+    sets: &[u64; 64],
+    bases: &[u64; 64],
+    views: &[u64; 64],
+    frames: &mut [u8],
+) -> States
+    requires { ⌜ (n ≤ 64) × (count < 64) ⌝ }
+    requires { ⌜ length (now frames) ≡ framesLength ⌝ }
+    requires { ⌜ ((p : ℕ) → has p (w .members) ≡ true → (p < n) × (getD (now numbers) p 0 < 2 ^ 32) × (formedVote n p (voteAt (now numbers) (now sets) (now bases) (now views) p) ≡ true)) ⌝ }
+    ensures { λ r. ⌜ ((q : ℕ) → q < n → stateAt r q ≡ decidedAt (now (numbers .entry)) (now (sets .entry)) (now (bases .entry)) (now (views .entry)) n w (w .members ∖ lost ∖ getD (now (missed .entry)) q 0) q) ⌝ }
+    ensures { λ _. ⌜ now (frames .exit) ≡ withPart 6912 (channelOf n (votePut (now (numbers .entry)) (now (sets .entry)) (now (bases .entry)) (now (views .entry)) (w .members) count 1)) (withPart 4608 (channelOf n (votePut (now (numbers .entry)) (now (sets .entry)) (now (bases .entry)) (now (views .entry)) (w .members) count 0)) (now (frames .entry))) ⌝ }
+{
+    let a = bus_votes::votes(n, numbers, sets, bases, views, w.members, count, 0);
+    let b = bus_votes::votes(n, numbers, sets, bases, views, w.members, count, 1);
+    parts::put(frames, 4608, &a);
+    parts::put(frames, 6912, &b);
+    let sent = sets::difference(w.members, lost);
+    let after = decisions(
+        n,
+        count,
+        w,
+        sent,
+        missed,
+        numbers,
+        sets,
+        bases,
+        views,
+        &a,
+        &b,
+    );
+    after
+}
+
+// One cycle under the faults f; `count` is its cycle count. `frames` shows its frames afterwards.
+pub fn cycle(n: usize, count: u32, s: States, f: Faults, frames: &mut [u8]) -> States
+    requires { ⌜ (n ≤ 64) × (count < 64) ⌝ }
+    requires { ⌜ length (now frames) ≡ framesLength ⌝ }
+    requires { ⌜ ((q : ℕ) → q < n → formedState q n (stateAt s q) ≡ true) ⌝ }
+    ensures { λ r. ⌜ rowOf n r ≡ theCycle (record { nodes = n }) f (rowOf n s) ⌝ }
+    ensures { λ _. ⌜ now (frames .exit) ≡ framesShown (record { nodes = n }) count f (rowOf n s) ⌝ }
+{
+    let w = cluster_states::rule_one(
+        n,
+        Roles {
+            members: s.members,
+            joining: s.joining,
+            no_quorum: s.no_quorum,
+            outvoted: s.outvoted,
+        },
+        f.stop,
+        f.start,
+    );
+    let numbers = s.numbers;
+    let sets = s.sets;
+    let bases = s.bases;
+    let unheard = f.heartbeat_missed;
+    let missed = f.vote_missed;
+    let views = bus_channels::heartbeat_phase(
+        n,
+        count,
+        w,
+        f.heartbeat_lost,
+        &unheard,
+        &sets,
+        frames,
+    );
+    let after = vote_phase(
+        n,
+        count,
+        w,
+        f.vote_lost,
+        &missed,
+        &numbers,
+        &sets,
+        &bases,
+        &views,
+        frames,
+    );
+    after
+}

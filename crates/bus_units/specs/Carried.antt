@@ -1,0 +1,67 @@
+-- Which buses carry a fault record, and conditions for it that can be checked on a bus.
+-- Assumes nothing.
+use mathlib.Core.Path.{_≡_}
+use mathlib.Core.Bool.{Bool, true, false, _&&_, _||_, cond}
+use mathlib.Core.List.{List}
+use mathlib.Core.Option.{some}
+use Prim.Native.Nat.{ℕ, _≤_, _<_}
+use lib.Dec.{eqb}
+use Rattle.state.specs.declared.State.{State}
+use Rattle.state.specs.declared.State.the-variants.{Out, Joining, Member}
+use Rattle.rules.specs.declared.Faults.{Faults}
+use Rattle.rules.specs.OneCycle.{Config, sendsMember, sendsJoin}
+use Rattle.rules.specs.Faults.{Row, at, heartbeatReaches, voteReaches, arriveIf}
+use Rattle.frames.specs.declared.Fault.{Fault}
+use Rattle.frames.specs.declared.HeartbeatRead.the-variants as beat
+use Rattle.frames.specs.declared.VoteRead.the-variants as vote
+use Rattle.frames.specs.declared.HeartbeatReceived.{HeartbeatReceived}
+use Rattle.frames.specs.declared.HeartbeatReceived.the-variants.{Missed, Alive, Join}
+use Rattle.frames.specs.Read.{readHeartbeat, readVote}
+use Rattle.bus_units.specs.Units.{Copies, Bus, heartbeatSent, heartbeatGot, voteCast, voteSent, voteGot, received}
+
+-- ---- a bus that carries a record: what a unit makes of the two copies of another's frame is what was sent if it reaches, and missed if not. r is the row after rule 1
+
+abbrev pub heartbeatKind : State → HeartbeatReceived
+heartbeatKind (Out r) = Missed
+heartbeatKind Joining = Join
+heartbeatKind (Member g) = Alive
+
+pub record Carries (C : Config) (count : ℕ) (bus : Bus) (c : Faults) (r : Row) : Type 0 where
+  pub beats : (p q : ℕ) → p < C .nodes → q < C .nodes → eqb p q ≡ false
+      → heartbeatGot count (bus .heartbeats) q p ≡ cond (heartbeatReaches c p q) (heartbeatKind (at r p)) Missed
+  pub ballots : (p q : ℕ) → p < C .nodes → q < C .nodes → eqb p q ≡ false
+      → received (voteGot (C .nodes) count (bus .votes) q p) ≡ arriveIf (voteReaches c p q) (voteCast (C .nodes) count (bus .heartbeats) p (at r p))
+
+-- ---- what came of one frame in its copies a and b: each is the frame as sent on that channel, or bytes that reading refuses (none, cut, damaged, a null frame, a
+-- frame of another cycle or unit); it came if one at least is as sent
+
+pub data Came (Sent Refused : (channel : ℕ) → List ℕ → Type 0) (a b : List ℕ) : Bool → Type 0 where
+  on-both : Sent 0 a → Sent 1 b → Came Sent Refused a b true
+  on-a : Sent 0 a → Refused 1 b → Came Sent Refused a b true
+  on-b : Refused 0 a → Sent 1 b → Came Sent Refused a b true
+  on-none : Refused 0 a → Refused 1 b → Came Sent Refused a b false
+
+-- the heartbeat of unit p in state s, with any indicators that are allowed
+abbrev pub HeartbeatSent : (count p : ℕ) → State → (channel : ℕ) → List ℕ → Type 0
+HeartbeatSent count p s channel x =
+    (sync : ℕ) × (startup : ℕ) × (sync < 2) × (startup ≤ sync) × (heartbeatSent sync startup count p s channel ≡ some x)
+
+abbrev pub HeartbeatRefused : (count p channel : ℕ) → List ℕ → Type 0
+HeartbeatRefused count p channel x = (f : Fault) × (readHeartbeat p count channel x ≡ beat.Refused f)
+
+abbrev pub VoteSent : (N count : ℕ) → Copies → (p : ℕ) → State → (channel : ℕ) → List ℕ → Type 0
+VoteSent N count h p s channel x = voteSent N count h p s channel ≡ some x
+
+abbrev pub VoteRefused : (N count p channel : ℕ) → List ℕ → Type 0
+VoteRefused N count p channel x = (f : Fault) × (readVote N p count channel x ≡ vote.Refused f)
+
+abbrev pub sendsHeartbeat : State → Bool
+sendsHeartbeat s = sendsMember s || sendsJoin s
+
+-- a frame comes to another unit exactly where one was sent and the record lets it reach
+pub record Delivers (C : Config) (count : ℕ) (bus : Bus) (c : Faults) (r : Row) : Type 0 where
+  pub beats : (p q : ℕ) → p < C .nodes → q < C .nodes → eqb p q ≡ false
+      → Came (HeartbeatSent count p (at r p)) (HeartbeatRefused count p) (bus .heartbeats p q 0) (bus .heartbeats p q 1) (sendsHeartbeat (at r p) && heartbeatReaches c p q)
+  pub ballots : (p q : ℕ) → p < C .nodes → q < C .nodes → eqb p q ≡ false
+      → Came (VoteSent (C .nodes) count (bus .heartbeats) p (at r p)) (VoteRefused (C .nodes) count p) (bus .votes p q 0) (bus .votes p q 1)
+      (sendsMember (at r p) && voteReaches c p q)

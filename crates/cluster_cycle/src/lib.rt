@@ -1,0 +1,309 @@
+// One cycle of all nodes of a cluster.
+ghost use mathlib.Core.Path.{_≡_};
+ghost use Prim.Native.Nat.{ℕ, _<_, _≤_};
+ghost use lib.ListN.{length, getD};
+ghost use Rattle.sets.specs.Sets.{_∖_};
+ghost use Rattle.rules.specs.Faults.{cycle as theCycle};
+ghost use Rattle.cluster_tallies.specs.Grouped.{Grouped, Within};
+ghost use Rattle.cluster_states.specs.States.{statesOf, faultsOf, stateAt, rowOf};
+ghost use Rattle.cluster_states.specs.Decided.{viewAt, decidedAt};
+ghost use Rattle.cluster_cycle.specs.Follows.{follows as doesFollow, Worth, withMember};
+use cluster_states::Roles;
+use cluster_states::States;
+use rules::Faults;
+use rules::Marks;
+use state::Group;
+use state::State;
+
+// Rule 3 of all nodes, of the members and the joining nodes whose heartbeats go out. Views of nodes that are no members are made too, and not used.
+fn views_of(
+    n: usize,
+    sets: &[u64; 64],
+    members: u64,
+    joining: u64,
+    missed: &[u64; 64],
+    views: &mut [u64; 64],
+)
+    requires { ⌜ (n ≤ 64) × (length (now views) ≡ 64) ⌝ }
+    ensures { λ _. ⌜ ((p : ℕ) → p < n → getD (now (views .exit)) p 0 ≡ viewAt n (now (sets .entry)) members joining (now (missed .entry)) p) ⌝ }
+{
+    let mut p: usize = 0;
+    while p < n {
+        let heard0 = sets::difference(members, missed[p]);
+        let heard1 = sets::difference(joining, missed[p]);
+        views[p] = rule_steps::view(n, p, sets[p], heard0, heard1);
+        p += 1;
+    }
+}
+
+// What node q decides on the votes in the slots `present`.
+fn decide(
+    n: usize,
+    q: usize,
+    numbers: &[u32; 64],
+    sets: &[u64; 64],
+    bases: &[u64; 64],
+    views: &[u64; 64],
+    lead: u64,
+    same: &[u64; 64],
+    w: Roles,
+    present: u64,
+) -> State
+    requires { ⌜ (n ≤ 64) × (q < n) ⌝ }
+    requires { ⌜ Grouped (now numbers) (now sets) (now bases) (now views) n (w .members) lead (now same) ⌝ }
+    requires { ⌜ Within present (w .members) ⌝ }
+    ensures { λ r. ⌜ r ≡ decidedAt (now (numbers .entry)) (now (sets .entry)) (now (bases .entry)) (now (views .entry)) n w present q ⌝ }
+{
+    if sets::contains(w.members, q) {
+        cluster_tallies::member_decides(
+            n,
+            q,
+            numbers,
+            sets,
+            bases,
+            views,
+            lead,
+            same,
+            w.members,
+            present,
+        )
+    } else if sets::contains(w.joining, q) {
+        cluster_tallies::joiner_decides(
+            n,
+            q,
+            numbers,
+            sets,
+            bases,
+            views,
+            lead,
+            same,
+            w.members,
+            present,
+        )
+    } else {
+        cluster_states::out_at(w, q)
+    }
+}
+
+// The masks with node q added as a member.
+fn with_member(w: Roles, q: usize) -> Roles
+    requires { ⌜ q < 64 ⌝ }
+    ensures { λ r. ⌜ r ≡ withMember w q ⌝ }
+{
+    Roles {
+        members: sets::union(sets::single(q), w.members),
+        joining: w.joining,
+        no_quorum: w.no_quorum,
+        outvoted: w.outvoted,
+    }
+}
+
+// A member that stays, for those that decide the same: the members that cast its vote, the set of its group, the votes that it counts, and its new group.
+struct Kept {
+    votes: u64,
+    set: u64,
+    counted: u64,
+    group: Group,
+}
+
+fn nobody() -> Kept
+    ensures { λ r. ⌜ r .votes ≡ 0 ⌝ }
+{
+    Kept {
+        votes: 0,
+        set: 0,
+        counted: 0,
+        group: Group {
+            number: 0,
+            set: 0,
+            base: 0,
+        },
+    }
+}
+
+// Whether q cast that member's vote and counts the same votes.
+fn follows(k: Kept, present: u64, q: usize) -> bool
+    requires { ⌜ q < 64 ⌝ }
+    ensures { λ r. ⌜ r ≡ doesFollow k present q ⌝ }
+{
+    if sets::contains(k.votes, q) {
+        cluster_tallies::own_tally(k.votes, k.set, present, q) == k.counted
+    } else {
+        false
+    }
+}
+
+// What is kept once node q has decided d: the last member that stays.
+fn keep(
+    n: usize,
+    q: usize,
+    numbers: &[u32; 64],
+    sets: &[u64; 64],
+    bases: &[u64; 64],
+    views: &[u64; 64],
+    lead: u64,
+    same: &[u64; 64],
+    w: Roles,
+    present: u64,
+    d: State,
+    k: Kept,
+) -> Kept
+    requires { ⌜ (n ≤ 64) × (q < n) ⌝ }
+    requires { ⌜ Grouped (now numbers) (now sets) (now bases) (now views) n (w .members) lead (now same) ⌝ }
+    requires { ⌜ Within present (w .members) ⌝ }
+    requires { ⌜ d ≡ decidedAt (now numbers) (now sets) (now bases) (now views) n w present q ⌝ }
+    requires { ⌜ Worth (now numbers) (now sets) (now bases) (now views) n w k ⌝ }
+    ensures { λ r. ⌜ Worth (now (numbers .entry)) (now (sets .entry)) (now (bases .entry)) (now (views .entry)) n w r ⌝ }
+{
+    let votes = cluster_tallies::votes_like(lead, same, q);
+    let set = sets[q];
+    if !sets::contains(w.members, q) {
+        return k;
+    }
+    if !rule_steps::sends_member(d) {
+        return k;
+    }
+    Kept {
+        votes,
+        set,
+        counted: cluster_tallies::own_tally(votes, set, present, q),
+        group: cluster_states::held_by(d),
+    }
+}
+
+// Rules 5 and 6 of all nodes, on the votes that go out: the masks, and into the new arrays the groups.
+fn decisions(
+    n: usize,
+    numbers: &[u32; 64],
+    sets: &[u64; 64],
+    bases: &[u64; 64],
+    views: &[u64; 64],
+    lead: u64,
+    same: &[u64; 64],
+    w: Roles,
+    sent: u64,
+    missed: &[u64; 64],
+    new_numbers: &mut [u32; 64],
+    new_sets: &mut [u64; 64],
+    new_bases: &mut [u64; 64],
+) -> Roles
+    requires { ⌜ (n ≤ 64) × (length (now «new_numbers») ≡ 64) × (length (now «new_sets») ≡ 64) × (length (now «new_bases») ≡ 64) ⌝ }
+    requires { ⌜ Grouped (now numbers) (now sets) (now bases) (now views) n (w .members) lead (now same) ⌝ }
+    requires { ⌜ Within sent (w .members) ⌝ }
+    ensures { λ r. ⌜ ((q : ℕ) → q < n → stateAt (statesOf r (now («new_numbers» .exit)) (now («new_sets» .exit)) (now («new_bases» .exit))) q ≡ decidedAt (now (numbers .entry)) (now (sets .entry)) (now (bases .entry)) (now (views .entry)) n w (sent ∖ getD (now (missed .entry)) q 0) q) ⌝ }
+{
+    let mut next = Roles {
+        members: 0,
+        joining: 0,
+        no_quorum: 0,
+        outvoted: 0,
+    };
+    let mut k = nobody();
+    let mut q: usize = 0;
+    while q < n {
+        let came = sets::difference(sent, missed[q]);
+        let mut g = k.group;
+        if follows(k, came, q) {
+            next = with_member(next, q);
+        } else {
+            let d = decide(n, q, numbers, sets, bases, views, lead, same, w, came);
+            k = keep(n, q, numbers, sets, bases, views, lead, same, w, came, d, k);
+            g = cluster_states::held_by(d);
+            next = cluster_states::with_state(next, q, d);
+        }
+        new_numbers[q] = g.number;
+        new_sets[q] = g.set;
+        new_bases[q] = g.base;
+        q += 1;
+    }
+    next
+}
+
+// One cycle of nodes with the roles w: the roles after it, and in place their groups. What node q misses is in the elements q of `unheard` and `missed`.
+pub fn advance<'a>(
+    n: usize,
+    w: Roles,
+    numbers: &mut [u32; 64],
+    sets: &mut [u64; 64],
+    bases: &mut [u64; 64],
+    m: Marks,
+    unheard: &'a [u64; 64],
+    missed: &'a [u64; 64],
+) -> Roles
+    requires { ⌜ n ≤ 64 ⌝ }
+    ensures { λ r. ⌜ rowOf n (statesOf r (now (numbers .exit)) (now (sets .exit)) (now (bases .exit))) ≡ theCycle (record { nodes = n }) (faultsOf m (now (unheard .entry)) (now (missed .entry))) (rowOf n (statesOf w (now (numbers .entry)) (now (sets .entry)) (now (bases .entry)))) ⌝ }
+{
+    let v = cluster_states::rule_one(n, w, m.stop, m.start);
+    let mut views = [0u64; 64];
+    views_of(
+        n,
+        sets,
+        sets::difference(v.members, m.heartbeat_lost),
+        sets::difference(v.joining, m.heartbeat_lost),
+        unheard,
+        &mut views,
+    );
+    let mut same = [0u64; 64];
+    let lead = cluster_tallies::groups_of(n, numbers, sets, bases, &views, v.members, &mut same);
+    let mut new_numbers = [0u32; 64];
+    let mut new_sets = [0u64; 64];
+    let mut new_bases = [0u64; 64];
+    let after = decisions(
+        n,
+        numbers,
+        sets,
+        bases,
+        &views,
+        lead,
+        &same,
+        v,
+        sets::difference(v.members, m.vote_lost),
+        missed,
+        &mut new_numbers,
+        &mut new_sets,
+        &mut new_bases,
+    );
+    *numbers = new_numbers;
+    *sets = new_sets;
+    *bases = new_bases;
+    after
+}
+
+// The same of states and faults by value.
+pub fn cycle(n: usize, s: States, f: Faults) -> States
+    requires { ⌜ n ≤ 64 ⌝ }
+    ensures { λ r. ⌜ rowOf n r ≡ theCycle (record { nodes = n }) f (rowOf n s) ⌝ }
+{
+    let mut numbers = s.numbers;
+    let mut sets = s.sets;
+    let mut bases = s.bases;
+    let w = advance(
+        n,
+        Roles {
+            members: s.members,
+            joining: s.joining,
+            no_quorum: s.no_quorum,
+            outvoted: s.outvoted,
+        },
+        &mut numbers,
+        &mut sets,
+        &mut bases,
+        Marks {
+            stop: f.stop,
+            start: f.start,
+            heartbeat_lost: f.heartbeat_lost,
+            vote_lost: f.vote_lost,
+        },
+        &f.heartbeat_missed,
+        &f.vote_missed,
+    );
+    States {
+        members: w.members,
+        joining: w.joining,
+        no_quorum: w.no_quorum,
+        outvoted: w.outvoted,
+        numbers,
+        sets,
+        bases,
+    }
+}

@@ -1,0 +1,250 @@
+-- One whole cycle: the masks after rule 1 and the grouped votes against the rules of a row. Assumes nothing.
+use mathlib.Core.Path.{_≡_, refl, sym, ap, ap₂, _∙_}
+use mathlib.Core.Bool.{Bool, true, false, not, _&&_, _||_, cond, false≢true}
+use mathlib.Core.List.{List}
+use mathlib.Core.Option.{Option, none, some}
+use Prim.Native.Nat.{ℕ, _<_}
+use lib.Dec.{ltb}
+use lib.ListN.{getD}
+use Rattle.sets.specs.Sets.{has, _∪_, _∖_, those, below}
+use Rattle.sets.proofs.Booleans.{ltb-true, ltb-lt, ltb-le}
+use Rattle.sets.proofs.Membership.{has-union, has-diff, set-ext}
+use Rattle.sets.proofs.Nodes.{has-those, has-below}
+use Rattle.state.specs.declared.Reason.the-variants.{Stopped, NoQuorum, Outvoted}
+use Rattle.state.specs.declared.Group.{Group}
+use Rattle.state.specs.declared.State.{State}
+use Rattle.state.specs.declared.State.the-variants.{Out, Joining, Member}
+use Rattle.rules.specs.declared.Vote.{Vote}
+use Rattle.rules.specs.declared.Faults.{Faults}
+use Rattle.rules.specs.OneCycle.{Config, Ballots, stopped, stopIf, startIf, stopAndStart, sendsMember, sendsJoin, viewOf, memberDecides, joinerDecides}
+use Rattle.rules.specs.Faults.{Row, at, heartbeatsMissed, votesMissed, reaches, ruleOne, heard, ownVote, voteOf, votes, arriveIf, arrivedAt, decides, decisions, cycle}
+use Rattle.rules.specs.Ballots.{voteAt, ballotsOf}
+use Rattle.rules.proofs.Rows.{get-tabulate, get-tabulate-out, tabulate-ext}
+use Rattle.cluster_states.specs.declared.Roles.{Roles}
+use Rattle.cluster_states.specs.declared.States.{States}
+use Rattle.cluster_states.specs.States.{rolesOf, groupAt, stateAt, rowOf}
+use Rattle.cluster_states.specs.Decided.{rolesAfter, viewAt, outAt, decidedAt}
+
+-- a state by its role and its group
+abbrev pub byRole : Bool → Bool → Bool → Bool → Group → State
+byRole m j u v g = cond m (Member g) (cond j Joining (cond u (Out NoQuorum) (cond v (Out Outvoted) (Out Stopped))))
+
+-- rule 1 by roles
+rule-roles : (stop start m j u v : Bool) (g : Group)
+    → startIf start (stopIf stop (byRole m j u v g)) ≡ byRole (m && not stop) ((start || (j && not stop)) && not (m && not stop)) (u && not stop) (v && not stop) g
+rule-roles stop start m j u v g = go stop
+  where
+    and-no : (a : Bool) → (a && false) ≡ false
+    and-no true = refl
+    and-no false = refl
+
+    and-yes : (a : Bool) → (a && true) ≡ a
+    and-yes true = refl
+    and-yes false = refl
+
+    out : (start : Bool) → startIf start stopped ≡ byRole false ((start || false) && true) false false g
+    out true = refl
+    out false = refl
+
+    runs : (start m j u v : Bool) → startIf start (byRole m j u v g) ≡ byRole m ((start || j) && not m) u v g
+    runs true true j u v = refl
+    runs false true j u v = refl
+    runs true false true u v = refl
+    runs true false false true v = refl
+    runs true false false false true = refl
+    runs true false false false false = refl
+    runs false false true u v = refl
+    runs false false false u v = refl
+
+    go : (stop : Bool) → startIf start (stopIf stop (byRole m j u v g)) ≡ byRole (m && not stop) ((start || (j && not stop)) && not (m && not stop)) (u && not stop) (v && not stop) g
+    go true = rw (and-no m, and-no j, and-no u, and-no v) (out start)
+    go false = rw (and-yes m, and-yes j, and-yes u, and-yes v) (runs start m j u v)
+
+-- who sends what, what each votes and decides, by roles
+pub member-role : (m j u v : Bool) (g : Group) → sendsMember (byRole m j u v g) ≡ m
+member-role true j u v g = refl
+member-role false true u v g = refl
+member-role false false true v g = refl
+member-role false false false true g = refl
+member-role false false false false g = refl
+
+join-role : (m x u v : Bool) (g : Group) → sendsJoin (byRole m (x && not m) u v g) ≡ (x && not m)
+join-role true true u v g = refl
+join-role true false u v g = refl
+join-role false true u v g = refl
+join-role false false true v g = refl
+join-role false false false true g = refl
+join-role false false false false g = refl
+
+vote-role : (C : Config) (c : Faults) (r : Row) (p : ℕ) (m j u v : Bool) (g : Group) → voteOf C c r p (byRole m j u v g) ≡ cond m (some (ownVote (C .nodes) c r p g)) none
+vote-role C c r p true j u v g = refl
+vote-role C c r p false true u v g = refl
+vote-role C c r p false false true v g = refl
+vote-role C c r p false false false true g = refl
+vote-role C c r p false false false false g = refl
+
+decides-role : (C : Config) (c : Faults) (r : Row) (q : ℕ) (m j u v : Bool) (g : Group) (b : Ballots)
+    → decides C c r q (byRole m j u v g) b
+    ≡ cond m (memberDecides C q (ownVote (C .nodes) c r q g) b) (cond j (joinerDecides C q b) (cond u (Out NoQuorum) (cond v (Out Outvoted) (Out Stopped))))
+decides-role C c r q true j u v g b = refl
+decides-role C c r q false true u v g b = refl
+decides-role C c r q false false true v g b = refl
+decides-role C c r q false false false true g b = refl
+decides-role C c r q false false false false g b = refl
+
+-- the nodes that send and reach a receiver, as masks
+reached : (n m lost missed : ℕ) (sends : ℕ → Bool) → ((x : ℕ) → x < n → sends x ≡ has x m) → ((x : ℕ) → ltb x n ≡ false → has x m ≡ false)
+    → those n (λ p. sends p && reaches lost missed p) ≡ m ∖ lost ∖ missed
+unfolding reaches
+reached n m lost missed sends e high = set-ext (λ x. has-those x n (λ p. sends p && (not (has p lost) && not (has p missed))) ∙ go x (ltb x n) refl ∙ sym (two x))
+  where
+    two : (x : ℕ) → has x (m ∖ lost ∖ missed) ≡ ((has x m && not (has x lost)) && not (has x missed))
+    two x = has-diff x (m ∖ lost) missed ∙ ap (λ (y : Bool). y && not (has x missed)) (has-diff x m lost)
+
+    assoc : (a b c : Bool) → (a && (b && c)) ≡ ((a && b) && c)
+    assoc true b c = refl
+    assoc false b c = refl
+
+    go : (x : ℕ) (a : Bool) → ltb x n ≡ a → (a && (sends x && (not (has x lost) && not (has x missed)))) ≡ ((has x m && not (has x lost)) && not (has x missed))
+    go x true h = ap (λ (y : Bool). y && (not (has x lost) && not (has x missed))) (e x (ltb-lt h)) ∙ assoc (has x m) (not (has x lost)) (not (has x missed))
+    go x false h = sym (ap (λ (y : Bool). (y && not (has x lost)) && not (has x missed)) (high x h))
+
+module _ (n : ℕ) (s : States) (f : Faults) where
+  -- the row and the masks after rule 1
+  abbrev pub row : Row
+  row = ruleOne n f (rowOf n s)
+
+  abbrev pub after : Roles
+  after = rolesAfter n (rolesOf s) (f .stop) (f .start)
+
+  abbrev pub config : Config
+  config = record { nodes = n }
+
+  -- a state of that row
+  abbrev pub stateAfter : ℕ → State
+  stateAfter q = byRole (has q (after .members)) (has q (after .joining)) (has q (after .«no_quorum»)) (has q (after .outvoted)) (groupAt s q)
+
+  members-after : (q : ℕ) → q < n → has q (after .members) ≡ (has q (s .members) && not (has q (f .stop)))
+  unfolding rolesAfter
+  members-after q h = has-below q n (s .members ∖ f .stop) ∙ ap₂ (λ (x y : Bool). x && y) (ltb-true h) (has-diff q (s .members) (f .stop))
+
+  joining-after : (q : ℕ) → q < n → has q (after .joining) ≡ ((has q (f .start) || (has q (s .joining) && not (has q (f .stop)))) && not (has q (after .members)))
+  unfolding rolesAfter
+  joining-after q h =
+      has-below q n ((f .start ∪ (s .joining ∖ f .stop)) ∖ below n (s .members ∖ f .stop)) ∙ ap (λ (x : Bool). x && has q ((f .start ∪ (s .joining ∖ f .stop)) ∖ below n (s .members ∖ f .stop))) (ltb-true h)
+      ∙ has-diff q (f .start ∪ (s .joining ∖ f .stop)) (below n (s .members ∖ f .stop))
+      ∙ ap (λ (x : Bool). x && not (has q (below n (s .members ∖ f .stop)))) (has-union q (f .start) (s .joining ∖ f .stop) ∙ ap (λ (x : Bool). has q (f .start) || x) (has-diff q (s .joining) (f .stop)))
+
+  pub members-high : (q : ℕ) → ltb q n ≡ false → has q (after .members) ≡ false
+  unfolding rolesAfter
+  members-high q h = has-below q n (s .members ∖ f .stop) ∙ ap (λ (x : Bool). x && has q (s .members ∖ f .stop)) h
+
+  pub joining-high : (q : ℕ) → ltb q n ≡ false → has q (after .joining) ≡ false
+  unfolding rolesAfter
+  joining-high q h =
+      has-below q n ((f .start ∪ (s .joining ∖ f .stop)) ∖ below n (s .members ∖ f .stop)) ∙ ap (λ (x : Bool). x && has q ((f .start ∪ (s .joining ∖ f .stop)) ∖ below n (s .members ∖ f .stop))) h
+
+  out-after : (q : ℕ) → (has q (after .«no_quorum») ≡ (has q (s .«no_quorum») && not (has q (f .stop)))) × (has q (after .outvoted) ≡ (has q (s .outvoted) && not (has q (f .stop))))
+  unfolding rolesAfter
+  out-after q = (has-diff q (s .«no_quorum») (f .stop), has-diff q (s .outvoted) (f .stop))
+
+  -- the row holds the states of the masks
+  pub after-at : (q : ℕ) → q < n → at row q ≡ stateAfter q
+  unfolding ruleOne rowOf stopAndStart stateAt
+  after-at q h =
+      get-tabulate n q (λ x. stopAndStart (has x (f .stop)) (has x (f .start)) (at (rowOf n s) x)) stopped h
+      ∙ ap (stopAndStart (has q (f .stop)) (has q (f .start))) (get-tabulate n q (stateAt s) stopped h)
+      ∙ rule-roles (has q (f .stop)) (has q (f .start)) (has q (s .members)) (has q (s .joining)) (has q (s .«no_quorum»)) (has q (s .outvoted)) (groupAt s q)
+      ∙ sym (rw (joining-after q h, members-after q h, out-after q .0, out-after q .1))
+
+  pub sends-member : (q : ℕ) → q < n → sendsMember (at row q) ≡ has q (after .members)
+  sends-member q h = ap sendsMember (after-at q h) ∙ member-role (has q (after .members)) (has q (after .joining)) (has q (after .«no_quorum»)) (has q (after .outvoted)) (groupAt s q)
+
+  pub sends-join : (q : ℕ) → q < n → sendsJoin (at row q) ≡ has q (after .joining)
+  sends-join q h =
+      ap sendsJoin (after-at q h) ∙ ap (λ (x : Bool). sendsJoin (byRole (has q (after .members)) x (has q (after .«no_quorum»)) (has q (after .outvoted)) (groupAt s q))) (joining-after q h)
+      ∙ join-role (has q (after .members)) (has q (f .start) || (has q (s .joining) && not (has q (f .stop)))) (has q (after .«no_quorum»)) (has q (after .outvoted)) (groupAt s q) ∙ sym (joining-after q h)
+
+  module _ (views : List ℕ)
+      (seen : (p : ℕ) → p < n → getD views p 0 ≡ viewAt n (s .sets) (after .members ∖ f .«heartbeat_lost») (after .joining ∖ f .«heartbeat_lost») (f .«heartbeat_missed») p) where
+    pub own-vote : (q : ℕ) → q < n → ownVote n f row q (groupAt s q) ≡ voteAt (s .numbers) (s .sets) (s .bases) views q
+    unfolding ownVote heard
+    own-vote q h =
+        ap (λ (x : ℕ). record { group = groupAt s q; view = x })
+        (ap₂ (viewOf n q (getD (s .sets) q 0))
+        (reached n (after .members) (f .«heartbeat_lost») (heartbeatsMissed f q) (λ p. sendsMember (at row p)) sends-member members-high)
+        (reached n (after .joining) (f .«heartbeat_lost») (heartbeatsMissed f q) (λ p. sendsJoin (at row p)) sends-join joining-high)
+        ∙ sym (seen q h))
+
+    sent : (p : ℕ) → getD (votes config f row) p none ≡ ballotsOf (s .numbers) (s .sets) (s .bases) views (after .members) p
+    unfolding votes ballotsOf
+    sent p = go (ltb p n) refl
+      where
+        go : (a : Bool) → ltb p n ≡ a → getD (votes config f row) p none ≡ ballotsOf (s .numbers) (s .sets) (s .bases) views (after .members) p
+        go true h =
+            let l : p < n = ltb-lt h in
+            get-tabulate n p (λ q. voteOf config f row q (at row q)) none l ∙ ap (voteOf config f row p) (after-at p l)
+            ∙ vote-role config f row p (has p (after .members)) (has p (after .joining)) (has p (after .«no_quorum»)) (has p (after .outvoted)) (groupAt s p)
+            ∙ ap (λ (v : Vote). cond (has p (after .members)) (some v) none) (own-vote p l)
+        go false h =
+            get-tabulate-out n p (λ q. voteOf config f row q (at row q)) none (ltb-le h)
+            ∙ sym (ap (λ (x : Bool). cond x (some (voteAt (s .numbers) (s .sets) (s .bases) views p)) none) (members-high p h))
+
+    -- what arrives at q
+    abbrev pub presentAt : ℕ → ℕ
+    presentAt q = after .members ∖ f .«vote_lost» ∖ getD (f .«vote_missed») q 0
+
+    arrived : (q : ℕ) → arrivedAt f (votes config f row) q ≡ ballotsOf (s .numbers) (s .sets) (s .bases) views (presentAt q)
+    unfolding reaches ballotsOf
+    arrived q = λ i p. each p i
+      where
+        cases : (m l u : Bool) (v : Vote) → _≡_ {A = Option Vote} (arriveIf (not l && not u) (cond m (some v) none)) (cond ((m && not l) && not u) (some v) none)
+        cases true true u v = refl
+        cases true false true v = refl
+        cases true false false v = refl
+        cases false true u v = refl
+        cases false false true v = refl
+        cases false false false v = refl
+
+        each : (p : ℕ) → arrivedAt f (votes config f row) q p ≡ ballotsOf (s .numbers) (s .sets) (s .bases) views (presentAt q) p
+        each p =
+            ap (arriveIf (not (has p (f .«vote_lost»)) && not (has p (votesMissed f q)))) (sent p)
+            ∙ cases (has p (after .members)) (has p (f .«vote_lost»)) (has p (votesMissed f q)) (voteAt (s .numbers) (s .sets) (s .bases) views p)
+            ∙ ap (λ (x : Bool). cond x (some (voteAt (s .numbers) (s .sets) (s .bases) views p)) none)
+            (sym (has-diff p (after .members ∖ f .«vote_lost») (votesMissed f q) ∙ ap (λ (x : Bool). x && not (has p (votesMissed f q))) (has-diff p (after .members) (f .«vote_lost»))))
+
+    decided : (q : ℕ) → q < n → decides config f row q (at row q) (arrivedAt f (votes config f row) q) ≡ decidedAt (s .numbers) (s .sets) (s .bases) views n after (presentAt q) q
+    unfolding decidedAt
+    decided q h =
+        ap₂ (decides config f row q) (after-at q h) (arrived q)
+        ∙ decides-role config f row q (has q (after .members)) (has q (after .joining)) (has q (after .«no_quorum»)) (has q (after .outvoted)) (groupAt s q) (ballotsOf (s .numbers) (s .sets) (s .bases) views (presentAt q))
+        ∙ ap (λ (v : Vote).
+        cond (has q (after .members)) (memberDecides config q v (ballotsOf (s .numbers) (s .sets) (s .bases) views (presentAt q)))
+        (cond (has q (after .joining)) (joinerDecides config q (ballotsOf (s .numbers) (s .sets) (s .bases) views (presentAt q))) (outAt after q)))
+        (own-vote q h)
+
+    pub whole : (r : States) → ((q : ℕ) → q < n → stateAt r q ≡ decidedAt (s .numbers) (s .sets) (s .bases) views n after (presentAt q) q) → rowOf n r ≡ cycle config f (rowOf n s)
+    unfolding rowOf cycle decisions
+    whole r e = tabulate-ext n (stateAt r) (λ q. decides config f row q (at row q) (arrivedAt f (votes config f row) q)) (λ q h. e q h ∙ sym (decided q h))
+
+-- the masks w after rule 1 hold nodes alone
+pub members-below : (n : ℕ) (s : States) (f : Faults) (w : Roles) → w ≡ after n s f → (p : ℕ) → has p (w .members) ≡ true → p < n
+members-below n s f w e q h = go (ltb q n) refl
+  where
+    go : (b : Bool) → ltb q n ≡ b → q < n
+    go true l = ltb-lt l
+    go false l = absurd (false≢true (sym (members-high n s f q l) ∙ ap (λ (x : Roles). has q (x .members)) (sym e) ∙ h))
+
+-- the same from the values that the code has on its way: the masks w after rule 1, the heartbeats and the votes that go out
+pub run-cycle : (n : ℕ) (s : States) (f : Faults) (w : Roles) (h0 h1 t : ℕ) (views : List ℕ) (r : States)
+    → w ≡ rolesAfter n (rolesOf s) (f .stop) (f .start) → h0 ≡ w .members ∖ f .«heartbeat_lost» → h1 ≡ w .joining ∖ f .«heartbeat_lost» → t ≡ w .members ∖ f .«vote_lost»
+    → ((p : ℕ) → p < n → getD views p 0 ≡ viewAt n (s .sets) h0 h1 (f .«heartbeat_missed») p)
+    → ((q : ℕ) → q < n → stateAt r q ≡ decidedAt (s .numbers) (s .sets) (s .bases) views n w (t ∖ getD (f .«vote_missed») q 0) q)
+    → rowOf n r ≡ cycle (record { nodes = n }) f (rowOf n s)
+run-cycle n s f w h0 h1 t views r e e0 e1 et seen made =
+    whole n s f views
+    (λ p h. seen p h
+    ∙ ap₂ (λ (x y : ℕ). viewAt n (s .sets) x y (f .«heartbeat_missed») p) (e0 ∙ ap (λ (x : Roles). x .members ∖ f .«heartbeat_lost») e) (e1 ∙ ap (λ (x : Roles). x .joining ∖ f .«heartbeat_lost») e))
+    r
+    (λ q h. made q h
+    ∙ ap₂ (λ (x : Roles) (y : ℕ). decidedAt (s .numbers) (s .sets) (s .bases) views n x (y ∖ getD (f .«vote_missed») q 0) q) e (et ∙ ap (λ (x : Roles). x .members ∖ f .«vote_lost») e))

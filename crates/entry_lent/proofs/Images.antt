@@ -1,0 +1,62 @@
+-- What reading a lent image says of its length and of the node in it, and the refusals of a call that is lent an image and another buffer. Assumes nothing.
+use mathlib.Core.Path.{_≡_, refl, ap, _∙_}
+use mathlib.Core.Bool.{Bool, true, false, not, _||_, cond, or-false, or-true}
+use mathlib.Core.List.{List, [], _∷_}
+use Prim.Native.Nat.{ℕ, _≤_, _<_}
+use lib.Dec.{eqb}
+use lib.ListN.{length}
+use borrow.Author.Tests.{eq-eqb, ne-eqb}
+use Rattle.bigendian.proofs.Laws.{Bytes}
+use Rattle.state.specs.declared.Node.{Node}
+use Rattle.state.specs.declared.Decoded.{Decoded}
+use Rattle.state.specs.declared.Decoded.the-variants.{Good, WrongLength, Malformed}
+use Rattle.state.specs.State.{formed, formedPlace, formedState}
+use Rattle.state.specs.Image.{decoded, refusal, wellFormed, nodeAt}
+use Rattle.state.proofs.Fields.{place-bounds}
+use Rattle.state.proofs.RoundTrip.{decoded-formed}
+use Rattle.sets.proofs.Booleans.{and-l}
+use Rattle.refusal.specs.Refusal.{Condition, when, first}
+use Rattle.entry_lent.specs.Refusals.{wrongLength, malformed}
+use Rattle.entry_lent.proofs.Bounds.{length-is}
+
+-- the length of a lent image, by what reading it finds
+abbrev pub isWrong : Decoded → Bool
+isWrong (Good n) = false
+isWrong WrongLength = true
+isWrong Malformed = false
+
+pub length-read : (s : List ℕ) → wrongLength 24 s ≡ isWrong (decoded s)
+unfolding decoded
+length-read s = go (eqb (length s) 24) (wellFormed s)
+  where
+    go : (b c : Bool) → not b ≡ isWrong (cond b (cond c (Good (nodeAt s)) Malformed) WrongLength)
+    go true true = refl
+    go true false = refl
+    go false c = refl
+
+pub good-length : (s : List ℕ) (n : Node) → decoded s ≡ Good n → length s ≡ 24
+good-length s n e = length-is 24 s (length-read s ∙ ap isWrong e)
+
+pub good-place : (s : List ℕ) (n : Node) → Bytes s → decoded s ≡ Good n → (n .nodes ≤ 64) × (n .id < n .nodes)
+unfolding formed
+good-place s n b e =
+    let p = place-bounds (n .id) (n .nodes) (and-l (formedPlace (n .id) (n .nodes)) (formedState (n .id) (n .nodes) (n .state)) (decoded-formed s n b e)) in
+    (p .1, p .2)
+
+-- refusals 3 and 4 of a call that is lent an image and a buffer where k bytes are due
+abbrev pub lentConditions : List ℕ → ℕ → List ℕ → List Condition
+lentConditions s k f = when (wrongLength 24 s || wrongLength k f) 3 ∷ when (malformed s) 4 ∷ []
+
+pub other-length : (s f : List ℕ) (k : ℕ) → (length f ≡ k → ⊥) → 3 ≡ first (lentConditions s k f)
+unfolding first
+other-length s f k h = simp (ne-eqb (length f) k h, or-true)
+
+-- past the other buffer the image decides
+pub by-image : (s f : List ℕ) (k : ℕ) → length f ≡ k → refusal (decoded s) ≡ first (lentConditions s k f)
+unfolding first
+by-image s f k l = simp (eq-eqb (length f) k l, or-false, length-read s) (by (decoded s))
+  where
+    by : (d : Decoded) → refusal d ≡ cond (isWrong d) 3 (cond (eqb (refusal d) 4) 4 0)
+    by (Good n) = refl
+    by WrongLength = refl
+    by Malformed = refl

@@ -1,0 +1,106 @@
+// A node's heartbeat, from its state.
+ghost use mathlib.Core.Path.{_≡_};
+ghost use mathlib.Core.Bool.{_||_};
+ghost use Prim.Native.Nat.{_≤_, _<_};
+ghost use lib.ListN.{length};
+ghost use Rattle.entry_lent.specs.Refusals.{wrongIndicators, wrongCycle, wrongChannel};
+ghost use Rattle.entry_send_heartbeat.specs.Beating.{sendHeartbeatStatus, sendsByte, joinBit, heartbeatOf, sendHeartbeatLeft, sendHeartbeatSent};
+use entry_lent::wrong_indicators;
+use state::Decoded;
+use state::Node;
+use state::State;
+
+// Who sends, and with which join bit.
+fn sends_byte(s: State) -> u32
+    ensures { λ r. ⌜ r ≡ sendsByte s ⌝ }
+{
+    match s {
+        State::Out(_) => 0,
+        State::Joining => 1,
+        State::Member(_) => 1,
+    }
+}
+
+fn join_bit(s: State) -> u32
+    ensures { λ r. ⌜ r ≡ joinBit s ⌝ }
+    ensures { λ r. ⌜ r < 2 ⌝ }
+{
+    if rule_steps::sends_join(s) { 1 } else { 0 }
+}
+
+// Refusal 2, of what a node sends with.
+fn wrong_sending(sync: u32, startup: u32, cycle: u32, channel: u32) -> bool
+    ensures { λ r. ⌜ r ≡ (wrongIndicators sync startup || wrongCycle cycle || wrongChannel channel) ⌝ }
+{
+    if wrong_indicators(sync, startup) {
+        return true;
+    }
+    if 63 < cycle {
+        return true;
+    }
+    1 < channel
+}
+
+// What node n sends.
+fn send_of(
+    n: Node,
+    sync: u32,
+    startup: u32,
+    cycle: u32,
+    channel: u32,
+    frame: &mut [u8],
+    sent: &mut u32,
+)
+    requires { ⌜ n .id < 64 ⌝ }
+    requires { ⌜ sync < 2 ⌝ }
+    requires { ⌜ startup ≤ sync ⌝ }
+    requires { ⌜ cycle < 64 ⌝ }
+    requires { ⌜ length (now frame) ≡ 10 ⌝ }
+    ensures { λ _. ⌜ now (frame .exit) ≡ heartbeatOf n sync startup cycle channel (now (frame .entry)) ⌝ }
+    ensures { λ _. ⌜ now (sent .exit) ≡ sendsByte (n .state) ⌝ }
+{
+    let s = n.state;
+    let sends = sends_byte(s);
+    *sent = sends;
+    if sends == 1 {
+        let written = frame_writing::write_heartbeat(
+            n.id as u32,
+            join_bit(s),
+            sync,
+            startup,
+            cycle,
+            channel,
+        );
+        bytes::copy(&written, frame);
+    }
+}
+
+// Rule 2: the heartbeat that a node sends, if it sends one.
+pub fn send(
+    state: &[u8],
+    sync: u32,
+    startup: u32,
+    cycle: u32,
+    channel: u32,
+    frame: &mut [u8],
+    sent: &mut u32,
+) -> u32
+    ensures { λ r. ⌜ r ≡ sendHeartbeatStatus (now (state .entry)) sync startup cycle channel (now (frame .entry)) ⌝ }
+    ensures { λ _. ⌜ now (frame .exit) ≡ sendHeartbeatLeft (now (state .entry)) sync startup cycle channel (now (frame .entry)) ⌝ }
+    ensures { λ _. ⌜ now (sent .exit) ≡ sendHeartbeatSent (now (state .entry)) sync startup cycle channel (now (frame .entry)) (now (sent .entry)) ⌝ }
+{
+    if wrong_sending(sync, startup, cycle, channel) {
+        return 2;
+    }
+    if frame.len() != 10 {
+        return 3;
+    }
+    match state_decoding::decode(state) {
+        Decoded::Good(n) => {
+            send_of(n, sync, startup, cycle, channel, frame, sent);
+            0
+        }
+        Decoded::WrongLength => 3,
+        Decoded::Malformed => 4,
+    }
+}

@@ -1,0 +1,82 @@
+-- The votes of the buffer, and the arrays that they are read into. Assumes nothing.
+use mathlib.Core.Path.{_≡_, refl, sym, ap, _∙_}
+use mathlib.Core.Logic.{_⊎_, inl, inr}
+use mathlib.Core.Bool.{Bool, true, false, not, _&&_, cond}
+use mathlib.Core.List.{List}
+use mathlib.Core.Option.{Option, none, some}
+use Prim.Native.Nat.{ℕ, _+_, _<_}
+use native.Mathlib.Omega.{arith}
+use lib.Dec.{eqb}
+use lib.ListN.{length, set}
+use lib.Seq.{getD-set-same, getD-set-other}
+use borrow.Author.Tests.{eqb-true, eqb-false}
+use Rattle.sets.specs.Sets.{has}
+use Rattle.sets.proofs.Booleans.{bool}
+use Rattle.sets.proofs.Nodes.{of-those}
+use Rattle.rules.specs.declared.Vote.{Vote}
+use Rattle.rules.specs.Ballots.{voteAt, ballotsOf}
+use Rattle.frames.specs.Written.{formedVote}
+use Rattle.entry_slots.specs.Slots.{slotVote, arrivedIn, bufferBallots}
+
+-- whether the vote v of p counts as arrived at q
+abbrev pub counts : ℕ → ℕ → ℕ → ℕ → Vote → Bool
+counts n q arrived p v = not (eqb p q) && has p arrived && formedVote n p v
+
+-- arrays that hold the votes f up to p, and one vote more
+module _ (numbers sets bases views : List ℕ) (p : ℕ) where
+  -- the vote in slot i once v is stored in slot p
+  abbrev after : Vote → ℕ → Vote
+  after v = voteAt (set numbers p (v .group .number)) (set sets p (v .group .set)) (set bases p (v .group .base)) (set views p (v .view))
+
+  pub filled : (f : ℕ → Vote) (v : Vote) → p < 64 → length numbers ≡ 64 → length sets ≡ 64 → length bases ≡ 64 → length views ≡ 64 → v ≡ f p
+      → ((i : ℕ) → i < p → voteAt numbers sets bases views i ≡ f i)
+      → (i : ℕ) → i < p + 1 → after v i ≡ f i
+  filled f v l lG lM lB lV e h i k = go (bool (eqb i p))
+    where
+      room : (a : List ℕ) → length a ≡ 64 → p < length a
+      room a s = omega arith
+
+      here : after v p ≡ v
+      here = λ j. record {
+        group = record {
+          number = getD-set-same numbers p (v .group .number) 0 (room numbers lG) j;
+          set = getD-set-same sets p (v .group .set) 0 (room sets lM) j;
+          base = getD-set-same bases p (v .group .base) 0 (room bases lB) j;
+        };
+        view = getD-set-same views p (v .view) 0 (room views lV) j;
+      }
+
+      there : (i ≡ p → ⊥) → after v i ≡ voteAt numbers sets bases views i
+      there o = λ j. record {
+        group = record {
+          number = getD-set-other numbers p i (v .group .number) 0 o j;
+          set = getD-set-other sets p i (v .group .set) 0 o j;
+          base = getD-set-other bases p i (v .group .base) 0 o j;
+        };
+        view = getD-set-other views p i (v .view) 0 o j;
+      }
+
+      go : (eqb i p ≡ true) ⊎ (eqb i p ≡ false) → after v i ≡ f i
+      go (inl s) = let same : i ≡ p = eqb-true i p s in ap (after v) same ∙ here ∙ e ∙ ap f (sym same)
+      go (inr s) =
+          let other : i ≡ p → ⊥ = eqb-false i p s in
+          let less : i < p = omega arith in
+          there other ∙ h i less
+
+-- the ballots that the rules read in the arrays are those of the buffer
+module _ (n q : ℕ) (votes : List ℕ) (arrived : ℕ) where
+  pub same-ballots : (numbers sets bases views : List ℕ) (present : ℕ) → present ≡ arrivedIn n q votes arrived
+      → ((p : ℕ) → p < n → voteAt numbers sets bases views p ≡ slotVote votes p)
+      → ballotsOf numbers sets bases views present ≡ bufferBallots n q votes arrived
+  unfolding ballotsOf bufferBallots arrivedIn
+  same-ballots numbers sets bases views present e slot = λ i p. each p i
+    where
+      go : (p : ℕ) (b : Bool) → has p (arrivedIn n q votes arrived) ≡ b
+          → _≡_ {A = Option Vote} (cond b (some (voteAt numbers sets bases views p)) none) (cond b (some (slotVote votes p)) none)
+      go p true k = ap some (slot p (of-those p n (λ x. counts n q arrived x (slotVote votes x)) k .0))
+      go p false k = refl
+
+      each : (p : ℕ)
+          → _≡_ {A = Option Vote} (cond (has p present) (some (voteAt numbers sets bases views p)) none)
+          (cond (has p (arrivedIn n q votes arrived)) (some (slotVote votes p)) none)
+      each p = ap (λ (m : ℕ). cond (has p m) (some (voteAt numbers sets bases views p)) none) e ∙ go p (has p (arrivedIn n q votes arrived)) refl

@@ -1,0 +1,73 @@
+// The vote buffer that a host lends, read into arrays.
+ghost use mathlib.Core.Path.{_≡_};
+ghost use mathlib.Core.Bool.{not, _&&_};
+ghost use Prim.Native.Nat.{ℕ, _≤_, _<_};
+ghost use lib.Dec.{eqb};
+ghost use lib.ListN.{length};
+ghost use Rattle.sets.specs.Sets.{has};
+ghost use Rattle.rules.specs.Ballots.{voteAt};
+ghost use Rattle.frames.specs.Written.{formedVote};
+ghost use Rattle.entry_slots.specs.Slots.{slotVote, arrivedIn};
+use rules::Vote;
+use state::Group;
+
+// The vote in slot p of the buffer.
+fn slot_vote(votes: &[u8], p: usize) -> Vote
+    requires { ⌜ (length (now votes) ≡ 1792) × (p < 64) ⌝ }
+    ensures { λ r. ⌜ r ≡ slotVote (now (votes .entry)) p ⌝ }
+{
+    let at = 28 * p;
+    let number = bigendian::read4(votes, at);
+    let set = bigendian::read8(votes, at + 4);
+    let base = bigendian::read8(votes, at + 12);
+    let view = bigendian::read8(votes, at + 20);
+    Vote {
+        group: Group { number, set, base },
+        view,
+    }
+}
+
+// Whether the vote v of node p counts as arrived at node q.
+fn has_arrived(n: usize, q: usize, v: Vote, arrived: u64, p: usize) -> bool
+    requires { ⌜ (n ≤ 64) × (p < 64) ⌝ }
+    ensures { λ r. ⌜ r ≡ (not (eqb p q) && has p arrived && formedVote n p v) ⌝ }
+{
+    if p == q {
+        return false;
+    }
+    if !sets::contains(arrived, p) {
+        return false;
+    }
+    frame_reading::formed_vote(n, p, v)
+}
+
+// Reads the slots into four arrays, and gives the nodes whose vote counts. One pass, since this is most of a decision's work.
+pub fn read_votes(
+    n: usize,
+    q: usize,
+    votes: &[u8],
+    arrived: u64,
+    numbers: &mut [u32; 64],
+    sets: &mut [u64; 64],
+    bases: &mut [u64; 64],
+    views: &mut [u64; 64],
+) -> u64
+    requires { ⌜ (n ≤ 64) × (length (now votes) ≡ 1792) ⌝ }
+    requires { ⌜ (length (now numbers) ≡ 64) × (length (now sets) ≡ 64) × (length (now bases) ≡ 64) × (length (now views) ≡ 64) ⌝ }
+    ensures { λ r. ⌜ r ≡ arrivedIn n q (now (votes .entry)) arrived ⌝ }
+    ensures { λ _. ⌜ ((p : ℕ) → p < n → voteAt (now (numbers .exit)) (now (sets .exit)) (now (bases .exit)) (now (views .exit)) p ≡ slotVote (now (votes .entry)) p) ⌝ }
+{
+    let mut m: u64 = 0;
+    let mut p: usize = 0;
+    while p < n {
+        let v = slot_vote(votes, p);
+        let g = v.group;
+        numbers[p] = g.number;
+        sets[p] = g.set;
+        bases[p] = g.base;
+        views[p] = v.view;
+        m = sets::include(m, p, has_arrived(n, q, v, arrived, p));
+        p += 1;
+    }
+    m
+}

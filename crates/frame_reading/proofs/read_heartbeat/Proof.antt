@@ -1,0 +1,77 @@
+-- `frame_reading::read_heartbeat` meets its contract: a frame that is due has its payload. Assumes nothing.
+use mathlib.Core.Path.{_≡_}
+use mathlib.Core.Bool.{true}
+use mathlib.Core.List.{List}
+use Prim.Native.Nat.{ℕ, _+_, _≤_}
+use native.Mathlib.Omega.{arith}
+use lib.ListN.{length, getD}
+use borrow.Author.Needs.{needs}
+use Rattle.frames.specs.declared.HeartbeatRead.the-variants as beat
+use Rattle.frames.specs.declared.Fault.{Fault}
+use Rattle.frames.specs.declared.Looked.{Looked}
+use Rattle.frames.specs.declared.Looked.the-variants.{Due, Refused}
+use Rattle.frames.specs.declared.HeartbeatRead.{HeartbeatRead}
+use Rattle.frames.specs.Read.{faultOf, readHeartbeat}
+use Rattle.frames.specs.Looked.{looked, indicatorsOf, heartbeatOf}
+use Rattle.frames.proofs.Faults.{looked-refused, looked-due, long}
+use Rattle.frame_reading.proofs.read_heartbeat.Statement.{statement}
+use Rattle.frame_reading.proofs.read_heartbeat.Tie as tie
+
+module _ (q cycle channel : ℕ) (s : List ℕ) {l : Looked} (answer : l ≡ looked (faultOf (q + 1) 1 cycle (indicatorsOf true s) channel s)) where
+  refused : {f : Fault} → l ≡ Refused f → beat.Refused f ≡ readHeartbeat q cycle channel s
+  unfolding readHeartbeat indicatorsOf
+  refused e = rw (looked-refused (faultOf (q + 1) 1 cycle (indicatorsOf true s) channel s) answer e)
+
+  due : {r : HeartbeatRead} → l ≡ Due → r ≡ heartbeatOf (getD s 5 0) (getD s 6 0) → r ≡ readHeartbeat q cycle channel s
+  unfolding readHeartbeat indicatorsOf heartbeatOf
+  due e h = rw (looked-due (faultOf (q + 1) 1 cycle (indicatorsOf true s) channel s) answer e) h
+
+  due-long : l ≡ Due → 8 ≤ length s
+  due-long e = long (q + 1) 1 cycle (indicatorsOf true s) channel s (looked-due _ answer e)
+
+add-look : tie.Need-add-look
+add-look c = omega arith
+
+look-requires : tie.Need-look-requires
+look-requires c κs = search needs
+
+enum-known-f : tie.Need-enum-known-f
+enum-known-f c = search needs
+
+enum-told : tie.Need-enum-told
+enum-told c = search needs
+
+shared-slice-read-heartbeat-of : tie.Need-shared-slice-read-heartbeat-of
+shared-slice-read-heartbeat-of c =
+    let a = c .before .before .before .before .before .args in
+    let l = due-long (a .q) (a .cycle) (a .channel) (a .s .now) (c .before .before .before .look .ensures) (c .before .enum-told .given .1) in
+    omega arith
+
+shared-slice-read-heartbeat-of-2 : tie.Need-shared-slice-read-heartbeat-of-2
+shared-slice-read-heartbeat-of-2 c =
+    let a = c .before .before .before .before .before .before .args in
+    let l = due-long (a .q) (a .cycle) (a .channel) (a .s .now) (c .before .before .before .before .look .ensures) (c .before .before .enum-told .given .1) in
+    omega arith
+
+heartbeat-of-requires : tie.Need-heartbeat-of-requires
+heartbeat-of-requires c κs = search needs
+
+returns : tie.Need-returns
+returns c = let a = c .before .before .before .before .before .args in refused (a .q) (a .cycle) (a .channel) (a .s .now) (c .before .before .before .look .ensures) (c .before .f .given .1)
+
+returns-2 : tie.Need-returns-2
+returns-2 c = let a = c .before .before .before .before .before .before .before .args in due (a .q) (a .cycle) (a .channel) (a .s .now) (c .before .before .before .before .before .look .ensures) (c .before .before .before .enum-told .given .1) (c .heartbeat-of .ensures)
+
+pub read-heartbeat-spec : {M : Type 1} → statement M
+read-heartbeat-spec =
+    tie.close
+    (tie.spec
+    add-look
+    look-requires
+    enum-known-f
+    enum-told
+    shared-slice-read-heartbeat-of
+    shared-slice-read-heartbeat-of-2
+    heartbeat-of-requires
+    returns
+    returns-2)

@@ -1,0 +1,167 @@
+// Heartbeat and vote frames, read, and the two-channel rule.
+ghost use mathlib.Core.Path.{_≡_};
+ghost use Prim.Native.Nat.{_+_, _≤_, _<_};
+ghost use lib.ListN.{length};
+ghost use Rattle.rules.specs.OneCycle.{sameVote};
+ghost use Rattle.frames.specs.Written.{formedVote};
+ghost use Rattle.frames.specs.Read.{faultCode, readHeartbeat, voteContent, readVote, receiveHeartbeat, receiveVote};
+ghost use Rattle.frames.specs.Looked.{heartbeatOf};
+use frames::Fault;
+use frames::HeartbeatRead;
+use frames::HeartbeatReceived;
+use frames::Looked;
+use frames::VoteRead;
+use frames::VoteReceived;
+use rules::Vote;
+use state::Group;
+
+pub fn fault_code(f: Fault) -> u32
+    ensures { λ r. ⌜ r ≡ faultCode f ⌝ }
+{
+    match f {
+        Fault::Length => 5,
+        Fault::HeaderCheck => 6,
+        Fault::FrameCheck => 7,
+        Fault::NullFrame => 8,
+        Fault::NotDue => 9,
+        Fault::Content => 10,
+    }
+}
+
+// A heartbeat by its two payload bytes.
+fn heartbeat_of(a: u8, b: u8) -> HeartbeatRead
+    ensures { λ r. ⌜ r ≡ heartbeatOf a b ⌝ }
+{
+    if a % 128 != 0 {
+        return HeartbeatRead::Refused(Fault::Content);
+    }
+    if b != 0 {
+        return HeartbeatRead::Refused(Fault::Content);
+    }
+    if a == 0 {
+        HeartbeatRead::Alive
+    } else {
+        HeartbeatRead::Join
+    }
+}
+
+// The heartbeat of node q in a cycle, from the copy on a channel.
+pub fn read_heartbeat(q: u32, cycle: u32, channel: u32, s: &[u8]) -> HeartbeatRead
+    requires { ⌜ q < 64 ⌝ }
+    ensures { λ r. ⌜ r ≡ readHeartbeat q cycle channel (now (s .entry)) ⌝ }
+{
+    match frame_checks::look(q + 1, 1, cycle, true, channel, s) {
+        Looked::Refused(f) => HeartbeatRead::Refused(f),
+        Looked::Due => heartbeat_of(s[5], s[6]),
+    }
+}
+
+// Whether v is a vote that node q of n may cast.
+pub fn formed_vote(n: usize, q: usize, v: Vote) -> bool
+    requires { ⌜ n ≤ 64 ⌝ }
+    requires { ⌜ q < 64 ⌝ }
+    ensures { λ r. ⌜ r ≡ formedVote n q v ⌝ }
+{
+    let g = v.group;
+    if !sets::contains(g.set, q) {
+        return false;
+    }
+    if !sets::contains(v.view, q) {
+        return false;
+    }
+    if !sets::subset(g.set, g.base) {
+        return false;
+    }
+    if sets::below(n, g.base) != g.base {
+        return false;
+    }
+    sets::below(n, v.view) == v.view
+}
+
+fn vote_content(n: usize, q: u32, s: &[u8]) -> VoteRead
+    requires { ⌜ n ≤ 64 ⌝ }
+    requires { ⌜ q < 64 ⌝ }
+    requires { ⌜ 33 ≤ length (now s) ⌝ }
+    ensures { λ r. ⌜ r ≡ voteContent n q (now (s .entry)) ⌝ }
+{
+    let v = Vote {
+        group: Group {
+            number: bigendian::read4(s, 5),
+            set: bigendian::read8(s, 9),
+            base: bigendian::read8(s, 17),
+        },
+        view: bigendian::read8(s, 25),
+    };
+    if formed_vote(n, q as usize, v) {
+        VoteRead::Whole(v)
+    } else {
+        VoteRead::Refused(Fault::Content)
+    }
+}
+
+// The vote of node q of n in a cycle, from the copy on a channel.
+pub fn read_vote(n: usize, q: u32, cycle: u32, channel: u32, s: &[u8]) -> VoteRead
+    requires { ⌜ n ≤ 64 ⌝ }
+    requires { ⌜ q < n ⌝ }
+    ensures { λ r. ⌜ r ≡ readVote n q cycle channel (now (s .entry)) ⌝ }
+{
+    match frame_checks::look(q + 65, 14, cycle, false, channel, s) {
+        Looked::Refused(f) => VoteRead::Refused(f),
+        Looked::Due => vote_content(n, q, s),
+    }
+}
+
+// One good copy counts; two count if they say the same.
+pub fn receive_heartbeat(a: HeartbeatRead, b: HeartbeatRead) -> HeartbeatReceived
+    ensures { λ r. ⌜ r ≡ receiveHeartbeat a b ⌝ }
+{
+    match a {
+        HeartbeatRead::Alive => match b {
+            HeartbeatRead::Alive => HeartbeatReceived::Alive,
+            HeartbeatRead::Join => HeartbeatReceived::Missed,
+            HeartbeatRead::Refused(_) => HeartbeatReceived::Alive,
+        },
+        HeartbeatRead::Join => match b {
+            HeartbeatRead::Alive => HeartbeatReceived::Missed,
+            HeartbeatRead::Join => HeartbeatReceived::Join,
+            HeartbeatRead::Refused(_) => HeartbeatReceived::Join,
+        },
+        HeartbeatRead::Refused(_) => match b {
+            HeartbeatRead::Alive => HeartbeatReceived::Alive,
+            HeartbeatRead::Join => HeartbeatReceived::Join,
+            HeartbeatRead::Refused(_) => HeartbeatReceived::Missed,
+        },
+    }
+}
+
+// Whether two votes say the same.
+pub fn same_vote(v: Vote, w: Vote) -> bool
+    ensures { λ r. ⌜ r ≡ sameVote v w ⌝ }
+{
+    if rule_steps::same_group(v.group, w.group) {
+        v.view == w.view
+    } else {
+        false
+    }
+}
+
+pub fn receive_vote(a: VoteRead, b: VoteRead) -> VoteReceived
+    ensures { λ r. ⌜ r ≡ receiveVote a b ⌝ }
+{
+    match a {
+        VoteRead::Whole(v) => match b {
+            VoteRead::Whole(w) => {
+                if same_vote(v, w) {
+                    VoteReceived::Whole(v)
+                } else {
+                    VoteReceived::Missed
+                }
+            }
+            VoteRead::Refused(_) => VoteReceived::Whole(v),
+        },
+        VoteRead::Refused(_) => match b {
+            VoteRead::Whole(w) => VoteReceived::Whole(w),
+            VoteRead::Refused(_) => VoteReceived::Missed,
+        },
+    }
+}

@@ -1,0 +1,265 @@
+-- The ways through a single cycle and through a table's run, against what the call answers and leaves. Assumes nothing.
+use mathlib.Core.Path.{_≡_, refl, sym, ap, ap₂, _∙_, subst}
+use mathlib.Core.Bool.{Bool, true, false, not, _||_, cond, false≢true}
+use mathlib.Core.List.{List, [], _∷_}
+use Prim.Native.Nat.{ℕ, _≤_, _<_}
+use lib.Dec.{eqb, ltb}
+use lib.ListN.{length}
+use lib.Pow.{pow-pos}
+use borrow.Author.Tests.{eqb-true, eqb-false, eq-eqb, ne-eqb, ltb-false, lt-ltb, le-ltb, le-leb}
+use Rattle.sets.specs.Sets.{below}
+use Rattle.sets.proofs.Booleans.{or-f-l, or-f-r, not-f}
+use Rattle.refusal.specs.Refusal.{when, first}
+use Rattle.refusal.proofs.Laws.{none, unless-done, unless-refused}
+use Rattle.state.specs.declared.Node.{Node}
+use Rattle.state.specs.State.{formedState}
+use Rattle.rules.specs.declared.Faults.{Faults}
+use Rattle.rules.specs.Faults.{Row, founding, cycle}
+use Rattle.rules.specs.Reference.{beginning, after}
+use Rattle.bus_units.specs.Run.{framesLength, framesAfter}
+use Rattle.table.specs.Records.{countAt, foundingAt, startRefusal, cycleLength, cycleRefusal, faultsAt}
+use Rattle.table.specs.Table.{Cycles, tableOf}
+use Rattle.table.proofs.Laws.{Begins, begins}
+use Rattle.table.proofs.Cursor.{left, from, table-stops, table-goes-on}
+use Rattle.cluster_states.specs.declared.States.{States}
+use Rattle.cluster_states.specs.States.{stateAt, rowOf}
+use Rattle.theorem_formed.proofs.Formed.{FormedRow, founding-formed}
+use Rattle.row.specs.declared.Gathered.{Gathered}
+use Rattle.row.specs.Row.{statesOf, nodesOf, inOrder}
+use Rattle.row.proofs.Meaning.{gathered-states, gathered-good}
+use Rattle.row_calls.specs.declared.Task.{Task}
+use Rattle.row_calls.specs.declared.Task.the-variants.{Run, FramedRun}
+use Rattle.row_calls.specs.Calls.{clusterOf, rowStatus, cycleStatus, cycleLeft, runStatus, ranTo, runLeft, framedEntries, framedStatus, framesLeft, callStatus, callLeft, callFrames}
+use Rattle.row_calls.proofs.Counts.{framed-fits}
+use Rattle.row_calls.proofs.Framed.{framed-left}
+use Rattle.run_turns.specs.After.{rowAfter}
+use Rattle.run_answer.specs.Answered.{countByte, GatheredFrom, rowRefusal, lentEntries, Leaves}
+use Rattle.run_turns.proofs.Ran.{after-row, states-formed}
+
+-- ---- the row of a single cycle
+
+-- its refusals, by the way on which they are looked at
+module _ (n len : ℕ) (good : Bool) (s : List ℕ) where
+  pub too-few : n < 2 → 1 ≡ rowRefusal n len good s
+  unfolding rowRefusal first
+  too-few l = simp (lt-ltb n 2 l)
+
+  pub too-many : 2 ≤ n → 64 < n → 1 ≡ rowRefusal n len good s
+  unfolding rowRefusal first
+  too-many l h = simp (le-ltb n 2 l, lt-ltb 64 n h)
+
+  module _ (least : 2 ≤ n) (most : n ≤ 64) where
+    pub other-row : (len ≡ n → ⊥) → 3 ≡ rowRefusal n len good s
+    unfolding rowRefusal first
+    other-row e = simp (le-ltb n 2 least, le-ltb 64 n most, ne-eqb len n e)
+
+    module _ (e : len ≡ n) (longer : Bool) (kl : longer ≡ ltb (cycleLength s) (length s)) where
+      pub longer-record : longer ≡ true → 3 ≡ rowRefusal n len good s
+      unfolding rowRefusal first
+      longer-record h = simp (le-ltb n 2 least, le-ltb 64 n most, eq-eqb len n e, sym kl ∙ h)
+
+      pub by-order : longer ≡ false → (x : ℕ) → x ≡ cond good 0 4 → x ≡ rowRefusal n len good s
+      unfolding rowRefusal first
+      by-order h x kx = kx ∙ go good ∙ simp (le-ltb n 2 least, le-ltb 64 n most, eq-eqb len n e, sym kl ∙ h)
+        where
+          go : (b : Bool) → _≡_ {A = ℕ} (cond b 0 4) (cond (not b) 4 0)
+          go true = refl
+          go false = refl
+
+pub record Fits (n len : ℕ) : Type 0 where
+  pub most : n ≤ 64
+  pub entries : len ≡ n
+
+pub fits : (n len : ℕ) (good : Bool) (s : List ℕ) → rowRefusal n len good s ≡ 0 → Fits n len
+unfolding rowRefusal
+fits n len good s e =
+    let longer = ltb (cycleLength s) (length s) in
+    let a = none (ltb n 2 || ltb 64 n) 1 (when (not (eqb len n) || longer) 3 ∷ when (not good) 4 ∷ []) refl e in
+    let b = none (not (eqb len n) || longer) 3 (when (not good) 4 ∷ []) refl (a .1) in
+    record {
+      most = ltb-false 64 n (or-f-r (ltb n 2) (ltb 64 n) (a .0));
+      entries = eqb-true len n (not-f (eqb len n) (or-f-l (not (eqb len n)) longer (b .0)));
+    }
+
+byte : (n : ℕ) → n ≤ 64 → countByte n ≡ n
+unfolding countByte
+byte n l = ap (λ (b : Bool). cond b n 0) (le-leb n 64 l)
+
+-- whether the entries are in order matters only where nothing is refused before
+third : (a b x y : Bool) → (a ≡ false → b ≡ false → x ≡ y)
+    → first (when a 1 ∷ when b 3 ∷ when (not x) 4 ∷ []) ≡ first (when a 1 ∷ when b 3 ∷ when (not y) 4 ∷ [])
+unfolding first
+third true b x y h = refl
+third false true x y h = refl
+third false false x y h = ap (λ (t : Bool). first (when (not t) 4 ∷ [])) (h refl refl)
+
+module _ (n len : ℕ) (g : Gathered) (nodes : List Node) (s : List ℕ) (h : GatheredFrom n g len nodes) where
+  good-is : n ≤ 64 → len ≡ n → g .good ≡ inOrder n 0 nodes
+  good-is l e =
+      ap (λ (x : Gathered). x .good) (h .1)
+      ∙ gathered-good (countByte n) nodes (subst (λ (k : ℕ). k ≤ 64) (sym (h .0 ∙ e)) l)
+      ∙ ap (λ (k : ℕ). inOrder k 0 nodes) (byte n l)
+
+  row-is : rowRefusal n len (g .good) s ≡ rowStatus n nodes s
+  unfolding rowStatus rowRefusal
+  row-is =
+      let longer = ltb (cycleLength s) (length s) in
+      third (ltb n 2 || ltb 64 n) (not (eqb len n) || longer) (g .good) (inOrder n 0 nodes)
+      (λ a b. good-is (ltb-false 64 n (or-f-r (ltb n 2) (ltb 64 n) a)) (eqb-true len n (not-f (eqb len n) (or-f-l (not (eqb len n)) longer b))))
+      ∙ ap (λ (k : ℕ). rowRefusal n k (inOrder n 0 nodes) s) (sym (h .0))
+
+  states-are : n ≤ 64 → len ≡ n → rowOf n (g .states) ≡ statesOf nodes
+  states-are l e =
+      let all : length nodes ≡ n = h .0 ∙ e in
+      ap₂ (λ (k : ℕ) (x : Gathered). rowOf k (x .states)) (sym all) (h .1)
+      ∙ gathered-states (countByte n) nodes (subst (λ (k : ℕ). k ≤ 64) (sym all) l)
+
+  -- where x is the refusal of the row
+  module _ (x : ℕ) (kx : x ≡ rowRefusal n len (g .good) s) where
+    pub row-refused : (x ≡ 0 → ⊥) → x ≡ cycleStatus n nodes s
+    unfolding cycleStatus
+    row-refused z =
+        let same : x ≡ rowStatus n nodes s = kx ∙ row-is in
+        same ∙ sym (ap (λ (b : Bool). cond b (cycleRefusal n 1 s) (rowStatus n nodes s)) (ne-eqb (rowStatus n nodes s) 0 (λ e. z (same ∙ e))))
+
+    -- and r that of the record
+    module _ (z : x ≡ 0) (r : ℕ) (kr : r ≡ cycleRefusal n 1 s) where
+      pub record-is : r ≡ cycleStatus n nodes s
+      unfolding cycleStatus
+      record-is =
+          let row : rowStatus n nodes s ≡ 0 = sym (kx ∙ row-is) ∙ z in
+          kr ∙ sym (ap (λ (b : Bool). cond b (cycleRefusal n 1 s) (rowStatus n nodes s)) (eq-eqb (rowStatus n nodes s) 0 row))
+
+      pub cycle-leaves : r ≡ 0 → (f : Faults) (after : States) → f ≡ faultsAt s → rowOf n after ≡ cycle (clusterOf n) f (rowOf n (g .states))
+          → Leaves n after len (cycleLeft n nodes s)
+      unfolding cycleLeft
+      cycle-leaves zr f after kf ka =
+          let t = fits n len (g .good) s (sym kx ∙ z) in
+          let turned : rowOf n after ≡ cycle (clusterOf n) (faultsAt s) (statesOf nodes) =
+          ka ∙ ap₂ (λ (c : Faults) (row : Row). cycle (clusterOf n) c row) kf (states-are (t .most) (t .entries)) in (
+            sym (t .entries),
+            t .most,
+            ap (nodesOf n) turned
+                ∙ sym (unless-done (cycleStatus n nodes s) (nodesOf n (cycle (clusterOf n) (faultsAt s) (statesOf nodes))) nodes (sym record-is ∙ zr)),
+          )
+
+-- ---- a table, by what is lent for frames
+
+-- one that is not refused has its row, and its frames where they are asked for
+pub lent-fits : (framed : Bool) (room len : ℕ) (s : List ℕ) → tableOf true (lentEntries framed room len) s .cycles .refusal ≡ 0
+    → (tableOf true len s .cycles .refusal ≡ 0) × (framed ≡ true → room ≡ framesLength)
+unfolding lentEntries framedStatus
+lent-fits true room len s e = let f = framed-fits len room s e in (f .1, λ _. f .0)
+lent-fits false room len s e = (e, λ h. absurd (false≢true h))
+
+pub frames-kept : (framed : Bool) (len : ℕ) (s frames : List ℕ) → (tableOf true (lentEntries framed (length frames) len) s .cycles .refusal ≡ 0 → ⊥)
+    → frames ≡ cond framed (framesLeft len s frames) frames
+unfolding lentEntries framedStatus framesLeft
+frames-kept true len s frames o = sym (unless-refused (tableOf true (framedEntries (length frames) len) s .cycles .refusal) _ frames o)
+frames-kept false len s frames o = refl
+
+-- ---- a table that is not refused
+
+module _ (len : ℕ) (s : List ℕ) (z : tableOf true len s .cycles .refusal ≡ 0) where
+  start-good : startRefusal true len s ≡ 0
+  start-good = go (eqb (startRefusal true len s) 0) refl
+    where
+      go : (b : Bool) → eqb (startRefusal true len s) 0 ≡ b → startRefusal true len s ≡ 0
+      go true e = eqb-true (startRefusal true len s) 0 e
+      go false e = sym (ap (λ (c : Cycles). c .refusal) (table-stops true len s (startRefusal true len s) refl (eqb-false (startRefusal true len s) 0 e))) ∙ z
+
+  pub begun : Begins true len s
+  begun = begins true len s start-good
+
+  -- where n is what its first record has
+  module _ (n : ℕ) (kn : n ≡ countAt s) where
+    all : tableOf true len s .cycles ≡ from n 1 (left s 12) 0
+    all = table-goes-on true len s (startRefusal true len s) refl start-good n kn
+
+    pub count-most : n ≤ 64
+    count-most = subst (λ (k : ℕ). k ≤ 64) (sym kn) (begun .most)
+
+    pub cycles-good : from n 1 (left s 12) 0 .refusal ≡ 0
+    cycles-good = sym (ap (λ (c : Cycles). c .refusal) all) ∙ z
+
+    -- from the states of its beginning
+    module _ (F : ℕ) (kf : F ≡ foundingAt s) (start : States) (ks : rowOf n start ≡ founding n 0 F) where
+      pub begun-formed : (q : ℕ) → q < n → formedState q n (stateAt start q) ≡ true
+      begun-formed = states-formed n start (subst (FormedRow n) (sym ks) (founding-formed n 0 F (pow-pos 32) (ap₂ below kn kf ∙ begun .founding ∙ sym kf)))
+
+      pub run-leaves : (states : States) → rowOf n states ≡ rowAfter (clusterOf n) (rowOf n start) (from n 1 (left s 12) 0 .whole)
+          → Leaves n states len (ranTo (tableOf true len s))
+      unfolding tableOf beginning
+      run-leaves states e = (
+        sym (eqb-true len n (not-f (eqb len n) (ap (λ (k : ℕ). not (eqb len k)) kn ∙ begun .row))),
+        count-most,
+        ap (nodesOf n) (e ∙ ap (λ (row : Row). rowAfter (clusterOf n) row (from n 1 (left s 12) 0 .whole)) ks)
+            ∙ ap₂ (λ (k G : ℕ). nodesOf k (rowAfter (clusterOf k) (founding k 0 G) (from n 1 (left s 12) 0 .whole))) kn kf
+            ∙ ap (λ (c : Cycles). nodesOf (countAt s) (rowAfter (clusterOf (countAt s)) (founding (countAt s) 0 (foundingAt s)) (c .whole))) (sym all)
+            ∙ ap (nodesOf (countAt s)) (sym (after-row (clusterOf (countAt s)) (beginning (clusterOf (countAt s)) 0 (foundingAt s)) (tableOf true len s .cycles .whole))),
+      )
+
+      -- and the frames of its last cycle
+      pub run-shown : (framed : Bool) (frames : List ℕ) → (framed ≡ true → length frames ≡ framesLength)
+          → cond framed (framesAfter (clusterOf n) 1 (rowOf n start) (from n 1 (left s 12) 0 .whole) frames) frames ≡ cond framed (framesLeft len s frames) frames
+      unfolding tableOf beginning framesLeft framedStatus
+      run-shown true frames sized =
+          let room : framedEntries (length frames) len ≡ len = ap (λ (b : Bool). cond b len 0) (eq-eqb (length frames) framesLength (sized refl)) in
+          ap (λ (row : Row). framesAfter (clusterOf n) 1 row (from n 1 (left s 12) 0 .whole) frames) ks
+          ∙ ap₂ (λ (k G : ℕ). framesAfter (clusterOf k) 1 (founding k 0 G) (from n 1 (left s 12) 0 .whole) frames) kn kf
+          ∙ ap (λ (c : Cycles). framesAfter (clusterOf (countAt s)) 1 (founding (countAt s) 0 (foundingAt s)) (c .whole) frames) (sym all)
+          ∙ sym (unless-done (tableOf true (framedEntries (length frames) len) s .cycles .refusal) _ frames (ap (λ (k : ℕ). tableOf true k s .cycles .refusal) room ∙ z))
+      run-shown false frames sized = refl
+
+-- ---- a call
+
+-- the status, N, the states answered and the frames afterwards are those of the task t, lent `frames`
+abbrev pub Answers : Task → ℕ → ℕ → Gathered → List ℕ → List ℕ → ℕ → ℕ → States → List ℕ → Type 0
+Answers t n len g s frames status m states shown =
+    ((nodes : List Node) → GatheredFrom n g len nodes → status ≡ callStatus t n nodes (length frames) s)
+    × (((nodes : List Node) → GatheredFrom n g len nodes → status ≡ 0 → Leaves m states len (callLeft t n nodes (length frames) s)) × (shown ≡ callFrames t len s frames))
+
+pub same-task : (t u : Task) (n len : ℕ) (g : Gathered) (s frames : List ℕ) (status m : ℕ) (states : States) (shown : List ℕ) → t ≡ u
+    → Answers u n len g s frames status m states shown → Answers t n len g s frames status m states shown
+same-task t u n len g s frames status m states shown e h = subst (λ (x : Task). Answers x n len g s frames status m states shown) (sym e) h
+
+abbrev pub runTask : Bool → Task
+runTask true = FramedRun
+runTask false = Run
+
+module _ (n len : ℕ) (g : Gathered) (s : List ℕ) (nodes : List Node) (h : GatheredFrom n g len nodes) where
+  -- the status of a run, on a row and on what was gathered of it
+  ran-status : (framed : Bool) (room status : ℕ) → status ≡ tableOf true (lentEntries framed room len) s .cycles .refusal → status ≡ callStatus (runTask framed) n nodes room s
+  unfolding lentEntries runStatus framedStatus
+  ran-status true room status e = e ∙ ap (λ (k : ℕ). tableOf true (framedEntries room k) s .cycles .refusal) (sym (h .0))
+  ran-status false room status e = e ∙ ap (λ (k : ℕ). tableOf true k s .cycles .refusal) (sym (h .0))
+
+  ran-left : (m : ℕ) (states : States) → runStatus nodes s ≡ 0 → Leaves m states len (ranTo (tableOf true len s)) → Leaves m states len (runLeft nodes s)
+  unfolding runLeft
+  ran-left m states z t = (
+    t .0,
+    t .1,
+    t .2 ∙ ap (λ (k : ℕ). ranTo (tableOf true k s)) (sym (h .0)) ∙ sym (unless-done (runStatus nodes s) (ranTo (tableOf true (length nodes) s)) nodes z),
+  )
+
+  run-left : (framed : Bool) (room m : ℕ) (states : States) → callStatus (runTask framed) n nodes room s ≡ 0 → Leaves m states len (ranTo (tableOf true len s))
+      → Leaves m states len (callLeft (runTask framed) n nodes room s)
+  unfolding runStatus
+  run-left true room m states z t =
+      subst (Leaves m states len) (sym (framed-left nodes room s z)) (ran-left m states (framed-fits (length nodes) room s z .1) t)
+  run-left false room m states z t = ran-left m states z t
+
+run-frames : (framed : Bool) (len : ℕ) (s frames : List ℕ) → cond framed (framesLeft len s frames) frames ≡ callFrames (runTask framed) len s frames
+run-frames true len s frames = refl
+run-frames false len s frames = refl
+
+pub run-answers : (framed : Bool) (n len : ℕ) (g : Gathered) (s frames : List ℕ) (status m : ℕ) (states : States) (shown : List ℕ)
+    → status ≡ tableOf true (lentEntries framed (length frames) len) s .cycles .refusal → (status ≡ 0 → Leaves m states len (ranTo (tableOf true len s)))
+    → shown ≡ cond framed (framesLeft len s frames) frames → Answers (runTask framed) n len g s frames status m states shown
+run-answers framed n len g s frames status m states shown e l f = (
+  λ nodes h. ran-status n len g s nodes h framed (length frames) status e,
+  (
+    λ nodes h z. run-left n len g s nodes h framed (length frames) m states (sym (ran-status n len g s nodes h framed (length frames) status e) ∙ z) (l z),
+    f ∙ run-frames framed len s frames,
+  ),
+)

@@ -1,0 +1,310 @@
+-- The premises of the theorem over units can be met: for every fault record there is a cycle of calls on the bus that it makes. Assumes nothing.
+use mathlib.Core.Path.{_≡_, refl, sym, ap, _∙_, subst}
+use mathlib.Core.Logic.{_⊎_, inl, inr, Lift}
+use mathlib.Core.Bool.{Bool, true, false, _&&_, cond, true≢false}
+use mathlib.Core.List.{List, [], _∷_}
+use mathlib.Core.Option.{Option, none, some}
+use Prim.Native.Nat.{ℕ, zero, suc, _-_, _≤_, _<_}
+use native.Mathlib.Nat.{mod-lt}
+use native.Mathlib.Omega.{arith}
+use lib.Dec.{eqb, lit<}
+use lib.ListN.{length, replicate}
+use borrow.Author.Tests.{eqb-false}
+use Rattle.sets.specs.Sets.{has, below}
+use Rattle.sets.proofs.Booleans.{eqb-true}
+use Rattle.refusal.proofs.Laws.{unless-done}
+use Rattle.state.specs.declared.Reason.{Reason}
+use Rattle.state.specs.declared.State.{State}
+use Rattle.state.specs.declared.State.the-variants.{Out, Joining, Member}
+use Rattle.state.specs.State.{formedPlace, formedState, foundingGroup, initial}
+use Rattle.state.specs.Image.{imageOf}
+use Rattle.rules.specs.declared.Vote.{Vote}
+use Rattle.rules.specs.declared.Faults.{Faults}
+use Rattle.rules.specs.OneCycle.{Config, stopped, stopAndStart, sendsMember}
+use Rattle.rules.specs.Faults.{Row, at, founding, ruleOne, heartbeatReaches, voteReaches, cycle}
+use Rattle.rules.proofs.Rows.{get-tabulate}
+use Rattle.theorem_formed.proofs.Formed.{FormedRow, stop-start-formed, founding-formed, cycle-formed}
+use Rattle.frames.specs.declared.HeartbeatReceived.{HeartbeatReceived}
+use Rattle.frames.specs.declared.VoteReceived.{VoteReceived}
+use Rattle.frames.specs.declared.VoteReceived.the-variants.{Missed, Whole}
+use Rattle.frames.specs.Written.{votePayload}
+use Rattle.frames.proofs.Lengths.{length-payload}
+use Rattle.bus_units.specs.Units.{Bus, Copies, heartbeatSent, voteSent, heartbeatGot, isAlive, isJoin, unitHears, unitVote, voteCast, voteFramed}
+use Rattle.bus_units.specs.Faulty.{copyIf, heartbeatsOf, votesOf, busOf}
+use Rattle.bus_units.specs.Carried.{Came, on-both, on-none, HeartbeatRefused, VoteRefused, sendsHeartbeat}
+use Rattle.bus_units.specs.Recorded.{isSome}
+use Rattle.bus_units.specs.Run.{cycleCount}
+use Rattle.bus_units.proofs.Delivered.{no-heartbeat, no-vote}
+use Rattle.entry_begin.specs.Begin.{beginStatus, beginLeft}
+use Rattle.entry_send_heartbeat.specs.Beating.{sendHeartbeatLeft, sendHeartbeatSent}
+use Rattle.entry_receive_heartbeat.specs.Hearing.{heardCode, receiveHeartbeatStatus, receiveHeartbeatHeard}
+use Rattle.entry_send_vote.specs.Voting.{sendVoteLeft, sendVoteSent}
+use Rattle.entry_receive_vote.specs.Arrivals.{slotOr, receivedVote, receiveVoteStatus, receiveVoteLeft, receiveVoteArrived}
+use Rattle.entry_decide.specs.Decide.{decideLeft}
+use Rattle.entry_slots.proofs.Back.{slot-length}
+use Rattle.theorem_unit_calls.specs.Entries.{Frame, Entries, Within, byDefinition}
+use Rattle.theorem_unit_calls.specs.Cycle.{Stops, by-stop, by-begin, not-stopped, Starts, by-start, not-started, In, Collected, none as no-call, one-more, Silent, UnitDone, Part, calls, rests, Wrote, sends, CycleDone, Pressed, none as no-cycle, next}
+use Rattle.theorem_unit_calls.specs.Promise.{Begins}
+use Rattle.theorem_unit_calls.proofs.Calls.{imageIn, Gives, given-sends, beat-speaks, vote-speaks, alive-code, join-code, hears-bit, voteBy, stop-gives, start-gives, beat-gives, vote-gives}
+use Rattle.theorem_unit_calls.proofs.Press.{placed, ruled, cycle-holds}
+use Rattle.theorem_unit_calls.proofs.Accepting.{image-good, beat-good, vote-good, decide-good, hear-good, arrive-good, begin-good}
+
+lift : {A : Type 0} → A → Lift {0, 1} A
+lift a = record { lower = a }
+
+-- the definitions are within themselves
+same : Within byDefinition byDefinition
+same =
+    record {
+      begin = λ n q F y k. k;
+      stop = λ x y k. k;
+      start = λ x y k. k;
+      send-heartbeat = λ x sync startup count channel g k. k;
+      receive-heartbeat = λ n p count a b heard k. k;
+      send-vote = λ x heard0 heard1 count channel g k. k;
+      receive-vote = λ n p count a b s m t k e. e;
+      decide = λ x heard0 heard1 votes arrived y k. k;
+    }
+
+-- ---- the calls of one cycle on the bus of the record
+
+-- all nodes below n
+unfoldable upto : ℕ → List ℕ
+upto zero = []
+upto (suc n) = n ∷ upto n
+
+in-upto : (n p : ℕ) → p < n → In p (upto n)
+unfolding upto
+in-upto zero p l = absurd (omega arith)
+in-upto (suc n) p l = go (eqb p n) refl (in-upto n p)
+  where
+    go : (b : Bool) → eqb p n ≡ b → (p < n → In p (upto n)) → (p ≡ n) ⊎ In p (upto n)
+    go true e f = inl (eqb-true e)
+    go false e f = inr (f (let z : p ≡ n → ⊥ = eqb-false p n e in omega arith))
+
+-- what the calls for all of them leave
+unfoldable votesLeft : ℕ → ℕ → (ℕ → ℕ → List ℕ) → List ℕ → List ℕ → List ℕ
+votesLeft n count copies [] s = s
+votesLeft n count copies (p ∷ ps) s = votesLeft n count copies ps (receiveVoteLeft n p count (copies p 0) (copies p 1) s)
+
+unfoldable maskLeft : ℕ → ℕ → (ℕ → ℕ → List ℕ) → List ℕ → List ℕ → ℕ → ℕ
+maskLeft n count copies [] s m = m
+maskLeft n count copies (p ∷ ps) s m =
+    maskLeft n count copies ps (receiveVoteLeft n p count (copies p 0) (copies p 1) s) (receiveVoteArrived n p count (copies p 0) (copies p 1) s m)
+
+module _ (E : Entries) (had : Within byDefinition E) (n count : ℕ) (two : 2 ≤ n) (few : n ≤ 64) (counted : count < 64) (copies : ℕ → ℕ → List ℕ) where
+  left-length : (p : ℕ) (s : List ℕ) → p < n → length s ≡ 1792 → length (receiveVoteLeft n p count (copies p 0) (copies p 1) s) ≡ 1792
+  unfolding receiveVoteLeft
+  left-length p s l e =
+      ap (λ (x : List ℕ). length x) (unless-done (receiveVoteStatus n p count s) (slotOr (receivedVote n p count (copies p 0) (copies p 1)) p s) s (sym (arrive-good n p count two few l counted s e)))
+      ∙ go (receivedVote n p count (copies p 0) (copies p 1))
+    where
+      go : (r : VoteReceived) → length (slotOr r p s) ≡ 1792
+      go Missed = e
+      go (Whole v) = slot-length p (votePayload v) s (length-payload v) (omega arith) ∙ e
+
+  collects : (k : ℕ) (s : List ℕ) (m : ℕ) → k ≤ n → length s ≡ 1792
+      → Collected E n count copies (upto k) s m (votesLeft n count copies (upto k) s) (maskLeft n count copies (upto k) s m) × Lift {0, 1} (length (votesLeft n count copies (upto k) s) ≡ 1792)
+  unfolding upto votesLeft maskLeft
+  collects zero s m l e = (no-call, lift e)
+  collects (suc k) s m l e =
+      let rest = collects k (receiveVoteLeft n k count (copies k 0) (copies k 1) s) (receiveVoteArrived n k count (copies k 0) (copies k 1) s m) (omega arith) (left-length k s l e) in
+      (one-more k (had .receive-vote n k count (copies k 0) (copies k 1) s m _ _ (lift (arrive-good n k count two few l counted s e, refl, refl))) (rest .0), rest .1)
+
+module _ (E : Entries) (had : Within byDefinition E) (n q : ℕ) (place : formedPlace q n ≡ true) where
+  stop-made : (b : Bool) (s : State) → formedState q n s ≡ true → Stops E n q b (imageIn n q s) (imageIn n q (stopAndStart b false s))
+  unfolding stopAndStart
+  stop-made true s w = by-stop (had .stop _ _ (lift (image-good n q s place w, sym (stop-gives n q s place w))))
+  stop-made false s w = not-stopped
+
+  start-made : (a b : Bool) (s : State) → formedState q n (stopAndStart a false s) ≡ true
+      → Starts E b (imageIn n q (stopAndStart a false s)) (imageIn n q (stopAndStart a b s))
+  unfolding stopAndStart
+  start-made a true s w = let t = stopAndStart a false s in by-start (had .start _ _ (lift (image-good n q t place w, sym (start-gives n q t place w))))
+  start-made a false s w = not-started
+
+-- a vote by the masks of what is heard is the unit's vote
+cast-by : (n count : ℕ) (h : Copies) (q : ℕ) (s : State) → voteBy n q (unitHears n count h isAlive q) (unitHears n count h isJoin q) s ≡ voteCast n count h q s
+unfolding unitVote
+cast-by n count h q (Out r) = refl
+cast-by n count h q Joining = refl
+cast-by n count h q (Member g) = refl
+
+-- a frame that was written stands on the bus where it reaches
+stands : (frames : ℕ → Frame) (Refused : ℕ → List ℕ → Type 0) (sent : ℕ → Option (List ℕ)) (speaks t : Bool) → ((channel : ℕ) → Refused channel [])
+    → ((channel : ℕ) → channel < 2 → Gives (frames channel) (sent channel)) → ((channel : ℕ) → isSome (sent channel) ≡ speaks)
+    → Came (Wrote frames) Refused (copyIf t (sent 0)) (copyIf t (sent 1)) (sends frames && t)
+stands frames Refused sent speaks t empty given k = go (sent 0) (sent 1) t (given 0 (lit< tt)) (given 1 (lit< tt)) (k 0 ∙ sym (k 1))
+  where
+    by-first : (b : Bool) {x y : List ℕ} (t : Bool) → sends frames ≡ b → Came (Wrote frames) Refused x y (b && t) → Came (Wrote frames) Refused x y (sends frames && t)
+    by-first b {x} {y} t e = subst (λ (v : Bool). Came (Wrote frames) Refused x y (v && t)) (sym e)
+
+    go : (x y : Option (List ℕ)) (t : Bool) → Gives (frames 0) x → Gives (frames 1) y → isSome x ≡ isSome y
+        → Came (Wrote frames) Refused (copyIf t x) (copyIf t y) (sends frames && t)
+    go (some x) (some y) true a b e = by-first true true (given-sends (frames 0) (some x) a) (on-both a b)
+    go (some x) (some y) false a b e = by-first true false (given-sends (frames 0) (some x) a) (on-none (empty 0) (empty 1))
+    go (some x) none t a b e = absurd (true≢false e)
+    go none (some y) t a b e = absurd (true≢false (sym e))
+    go none none true a b e = by-first false true (given-sends (frames 0) none a) (on-none (empty 0) (empty 1))
+    go none none false a b e = by-first false false (given-sends (frames 0) none a) (on-none (empty 0) (empty 1))
+
+-- into a vote buffer of any bytes, with any mask
+module _ (n count : ℕ) (two : 2 ≤ n) (few : n ≤ 64) (counted : count < 64) (c : Faults) (row : Row) (formed : FormedRow n row) (buffer : List ℕ)
+    (sized : length buffer ≡ 1792) (mask : ℕ) where
+  abbrev C : Config
+  C = record { nodes = n }
+
+  abbrev bus : Bus
+  bus = busOf C count c row
+
+  abbrev now : ℕ → State
+  now q = stopAndStart (has q (c .stop)) (has q (c .start)) (at row q)
+
+  abbrev heard : (HeartbeatReceived → Bool) → ℕ → ℕ
+  heard kind q = unitHears n count (bus .heartbeats) kind q
+
+  abbrev beatFrame : ℕ → ℕ → Frame
+  beatFrame q channel =
+      record { sent = sendHeartbeatSent (imageIn n q (now q)) 0 0 count channel (replicate 10 0) 0; bytes = sendHeartbeatLeft (imageIn n q (now q)) 0 0 count channel (replicate 10 0) }
+
+  abbrev voteFrames : ℕ → ℕ → Frame
+  voteFrames q channel =
+      record {
+        sent = sendVoteSent (imageIn n q (now q)) count channel (replicate 36 0) 0;
+        bytes = sendVoteLeft (imageIn n q (now q)) (heard isAlive q) (heard isJoin q) count channel (replicate 36 0);
+      }
+
+  abbrev bufferAfter : ℕ → List ℕ
+  bufferAfter q = votesLeft n count (λ p. bus .votes p q) (upto n) buffer
+
+  abbrev arrivedAfter : ℕ → ℕ
+  arrivedAfter q = maskLeft n count (λ p. bus .votes p q) (upto n) buffer mask
+
+  abbrev decided : ℕ → List ℕ
+  decided q = decideLeft (imageIn n q (now q)) (heard isAlive q) (heard isJoin q) (bufferAfter q) (arrivedAfter q)
+
+  now-formed : (q : ℕ) → q < n → formedState q n (now q) ≡ true
+  now-formed q l = stop-start-formed (has q (c .stop)) (has q (c .start)) n q (at row q) (formed q l)
+
+  beat-made : (q : ℕ) → q < n → (channel : ℕ) → channel < 2 → byDefinition .send-heartbeat (imageIn n q (now q)) 0 0 count channel (beatFrame q channel)
+  beat-made q l channel k = lift (replicate 10 0, 0, beat-good n q (now q) (placed n q two few l) (now-formed q l) count channel counted k, refl, refl)
+
+  vote-made : (q : ℕ) → q < n → (channel : ℕ) → channel < 2 → byDefinition .send-vote (imageIn n q (now q)) (heard isAlive q) (heard isJoin q) count channel (voteFrames q channel)
+  vote-made q l channel k = lift (replicate 36 0, 0, vote-good n q (now q) (placed n q two few l) (now-formed q l) count channel counted k, refl, refl)
+
+  made : (E : Entries) → Within byDefinition E → (z : ℕ → List ℕ) → ((q : ℕ) → q < n → z q ≡ decided q) → (q : ℕ) → q < n
+      → UnitDone E n count (c .stop) (c .start) bus q (imageIn n q (at row q)) (z q)
+  unfolding receiveHeartbeatHeard
+  made E had z e q l =
+      record {
+        between = imageIn n q (stopAndStart (has q (c .stop)) false (at row q));
+        ruled = imageIn n q (now q);
+        stops = stop-made E had n q place (has q (c .stop)) (at row q) (formed q l);
+        starts = start-made E had n q place (has q (c .stop)) (has q (c .start)) (at row q) (stop-start-formed (has q (c .stop)) false n q (at row q) (formed q l));
+        sync = λ channel. 0;
+        startup = λ channel. 0;
+        heartbeat = beatFrame q;
+        beats = λ channel k. had .send-heartbeat _ 0 0 count channel _ (beat-made q l channel k);
+        heard0 = heard isAlive q;
+        heard1 = heard isJoin q;
+        hears = λ p k o.
+            let good = hear-good n p count two few k counted in
+            inl (
+              heardCode (r p),
+              had .receive-heartbeat n p count _ _ _ (lift (0, good, sym (unless-done (receiveHeartbeatStatus n p count) (heardCode (r p)) 0 (sym good)))),
+              hears-bit n count (bus .heartbeats) isAlive p q k o ∙ sym (alive-code (r p)),
+              hears-bit n count (bus .heartbeats) isJoin p q k o ∙ sym (join-code (r p)),
+            );
+        vote = voteFrames q;
+        casts = λ channel k. had .send-vote _ _ _ count channel _ (vote-made q l channel k);
+        buffer = buffer;
+        cleared = mask;
+        senders = upto n;
+        votes = bufferAfter q;
+        arrived = arrivedAfter q;
+        collects = all .0;
+        attends = λ p k o. inl (in-upto n p k);
+        decides = had .decide _ _ _ _ _ _ (lift (decide-good n q (now q) place (now-formed q l) (bufferAfter q) (all .1 .lower), e q l));
+      }
+    where
+      place : formedPlace q n ≡ true
+      place = placed n q two few l
+
+      r : ℕ → HeartbeatReceived
+      r p = heartbeatGot count (bus .heartbeats) q p
+
+      all : Collected E n count (λ p. bus .votes p q) (upto n) buffer mask (bufferAfter q) (arrivedAfter q) × Lift {0, 1} (length (bufferAfter q) ≡ 1792)
+      all = collects E had n count two few counted (λ p. bus .votes p q) n buffer mask (omega arith) sized
+
+  -- ---- all units
+
+  beat-given : (p : ℕ) → p < n → (channel : ℕ) → channel < 2 → Gives (beatFrame p channel) (heartbeatSent 0 0 count p (at (ruleOne n c row) p) channel)
+  beat-given p l channel k =
+      subst (λ (s : State). Gives (beatFrame p channel) (heartbeatSent 0 0 count p s channel)) (ruled n c row p l)
+      (beat-gives n p (now p) (placed n p two few l) (now-formed p l) 0 0 count channel (beatFrame p channel) (beat-made p l channel k))
+
+  vote-given : (p : ℕ) → p < n → (channel : ℕ) → channel < 2 → Gives (voteFrames p channel) (voteSent n count (bus .heartbeats) p (at (ruleOne n c row) p) channel)
+  vote-given p l channel k =
+      subst (λ (s : State). Gives (voteFrames p channel) (voteSent n count (bus .heartbeats) p s channel)) (ruled n c row p l)
+      (subst (λ (v : Option Vote). Gives (voteFrames p channel) (voteFramed count p v channel)) (cast-by n count (bus .heartbeats) p (now p))
+      (vote-gives n p (now p) (placed n p two few l) (now-formed p l) (heard isAlive p) (heard isJoin p) count channel (voteFrames p channel) (vote-made p l channel k)))
+
+  cycle-made : (E : Entries) → Within byDefinition E → (z : ℕ → List ℕ) → ((q : ℕ) → q < n → z q ≡ decided q) → CycleDone E n count c bus (λ q. imageIn n q (at row q)) z
+  unfolding busOf heartbeatsOf votesOf made
+  cycle-made E had z e =
+      record {
+        counted = counted;
+        parts = λ q l. calls (made E had z e q l);
+        beats = λ p q lp lq o.
+            stands (beatFrame p) (HeartbeatRefused count p) (heartbeatSent 0 0 count p (at (ruleOne n c row) p)) (sendsHeartbeat (at (ruleOne n c row) p)) (heartbeatReaches c p q)
+            (no-heartbeat count p) (beat-given p lp) (λ channel. beat-speaks 0 0 count p channel (at (ruleOne n c row) p));
+        ballots = λ p q lp lq o.
+            stands (voteFrames p) (VoteRefused n count p) (voteSent n count (bus .heartbeats) p (at (ruleOne n c row) p)) (sendsMember (at (ruleOne n c row) p)) (voteReaches c p q)
+            (no-vote n count p) (vote-given p lp) (λ channel. vote-speaks n count (bus .heartbeats) p channel (at (ruleOne n c row) p));
+      }
+
+  cycle-there : (E : Entries) → Within byDefinition E → CycleDone E n count c bus (λ q. imageIn n q (at row q)) (λ q. imageIn n q (at (cycle C c row) q))
+  cycle-there E had =
+      cycle-made E had (λ q. imageIn n q (at (cycle C c row) q))
+      (λ q l. sym (cycle-holds byDefinition same n two few count c bus (λ y. imageIn n y (at row y)) decided row formed (λ y h. refl) (cycle-made byDefinition same decided (λ y h. refl)) q l))
+
+begin-made : (E : Entries) → Within byDefinition E → (n q F : ℕ) → 2 ≤ n → n ≤ 64 → q < n → eqb F 0 ≡ false → below n F ≡ F → E .begin n q F (imageIn n q (initial 0 F q))
+unfolding beginLeft
+begin-made E had n q F two few l some-founder founders =
+    let good = begin-good n q F two few l some-founder founders in
+    had .begin n q F _ (lift (replicate 24 0, good, sym (unless-done (beginStatus n q F (replicate 24 0)) (imageIn n q (initial 0 F q)) (replicate 24 0) (sym good))))
+
+-- for every founding set and list of cycles there is such a press, whose cycles have the counts of a run, from vote buffers of any bytes and masks
+pub press-there : (E : Entries) → Within byDefinition E → (n F : ℕ) (cs : List Faults) (buffer : List ℕ) (mask : ℕ) → 2 ≤ n → n ≤ 64 → eqb F 0 ≡ false → below n F ≡ F
+    → length buffer ≡ 1792 → (x : ℕ → List ℕ) × (z : ℕ → List ℕ) × Begins E n F x × Pressed E n cs x z
+unfolding founding
+press-there E had n F cs buffer mask two few some-founder founders sized =
+    let run = cycles cs 1 (founding n 0 F) (founding-formed n 0 F (lit< tt) founders) in
+    ((λ q. imageIn n q (at (founding n 0 F) q)), run .0, began, run .1)
+  where
+    began : Begins E n F (λ q. imageIn n q (at (founding n 0 F) q))
+    began q l =
+        subst (λ (y : List ℕ). E .begin n q F y) (ap (imageIn n q) (sym (get-tabulate n q (initial 0 F) stopped l))) (begin-made E had n q F two few l some-founder founders)
+
+    cycles : (cs : List Faults) (k : ℕ) (row : Row) → FormedRow n row → (z : ℕ → List ℕ) × Pressed E n cs (λ q. imageIn n q (at row q)) z
+    cycles [] k row w = ((λ q. imageIn n q (at row q)), no-cycle)
+    cycles (c ∷ cs) k row w =
+        let rest = cycles cs (suc k) (cycle (record { nodes = n }) c row) (cycle-formed n c row w) in
+        (rest .0, next (cycleCount k) (busOf (record { nodes = n }) (cycleCount k) c row) (cycle-there n (cycleCount k) two few (mod-lt (k - 1) (lit< tt)) c row w buffer sized mask E had) (rest .1))
+
+-- ---- each other way that a part may go can be gone
+
+pub silent-there : Silent (λ channel. [])
+silent-there = (refl, refl)
+
+pub rests-there : (E : Entries) (n count stop start : ℕ) (bus : Bus) (q : ℕ) (r : Reason) → has q stop ≡ false → has q start ≡ false
+    → Part E n count stop start bus q (imageIn n q (Out r)) (imageIn n q (Out r))
+unfolding imageOf
+rests-there E n count stop start bus q r a b = rests refl a b refl
+
+-- whatever image it held, a unit that lost its memory is stopped by a founding set that lacks it
+pub begin-there : (E : Entries) → Within byDefinition E → (n q F : ℕ) (x : List ℕ) → 2 ≤ n → n ≤ 64 → q < n → eqb F 0 ≡ false → below n F ≡ F → has q F ≡ false
+    → Stops E n q true x (imageIn n q stopped)
+begin-there E had n q F x two few l some-founder founders lacks =
+    by-begin F lacks
+    (subst (λ (y : List ℕ). E .begin n q F y) (ap (λ (b : Bool). imageIn n q (cond b (Member (foundingGroup 0 F)) stopped)) lacks) (begin-made E had n q F two few l some-founder founders))

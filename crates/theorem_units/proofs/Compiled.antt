@@ -1,0 +1,117 @@
+-- The entries for one node as they are compiled: they meet their contracts, and their calls are those of the definitions, no more and no fewer. Assumes nothing.
+use mathlib.Core.Path.{refl, sym, _∙_}
+use mathlib.Core.List.{List, []}
+use Prim.Native.Nat.{ℕ}
+use denote.Ref.{RefT, now}
+use Rattle.theorem_unit_calls.specs.Entries.{Frame, Within, byDefinition}
+use Rattle.theorem_units.specs.Compiled.{begin, stop, start, send-heartbeat, receive-heartbeat, send-vote, receive-vote, decide, compiled}
+use Rattle.gm.proofs.gm_begin.Statement as gm-begin-says
+use Rattle.gm.proofs.gm_begin.Met as gm-begin-met
+use Rattle.gm.proofs.gm_stop.Statement as gm-stop-says
+use Rattle.gm.proofs.gm_stop.Met as gm-stop-met
+use Rattle.gm.proofs.gm_start.Statement as gm-start-says
+use Rattle.gm.proofs.gm_start.Met as gm-start-met
+use Rattle.gm.proofs.gm_send_heartbeat.Statement as gm-send-heartbeat-says
+use Rattle.gm.proofs.gm_send_heartbeat.Met as gm-send-heartbeat-met
+use Rattle.gm.proofs.gm_receive_heartbeat.Statement as gm-receive-heartbeat-says
+use Rattle.gm.proofs.gm_receive_heartbeat.Met as gm-receive-heartbeat-met
+use Rattle.gm.proofs.gm_send_vote.Statement as gm-send-vote-says
+use Rattle.gm.proofs.gm_send_vote.Met as gm-send-vote-met
+use Rattle.gm.proofs.gm_receive_vote.Statement as gm-receive-vote-says
+use Rattle.gm.proofs.gm_receive_vote.Met as gm-receive-vote-met
+use Rattle.gm.proofs.gm_decide.Statement as gm-decide-says
+use Rattle.gm.proofs.gm_decide.Met as gm-decide-met
+
+-- ---- the compiled entries meet the contracts that their callers read
+
+pub begin-code : {M : Type 1} → gm-begin-says.statement M
+begin-code {M} = gm-begin-met.met
+
+pub stop-code : {M : Type 1} → gm-stop-says.statement M
+stop-code {M} = gm-stop-met.met
+
+pub start-code : {M : Type 1} → gm-start-says.statement M
+start-code {M} = gm-start-met.met
+
+pub send-heartbeat-code : {M : Type 1} → gm-send-heartbeat-says.statement M
+send-heartbeat-code {M} = gm-send-heartbeat-met.met
+
+pub receive-heartbeat-code : {M : Type 1} → gm-receive-heartbeat-says.statement M
+receive-heartbeat-code {M} = gm-receive-heartbeat-met.met
+
+pub send-vote-code : {M : Type 1} → gm-send-vote-says.statement M
+send-vote-code {M} = gm-send-vote-met.met
+
+pub receive-vote-code : {M : Type 1} → gm-receive-vote-says.statement M
+receive-vote-code {M} = gm-receive-vote-met.met
+
+pub decide-code : {M : Type 1} → gm-decide-says.statement M
+decide-code {M} = gm-decide-met.met
+
+-- ---- what a contract tells of an accepted call is what the definition says
+
+begin-told : (n q F : ℕ) (y : List ℕ) → compiled .begin n q F y → byDefinition .begin n q F y
+begin-told n q F y (begin κs a r s l z) = record { lower = (now (a .1 .1 .1 .0), sym z ∙ l .0, l .1) }
+
+stop-told : (x y : List ℕ) → compiled .stop x y → byDefinition .stop x y
+stop-told x y (stop κs a r s l z) = record { lower = (sym z ∙ l .0, l .1) }
+
+start-told : (x y : List ℕ) → compiled .start x y → byDefinition .start x y
+start-told x y (start κs a r s l z) = record { lower = (sym z ∙ l .0, l .1) }
+
+send-heartbeat-told : (x : List ℕ) (sync startup count channel : ℕ) (g : Frame) → compiled .send-heartbeat x sync startup count channel g → byDefinition .send-heartbeat x sync startup count channel g
+send-heartbeat-told x sync startup count channel g (send-heartbeat κs a r s l z) =
+    record { lower = (now (a .1 .1 .1 .1 .1 .0), now (a .1 .1 .1 .1 .1 .1 .0), sym z ∙ l .0, l .1 .0, l .1 .1) }
+
+receive-heartbeat-told : (n p count : ℕ) (x y : List ℕ) (heard : ℕ) → compiled .receive-heartbeat n p count x y heard → byDefinition .receive-heartbeat n p count x y heard
+receive-heartbeat-told n p count x y heard (receive-heartbeat κs a r s l z) = record { lower = (now (a .1 .1 .1 .1 .1 .0), sym z ∙ l .0, l .1) }
+
+send-vote-told : (x : List ℕ) (heard0 heard1 count channel : ℕ) (g : Frame) → compiled .send-vote x heard0 heard1 count channel g → byDefinition .send-vote x heard0 heard1 count channel g
+send-vote-told x heard0 heard1 count channel g (send-vote κs a r s l z) =
+    record { lower = (now (a .1 .1 .1 .1 .1 .0), now (a .1 .1 .1 .1 .1 .1 .0), sym z ∙ l .0, l .1 .0, l .1 .1) }
+
+receive-vote-told : (n p count : ℕ) (x y t : List ℕ) (m : ℕ) (u : List ℕ) (k : ℕ) → compiled .receive-vote n p count x y t m u k → byDefinition .receive-vote n p count x y t m u k
+receive-vote-told n p count x y t m u k (receive-vote κs a r s l z) = record { lower = (sym z ∙ l .0, l .1 .0, l .1 .1) }
+
+decide-told : (x : List ℕ) (heard0 heard1 : ℕ) (votes : List ℕ) (arrived : ℕ) (y : List ℕ) → compiled .decide x heard0 heard1 votes arrived y → byDefinition .decide x heard0 heard1 votes arrived y
+decide-told x heard0 heard1 votes arrived y (decide κs a r s l z) = record { lower = (sym z ∙ l .0, l .1) }
+
+pub told : Within compiled byDefinition
+told =
+    record {
+      begin = begin-told;
+      stop = stop-told;
+      start = start-told;
+      send-heartbeat = send-heartbeat-told;
+      receive-heartbeat = receive-heartbeat-told;
+      send-vote = send-vote-told;
+      receive-vote = receive-vote-told;
+      decide = decide-told;
+    }
+
+-- ---- and what the definition says of a call, a contract can tell of one
+
+-- a reference to a value, at any place
+abbrev ref : {X : Type 0} → X → RefT X
+ref x = record { ptr = (0, 0); name = 0; now = x }
+
+pub had : Within byDefinition compiled
+had =
+    record {
+      begin = λ n q F y k. begin ([], tt) (n, (q, (F, (ref (k .lower .0), tt)))) 0 (n, (q, (F, (ref y, tt)))) (k .lower .1, k .lower .2) refl;
+      stop = λ x y k. stop ([], tt) (ref x, tt) 0 (ref y, tt) (k .lower .0, k .lower .1) refl;
+      start = λ x y k. start ([], tt) (ref x, tt) 0 (ref y, tt) (k .lower .0, k .lower .1) refl;
+      send-heartbeat = λ x sync startup count channel g k.
+          send-heartbeat ([], ([], ([], tt))) (ref x, (sync, (startup, (count, (channel, (ref (k .lower .0), (ref (k .lower .1), tt))))))) 0
+          (ref x, (sync, (startup, (count, (channel, (ref (g .bytes), (ref (g .sent), tt))))))) (k .lower .2, (k .lower .3, k .lower .4)) refl;
+      receive-heartbeat = λ n p count x y heard k.
+          receive-heartbeat ([], ([], ([], tt))) (n, (p, (count, (ref x, (ref y, (ref (k .lower .0), tt)))))) 0 (n, (p, (count, (ref x, (ref y, (ref heard, tt)))))) (k .lower .1, k .lower .2) refl;
+      send-vote = λ x heard0 heard1 count channel g k.
+          send-vote ([], ([], ([], tt))) (ref x, (heard0, (heard1, (count, (channel, (ref (k .lower .0), (ref (k .lower .1), tt))))))) 0
+          (ref x, (heard0, (heard1, (count, (channel, (ref (g .bytes), (ref (g .sent), tt))))))) (k .lower .2, (k .lower .3, k .lower .4)) refl;
+      receive-vote = λ n p count x y t m u l k.
+          receive-vote ([], ([], ([], ([], tt)))) (n, (p, (count, (ref x, (ref y, (ref t, (ref m, tt))))))) 0 (n, (p, (count, (ref x, (ref y, (ref u, (ref l, tt)))))))
+          (k .lower .0, (k .lower .1, k .lower .2)) refl;
+      decide = λ x heard0 heard1 votes arrived y k.
+          decide ([], ([], tt)) (ref x, (heard0, (heard1, (ref votes, (arrived, tt))))) 0 (ref y, (heard0, (heard1, (ref votes, (arrived, tt))))) (k .lower .0, k .lower .1) refl;
+    }

@@ -1,0 +1,66 @@
+-- The entries for one node as they are compiled: a call is known by what the entry's contract tells its caller, `Learnt`, of the arguments a, the status r
+-- and the arguments at the end s. One that was refused is none.
+-- Assumes nothing.
+use mathlib.Core.Path.{_≡_}
+use mathlib.Core.List.{List}
+use Prim.Native.Nat.{ℕ}
+use denote.Ref.{now}
+use Rattle.theorem_unit_calls.specs.Entries.{Frame, Entries}
+use Rattle.gm.proofs.gm_begin.Reads as gm-begin
+use Rattle.gm.proofs.gm_stop.Reads as gm-stop
+use Rattle.gm.proofs.gm_start.Reads as gm-start
+use Rattle.gm.proofs.gm_send_heartbeat.Reads as gm-send-heartbeat
+use Rattle.gm.proofs.gm_receive_heartbeat.Reads as gm-receive-heartbeat
+use Rattle.gm.proofs.gm_send_vote.Reads as gm-send-vote
+use Rattle.gm.proofs.gm_receive_vote.Reads as gm-receive-vote
+use Rattle.gm.proofs.gm_decide.Reads as gm-decide
+
+-- gm_begin(n, node, founding, state)
+pub data Begin : (n q F : ℕ) (y : List ℕ) → Type 1 where
+  begin : (κs : _) (a : _) (r : _) (s : _) → gm-begin.Learnt κs a r s → r ≡ 0 → Begin (a .0) (a .1 .0) (a .1 .1 .0) (now (s .1 .1 .1 .0))
+
+-- gm_stop(state), gm_start(state)
+pub data Stop : (x y : List ℕ) → Type 1 where
+  stop : (κs : _) (a : _) (r : _) (s : _) → gm-stop.Learnt κs a r s → r ≡ 0 → Stop (now (a .0)) (now (s .0))
+
+pub data Start : (x y : List ℕ) → Type 1 where
+  start : (κs : _) (a : _) (r : _) (s : _) → gm-start.Learnt κs a r s → r ≡ 0 → Start (now (a .0)) (now (s .0))
+
+-- gm_send_heartbeat(state, sync, startup, cycle, channel, frame, sent)
+pub data SendHeartbeat : (x : List ℕ) (sync startup count channel : ℕ) (g : Frame) → Type 1 where
+  send-heartbeat : (κs : _) (a : _) (r : _) (s : _) → gm-send-heartbeat.Learnt κs a r s → r ≡ 0
+      → SendHeartbeat (now (a .0)) (a .1 .0) (a .1 .1 .0) (a .1 .1 .1 .0) (a .1 .1 .1 .1 .0) (record { bytes = now (s .1 .1 .1 .1 .1 .0); sent = now (s .1 .1 .1 .1 .1 .1 .0) })
+
+-- gm_receive_heartbeat(n, node, cycle, a, b, heard)
+pub data ReceiveHeartbeat : (n p count : ℕ) (x y : List ℕ) (heard : ℕ) → Type 1 where
+  receive-heartbeat : (κs : _) (a : _) (r : _) (s : _) → gm-receive-heartbeat.Learnt κs a r s → r ≡ 0
+      → ReceiveHeartbeat (a .0) (a .1 .0) (a .1 .1 .0) (now (a .1 .1 .1 .0)) (now (a .1 .1 .1 .1 .0)) (now (s .1 .1 .1 .1 .1 .0))
+
+-- gm_send_vote(state, heard0, heard1, cycle, channel, frame, sent)
+pub data SendVote : (x : List ℕ) (heard0 heard1 count channel : ℕ) (g : Frame) → Type 1 where
+  send-vote : (κs : _) (a : _) (r : _) (s : _) → gm-send-vote.Learnt κs a r s → r ≡ 0
+      → SendVote (now (a .0)) (a .1 .0) (a .1 .1 .0) (a .1 .1 .1 .0) (a .1 .1 .1 .1 .0) (record { bytes = now (s .1 .1 .1 .1 .1 .0); sent = now (s .1 .1 .1 .1 .1 .1 .0) })
+
+-- gm_receive_vote(n, node, cycle, a, b, votes, arrived)
+pub data ReceiveVote : (n p count : ℕ) (x y t : List ℕ) (m : ℕ) (u : List ℕ) (k : ℕ) → Type 1 where
+  receive-vote : (κs : _) (a : _) (r : _) (s : _) → gm-receive-vote.Learnt κs a r s → r ≡ 0
+      → ReceiveVote (a .0) (a .1 .0) (a .1 .1 .0) (now (a .1 .1 .1 .0)) (now (a .1 .1 .1 .1 .0)) (now (a .1 .1 .1 .1 .1 .0)) (now (a .1 .1 .1 .1 .1 .1 .0))
+      (now (s .1 .1 .1 .1 .1 .0)) (now (s .1 .1 .1 .1 .1 .1 .0))
+
+-- gm_decide(state, heard0, heard1, votes, arrived)
+pub data Decide : (x : List ℕ) (heard0 heard1 : ℕ) (votes : List ℕ) (arrived : ℕ) (y : List ℕ) → Type 1 where
+  decide : (κs : _) (a : _) (r : _) (s : _) → gm-decide.Learnt κs a r s → r ≡ 0
+      → Decide (now (a .0)) (a .1 .0) (a .1 .1 .0) (now (a .1 .1 .1 .0)) (a .1 .1 .1 .1 .0) (now (s .0))
+
+abbrev pub compiled : Entries
+compiled =
+    record {
+      begin = Begin;
+      stop = Stop;
+      start = Start;
+      send-heartbeat = SendHeartbeat;
+      receive-heartbeat = ReceiveHeartbeat;
+      send-vote = SendVote;
+      receive-vote = ReceiveVote;
+      decide = Decide;
+    }
