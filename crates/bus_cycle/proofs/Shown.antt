@@ -8,7 +8,8 @@ use lib.ListN.{length, getD}
 use Rattle.sets.specs.Sets.{_∖_}
 use Rattle.state.specs.State.{formedState}
 use Rattle.rules.specs.declared.Faults.{Faults}
-use Rattle.rules.specs.OneCycle.{Config, stopped}
+use Rattle.rules.specs.declared.Config.{Config}
+use Rattle.rules.specs.OneCycle.{stopped}
 use Rattle.rules.specs.Faults.{Row}
 use Rattle.rules.proofs.Rows.{get-tabulate}
 use Rattle.theorem_formed.proofs.Formed.{FormedRow}

@@ -13,7 +13,8 @@ use Rattle.state.specs.declared.State.{State}
 use Rattle.state.specs.declared.State.the-variants.{Out, Joining, Member}
 use Rattle.rules.specs.declared.Vote.{Vote}
 use Rattle.rules.specs.declared.Faults.{Faults}
-use Rattle.rules.specs.OneCycle.{Config, stopped, stopAndStart, sendsMember, sendsJoin}
+use Rattle.rules.specs.declared.Config.{Config}
+use Rattle.rules.specs.OneCycle.{stopped, stopAndStart, sendsMember, sendsJoin}
 use Rattle.rules.specs.Faults.{Row, at, ruleOne}
 use Rattle.rules.proofs.Rows.{get-tabulate-out}
 use Rattle.theorem_formed.proofs.Formed.{FormedRow, rule-one-formed}

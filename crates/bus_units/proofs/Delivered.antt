@@ -15,7 +15,8 @@ use Rattle.state.specs.declared.State.the-variants.{Out, Joining, Member}
 use Rattle.state.specs.State.{formedSets, formedState}
 use Rattle.rules.specs.declared.Vote.{Vote}
 use Rattle.rules.specs.declared.Faults.{Faults}
-use Rattle.rules.specs.OneCycle.{Config, sendsMember, viewOf}
+use Rattle.rules.specs.declared.Config.{Config}
+use Rattle.rules.specs.OneCycle.{sendsMember, viewOf}
 use Rattle.rules.specs.Faults.{Row, at, ruleOne, heartbeatReaches, voteReaches, arriveIf, cycle}
 use Rattle.rules.proofs.States.{some-inj}
 use Rattle.rules.proofs.Votes.{view-own, view-below, vote-self}

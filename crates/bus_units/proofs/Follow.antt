@@ -14,7 +14,8 @@ use Rattle.state.specs.declared.State.{State}
 use Rattle.state.specs.declared.State.the-variants.{Out, Joining, Member}
 use Rattle.rules.specs.declared.Vote.{Vote}
 use Rattle.rules.specs.declared.Faults.{Faults}
-use Rattle.rules.specs.OneCycle.{Config, Ballots, sendsMember, sendsJoin, wins, memberOn, rival, memberDecides, joinerDecides}
+use Rattle.rules.specs.declared.Config.{Config}
+use Rattle.rules.specs.OneCycle.{Ballots, sendsMember, sendsJoin, wins, memberOn, rival, memberDecides, joinerDecides}
 use Rattle.rules.specs.Faults.{Row, at, ruleOne, heartbeatReaches, voteReaches, heard, ownVote, voteOf, votes, arriveIf, arrivedAt, decides, decisions, cycle}
 use Rattle.rules.proofs.Rows.{get-tabulate, get-tabulate-out, tabulate-ext}
 use Rattle.rules.proofs.Votes.{view-others}

@@ -14,7 +14,8 @@ use Rattle.sets.proofs.Nodes.{has-those, those-in, any-i}
 use Rattle.state.specs.declared.State.{State}
 use Rattle.state.specs.declared.State.the-variants.{Out, Joining, Member}
 use Rattle.rules.specs.declared.Faults.{Faults}
-use Rattle.rules.specs.OneCycle.{Config, stopped, sendsMember}
+use Rattle.rules.specs.declared.Config.{Config}
+use Rattle.rules.specs.OneCycle.{stopped, sendsMember}
 use Rattle.rules.specs.Faults.{Row, at, tabulate, ruleOne, reaches, missesOther, disturbed, arriveIf, cycle}
 use Rattle.rules.proofs.Rows.{get-tabulate}
 use Rattle.rules.proofs.States.{none-some}

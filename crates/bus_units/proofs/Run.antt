@@ -5,7 +5,7 @@ use Prim.Native.Nat.{ℕ, suc, _-_, _≤_}
 use native.Mathlib.Nat.{mod-lt}
 use lib.Dec.{lit<}
 use Rattle.rules.specs.declared.Faults.{Faults}
-use Rattle.rules.specs.OneCycle.{Config}
+use Rattle.rules.specs.declared.Config.{Config}
 use Rattle.rules.specs.Faults.{Row, cycle}
 use Rattle.rules.specs.Reference.{Cluster, step, after}
 use Rattle.theorem_formed.proofs.Formed.{FormedRow, cycle-formed}

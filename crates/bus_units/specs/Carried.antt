@@ -9,7 +9,8 @@ use lib.Dec.{eqb}
 use Rattle.state.specs.declared.State.{State}
 use Rattle.state.specs.declared.State.the-variants.{Out, Joining, Member}
 use Rattle.rules.specs.declared.Faults.{Faults}
-use Rattle.rules.specs.OneCycle.{Config, sendsMember, sendsJoin}
+use Rattle.rules.specs.declared.Config.{Config}
+use Rattle.rules.specs.OneCycle.{sendsMember, sendsJoin}
 use Rattle.rules.specs.Faults.{Row, at, heartbeatReaches, voteReaches, arriveIf}
 use Rattle.frames.specs.declared.Fault.{Fault}
 use Rattle.frames.specs.declared.HeartbeatRead.the-variants as beat

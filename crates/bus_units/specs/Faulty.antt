@@ -5,7 +5,7 @@ use mathlib.Core.List.{List, []}
 use mathlib.Core.Option.{Option, none, some}
 use Prim.Native.Nat.{ℕ}
 use Rattle.rules.specs.declared.Faults.{Faults}
-use Rattle.rules.specs.OneCycle.{Config}
+use Rattle.rules.specs.declared.Config.{Config}
 use Rattle.rules.specs.Faults.{Row, at, ruleOne, heartbeatReaches, voteReaches}
 use Rattle.bus_units.specs.Units.{Copies, Bus, heartbeatSent, voteSent, unitsCycle}
 

@@ -9,7 +9,8 @@ use lib.Dec.{eqb}
 use Rattle.sets.specs.Sets.{has, those, any}
 use Rattle.state.specs.declared.State.{State}
 use Rattle.rules.specs.declared.Faults.{Faults}
-use Rattle.rules.specs.OneCycle.{Config, stopAndStart, sendsMember}
+use Rattle.rules.specs.declared.Config.{Config}
+use Rattle.rules.specs.OneCycle.{stopAndStart, sendsMember}
 use Rattle.rules.specs.Faults.{Row, at, tabulate}
 use Rattle.frames.specs.declared.HeartbeatReceived.{HeartbeatReceived}
 use Rattle.frames.specs.declared.HeartbeatReceived.the-variants.{Missed, Alive, Join}

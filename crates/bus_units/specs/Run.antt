@@ -5,7 +5,7 @@ use mathlib.Core.Option.{Option}
 use Prim.Native.Nat.{ℕ, zero, suc, _-_, _*_, _%_}
 use lib.ListN.{length, replicate}
 use Rattle.rules.specs.declared.Faults.{Faults}
-use Rattle.rules.specs.OneCycle.{Config}
+use Rattle.rules.specs.declared.Config.{Config}
 use Rattle.rules.specs.Faults.{Row, at, ruleOne, cycle}
 use Rattle.bus_units.specs.Units.{heartbeatSent, voteSent}
 use Rattle.bus_units.specs.Faulty.{present, busOf, framedCycle}

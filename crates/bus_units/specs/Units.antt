@@ -11,7 +11,8 @@ use Rattle.state.specs.declared.State.{State}
 use Rattle.state.specs.declared.State.the-variants.{Out, Joining, Member}
 use Rattle.rules.specs.declared.Vote.{Vote}
 use Rattle.rules.specs.declared.Faults.{Faults}
-use Rattle.rules.specs.OneCycle.{Config, Ballots, viewOf, memberDecides, joinerDecides}
+use Rattle.rules.specs.declared.Config.{Config}
+use Rattle.rules.specs.OneCycle.{Ballots, viewOf, memberDecides, joinerDecides}
 use Rattle.rules.specs.Faults.{Row, at, tabulate, ruleOne}
 use Rattle.frames.specs.declared.HeartbeatReceived.{HeartbeatReceived}
 use Rattle.frames.specs.declared.HeartbeatReceived.the-variants as beats

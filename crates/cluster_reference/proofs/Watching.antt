@@ -17,7 +17,8 @@ use Rattle.state.specs.declared.State.the-variants.{Out, Joining, Member}
 use Rattle.state.specs.State.{groupOf, halted}
 use Rattle.rules.specs.declared.Faults.{Faults}
 use Rattle.rules.specs.declared.Vote.{Vote}
-use Rattle.rules.specs.OneCycle.{Config, Ballots, stopped, sendsMember, sendsJoin, wins, newGroup, withOwn, rival, memberDecides}
+use Rattle.rules.specs.declared.Config.{Config}
+use Rattle.rules.specs.OneCycle.{Ballots, stopped, sendsMember, sendsJoin, wins, newGroup, withOwn, rival, memberDecides}
 use Rattle.rules.specs.Faults.{Row, at, heartbeatsMissed, votesMissed, missesOther, disturbed, ruleOne, ownVote, votes, arrivedAt, decides, decisions, cycle}
 use Rattle.rules.specs.Reference.{Cluster, steady, keepsWith, keeps, referenceAfter, step}
 use Rattle.rules.proofs.Rows.{get-tabulate}

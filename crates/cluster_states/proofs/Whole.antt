@@ -16,7 +16,8 @@ use Rattle.state.specs.declared.State.{State}
 use Rattle.state.specs.declared.State.the-variants.{Out, Joining, Member}
 use Rattle.rules.specs.declared.Vote.{Vote}
 use Rattle.rules.specs.declared.Faults.{Faults}
-use Rattle.rules.specs.OneCycle.{Config, Ballots, stopped, stopIf, startIf, stopAndStart, sendsMember, sendsJoin, viewOf, memberDecides, joinerDecides}
+use Rattle.rules.specs.declared.Config.{Config}
+use Rattle.rules.specs.OneCycle.{Ballots, stopped, stopIf, startIf, stopAndStart, sendsMember, sendsJoin, viewOf, memberDecides, joinerDecides}
 use Rattle.rules.specs.Faults.{Row, at, heartbeatsMissed, votesMissed, reaches, ruleOne, heard, ownVote, voteOf, votes, arriveIf, arrivedAt, decides, decisions, cycle}
 use Rattle.rules.specs.Ballots.{voteAt, ballotsOf}
 use Rattle.rules.proofs.Rows.{get-tabulate, get-tabulate-out, tabulate-ext}

@@ -9,7 +9,8 @@ use Rattle.sets.specs.Sets.{_∪_, those}
 use Rattle.state.specs.declared.Group.{Group}
 use Rattle.state.specs.State.{halted}
 use Rattle.rules.specs.declared.Faults.{Faults}
-use Rattle.rules.specs.OneCycle.{Config, sendsMember, sendsJoin}
+use Rattle.rules.specs.declared.Config.{Config}
+use Rattle.rules.specs.OneCycle.{sendsMember, sendsJoin}
 use Rattle.rules.specs.Faults.{Row, at, missesOther, ruleOne, cycle}
 use Rattle.rules.specs.Reference.{Cluster}
 use Rattle.cluster_states.specs.declared.States.{States}

@@ -10,7 +10,8 @@ use Rattle.rules.specs.Reference.{Cluster, beginning, step}
 use Rattle.table.specs.Records.{countAt, foundingAt, startRefusal, cycleLength, cycleRefusal, faultsAt}
 use Rattle.table.specs.Table.{Cycles, withCycle, cyclesIn, tableOf}
 use Rattle.table.proofs.Laws.{noCycle, cycles-end, cycles-refused, cycles-next, enough, table-refused, table-cycles}
-use Rattle.print_run.specs.Printed.{headerLine, line, lines, refusedLine, reported, ofNodes, printed}
+use Rattle.rules.specs.OneCycle.{ofNodes}
+use Rattle.print_run.specs.Printed.{headerLine, line, lines, refusedLine, reported, printed}
 use Rattle.print_pieces.specs.Pieces.{following}
 
 module _ (n k : ℕ) (b : Cluster) where

@@ -20,7 +20,8 @@ use Rattle.cluster_watched.specs.declared.Watch.{Watch}
 use Rattle.cluster_watched.specs.Watched.{referenceOf, clusterOf, haltedIn, enteredIn}
 use Rattle.print_pieces.specs.declared.Session.{Session}
 use Rattle.print_pieces.specs.declared.Piece.{Piece}
-use Rattle.print_run.specs.Printed.{headerLine, fields, line, refusedLine, ofNodes, printed}
+use Rattle.rules.specs.OneCycle.{ofNodes}
+use Rattle.print_run.specs.Printed.{headerLine, fields, line, refusedLine, printed}
 use Rattle.print_pieces.specs.Seen.{Sees}
 use Rattle.print_pieces.specs.Pieces.{Groups, nodesOf, standing, following, remaining, Sound, Begun, Gives}
 use Rattle.print_pieces.proofs.Windows.{seen-shorter, seen-end, seen-length, seen-faults, seen-refusal, seen-count, seen-founding, seen-start}

@@ -13,7 +13,8 @@ use Rattle.cluster_states.specs.States.{statesOf}
 use Rattle.cluster_watched.specs.Watched.{clusterOf}
 use Rattle.print_pieces.specs.declared.Session.{Session}
 use Rattle.print_pieces.specs.declared.Piece.{Piece}
-use Rattle.print_run.specs.Printed.{ofNodes, reported}
+use Rattle.rules.specs.OneCycle.{ofNodes}
+use Rattle.print_run.specs.Printed.{reported}
 use Rattle.print_pieces.specs.Seen.{Sees}
 
 -- what is still to be printed of n nodes before cycle k, of whose table `rest` is left

@@ -8,7 +8,8 @@ use lib.Dec.{eqb}
 use Rattle.print_text.specs.Text.{ascii, hexText, decimalText}
 use Rattle.state.specs.declared.Group.{Group}
 use Rattle.rules.specs.declared.Faults.{Faults}
-use Rattle.rules.specs.OneCycle.{Config}
+use Rattle.rules.specs.declared.Config.{Config}
+use Rattle.rules.specs.OneCycle.{ofNodes}
 use Rattle.rules.specs.Reference.{Cluster, beginning, keeps, step}
 use Rattle.table.specs.Table.{Cycles, tableOf}
 use Rattle.cluster_watched.specs.Watched.{haltedIn, enteredIn}
@@ -50,9 +51,6 @@ refusedLine r = cond (eqb r 0) [] (ascii "refused " ++ (decimalText r ++ ascii "
 -- what follows the header: the lines of the whole cycles, the first of which is cycle k, and the refusal's
 unfoldable pub reported : Config → ℕ → Cluster → Cycles → List ℕ
 reported C k b t = lines C k b (t .whole) ++ refusedLine (t .refusal)
-
-abbrev pub ofNodes : ℕ → Config
-ofNodes n = record { nodes = n }
 
 -- "The program `grouprun` reads a table from standard input": s; it is lent no row
 unfoldable pub printed : List ℕ → List ℕ

@@ -9,7 +9,7 @@ use lib.Dec.{eqb, ltb}
 use lib.ListN.{length}
 use Rattle.refusal.specs.Refusal.{when, first, unless}
 use Rattle.state.specs.declared.Node.{Node}
-use Rattle.rules.specs.OneCycle.{Config}
+use Rattle.rules.specs.declared.Config.{Config}
 use Rattle.rules.specs.Faults.{Row, cycle}
 use Rattle.rules.specs.Reference.{beginning, after}
 use Rattle.bus_units.specs.Run.{framedRows, plainRows, lastRow, framesLength, framesAfter}

@@ -11,7 +11,8 @@ use Rattle.sets.proofs.Membership.{has-diff}
 use Rattle.sets.proofs.Nodes.{lowest-in, lowest-least, every-e}
 use Rattle.state.specs.declared.State.the-variants.{Joining}
 use Rattle.rules.specs.declared.Vote.{Vote}
-use Rattle.rules.specs.OneCycle.{Config, Ballots, voters, wins, memberOn, fits, enterOn, joinerDecides}
+use Rattle.rules.specs.declared.Config.{Config}
+use Rattle.rules.specs.OneCycle.{Ballots, voters, wins, memberOn, fits, enterOn, joinerDecides}
 use Rattle.rules.specs.Ballots.{ballotsOf, fitsAt, agreesAt}
 use Rattle.rules.proofs.Votes.{voters-is}
 use Rattle.rules.proofs.Counting.{no, quorum-node}

@@ -14,7 +14,8 @@ use Rattle.sets.proofs.Quorum.{quorum-mono}
 use Rattle.state.specs.declared.Reason.the-variants.{NoQuorum, Outvoted}
 use Rattle.state.specs.declared.State.the-variants.{Out, Member}
 use Rattle.rules.specs.declared.Vote.{Vote}
-use Rattle.rules.specs.OneCycle.{Config, Ballots, sameGroup, is, voters, wins, newSet, groupWith, newGroup, withOwn, rival, memberDecides}
+use Rattle.rules.specs.declared.Config.{Config}
+use Rattle.rules.specs.OneCycle.{Ballots, sameGroup, is, voters, wins, newSet, groupWith, newGroup, withOwn, rival, memberDecides}
 use Rattle.rules.specs.Ballots.{ballotsOf, alike, votedFor, agreed}
 use Rattle.rules.proofs.Votes.{vote-self, voters-is, voters-sub, in-voters}
 use Rattle.rules.proofs.States.{none-some, some-inj}

@@ -11,7 +11,8 @@ use Rattle.state.specs.declared.State.the-variants.{Out, Joining, Member}
 use Rattle.state.specs.State.{groupOf, halted}
 use Rattle.rules.specs.declared.Vote.{Vote}
 use Rattle.rules.specs.declared.Faults.{Faults}
-use Rattle.rules.specs.OneCycle.{Config, Ballots, startIf, stopAndStart, sendsMember, sendsJoin, memberDecides}
+use Rattle.rules.specs.declared.Config.{Config}
+use Rattle.rules.specs.OneCycle.{Ballots, startIf, stopAndStart, sendsMember, sendsJoin, memberDecides}
 use Rattle.rules.specs.Faults.{Row, ownVote, voteOf, decides}
 
 -- ---- options

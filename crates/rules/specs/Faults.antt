@@ -13,7 +13,8 @@ use Rattle.state.specs.declared.State.the-variants.{Out, Joining, Member}
 use Rattle.state.specs.State.{initial}
 use Rattle.rules.specs.declared.Vote.{Vote}
 use Rattle.rules.specs.declared.Faults.{Faults}
-use Rattle.rules.specs.OneCycle.{Config, Ballots, stopped, stopAndStart, sendsMember, sendsJoin, viewOf, memberDecides, joinerDecides}
+use Rattle.rules.specs.declared.Config.{Config}
+use Rattle.rules.specs.OneCycle.{Ballots, stopped, stopAndStart, sendsMember, sendsJoin, viewOf, memberDecides, joinerDecides}
 
 -- "the states of all units as one row, one entry per unit": what stands at N and above is no node, and is out
 abbrev pub Row : Type 0

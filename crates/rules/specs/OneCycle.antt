@@ -11,11 +11,12 @@ use Rattle.state.specs.declared.Group.{Group}
 use Rattle.state.specs.declared.State.{State}
 use Rattle.state.specs.declared.State.the-variants.{Out, Joining, Member}
 use Rattle.state.specs.State.{nextNumber}
+use Rattle.rules.specs.declared.Config.{Config}
 use Rattle.rules.specs.declared.Vote.{Vote}
 
--- what is fixed for a cluster: how many nodes it has (N)
-pub record Config : Type 0 where
-  pub nodes : ℕ
+-- a cluster of N nodes
+abbrev pub ofNodes : ℕ → Config
+ofNodes N = record { nodes = N }
 
 -- 1. "Stop: the node becomes out with reason 0. Then start: an out node becomes joining; others do not change. Both may name one node."
 abbrev pub stopped : State

@@ -9,7 +9,7 @@ use Rattle.sets.specs.Quorum.{quorum}
 use Rattle.state.specs.declared.Group.{Group}
 use Rattle.state.specs.State.{groupOf, foundingGroup}
 use Rattle.rules.specs.declared.Faults.{Faults}
-use Rattle.rules.specs.OneCycle.{Config}
+use Rattle.rules.specs.declared.Config.{Config}
 use Rattle.rules.specs.Faults.{Row, at, founding, disturbed, cycle}
 
 -- A cluster after a cycle: the nodes' states, the reference group, and the nodes disturbed in that cycle.

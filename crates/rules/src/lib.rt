@@ -1,5 +1,10 @@
-// What the rules of one cycle speak of: a vote, and the faults of a cycle. The rules themselves are definitions, in specs/.
+// What the rules of one cycle speak of: a cluster, a vote, and the faults of a cycle. The rules themselves are definitions, in specs/.
 use state::Group;
+
+// What is fixed for a cluster: how many nodes it has (N).
+pub struct Config {
+    pub nodes: usize,
+}
 
 // A member's vote: the group that it holds, and the nodes that it heard.
 pub struct Vote {

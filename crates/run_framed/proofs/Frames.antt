@@ -9,7 +9,7 @@ use lib.Dec.{lit<}
 use lib.ListN.{length}
 use Rattle.state.specs.State.{formedState}
 use Rattle.rules.specs.declared.Faults.{Faults}
-use Rattle.rules.specs.OneCycle.{Config}
+use Rattle.rules.specs.declared.Config.{Config}
 use Rattle.rules.specs.Faults.{Row, cycle}
 use Rattle.table.specs.Records.{cycleLength, faultsAt}
 use Rattle.table.specs.Table.{Cycles}

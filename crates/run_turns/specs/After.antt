@@ -1,7 +1,7 @@
 -- The row after a list of cycles. Assumes nothing.
 use mathlib.Core.List.{List, [], _∷_}
 use Rattle.rules.specs.declared.Faults.{Faults}
-use Rattle.rules.specs.OneCycle.{Config}
+use Rattle.rules.specs.declared.Config.{Config}
 use Rattle.rules.specs.Faults.{Row, cycle}
 
 -- the row after a list of cycles

@@ -14,7 +14,8 @@ use Rattle.state.specs.declared.Group.{Group}
 use Rattle.state.specs.declared.State.the-variants.{Joining, Member}
 use Rattle.state.specs.State.{groupOf, halted, foundingGroup, initial}
 use Rattle.rules.specs.declared.Faults.{Faults}
-use Rattle.rules.specs.OneCycle.{Config, stopped, stopAndStart}
+use Rattle.rules.specs.declared.Config.{Config}
+use Rattle.rules.specs.OneCycle.{stopped, stopAndStart}
 use Rattle.rules.specs.Faults.{Row, at, founding, disturbed, ruleOne, cycle}
 use Rattle.rules.specs.Reference.{Cluster, beginning, steady, keepsWith, keeps, referenceAfter, step}
 use Rattle.rules.proofs.Rows.{get-tabulate}

@@ -20,7 +20,8 @@ use Rattle.state.specs.declared.State.the-variants.{Out, Joining, Member}
 use Rattle.state.specs.State.{groupOf, halted}
 use Rattle.rules.specs.declared.Vote.{Vote}
 use Rattle.rules.specs.declared.Faults.{Faults}
-use Rattle.rules.specs.OneCycle.{Config, Ballots, stopped, sendsMember, sendsJoin, is, voters, wins, newGroup, memberOn, withOwn, rival, memberDecides, fits, enterOn, joinerDecides}
+use Rattle.rules.specs.declared.Config.{Config}
+use Rattle.rules.specs.OneCycle.{Ballots, stopped, sendsMember, sendsJoin, is, voters, wins, newGroup, memberOn, withOwn, rival, memberDecides, fits, enterOn, joinerDecides}
 use Rattle.rules.specs.Faults.{Row, at, heartbeatReaches, voteReaches, heard, ownVote, voteOf, votes, arriveIf, arrivedAt, decides, decisions}
 use Rattle.rules.proofs.Rows.{get-tabulate, get-tabulate-out}
 use Rattle.rules.proofs.Votes.{group-same, is-self, has-view, voters-sub, voters-is, in-voters, base-is, new-inside, in-new, new-in, wins-ext, group-ext}

@@ -12,7 +12,7 @@ use Rattle.state.specs.declared.State.the-variants.{Joining}
 use Rattle.state.specs.State.{groupOf, halted}
 use Rattle.rules.specs.declared.Vote.{Vote}
 use Rattle.rules.specs.declared.Faults.{Faults}
-use Rattle.rules.specs.OneCycle.{Config}
+use Rattle.rules.specs.declared.Config.{Config}
 use Rattle.rules.specs.Faults.{Row, at, ownVote}
 use Rattle.rules.proofs.Undisturbed.{Undisturbed}
 use Rattle.rules.proofs.States.{none-some, some-inj, idle, which, member-votes, own-group, idle-decides}

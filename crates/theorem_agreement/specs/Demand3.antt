@@ -11,7 +11,8 @@ use Rattle.state.specs.declared.Group.{Group}
 use Rattle.state.specs.declared.State.the-variants.{Joining}
 use Rattle.state.specs.State.{groupOf, halted}
 use Rattle.rules.specs.declared.Faults.{Faults}
-use Rattle.rules.specs.OneCycle.{Config, stopAndStart}
+use Rattle.rules.specs.declared.Config.{Config}
+use Rattle.rules.specs.OneCycle.{stopAndStart}
 use Rattle.rules.specs.Faults.{at, disturbed}
 use Rattle.rules.specs.Reference.{Cluster, beginning, keeps, step, after}
 

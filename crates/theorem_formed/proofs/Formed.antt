@@ -21,7 +21,8 @@ use Rattle.state.specs.declared.State.the-variants.{Out, Joining, Member}
 use Rattle.state.specs.State.{groupOf, formedSets, formedState, foundingGroup, initial, nextNumber}
 use Rattle.rules.specs.declared.Vote.{Vote}
 use Rattle.rules.specs.declared.Faults.{Faults}
-use Rattle.rules.specs.OneCycle.{Config, Ballots, stopped, stopAndStart, sendsMember, sendsJoin, viewOf, is, voters, wins, newSet, groupWith, newGroup, memberOn, withOwn, rival, memberDecides, fits, enterOn, joinerDecides}
+use Rattle.rules.specs.declared.Config.{Config}
+use Rattle.rules.specs.OneCycle.{Ballots, stopped, stopAndStart, sendsMember, sendsJoin, viewOf, is, voters, wins, newSet, groupWith, newGroup, memberOn, withOwn, rival, memberDecides, fits, enterOn, joinerDecides}
 use Rattle.rules.specs.Faults.{Row, at, tabulate, founding, voteReaches, heard, ownVote, voteOf, votes, arriveIf, arrivedAt, decides, decisions, ruleOne, cycle}
 use Rattle.rules.specs.Reference.{Cluster, step, after}
 use Rattle.rules.proofs.Rows.{get-tabulate, length-tabulate}

@@ -13,7 +13,7 @@ use Rattle.sets.proofs.Booleans.{bool, and-i}
 use Rattle.state.specs.declared.Group.{Group}
 use Rattle.state.specs.State.{groupOf}
 use Rattle.rules.specs.declared.Faults.{Faults}
-use Rattle.rules.specs.OneCycle.{Config}
+use Rattle.rules.specs.declared.Config.{Config}
 use Rattle.rules.specs.Faults.{at, cycle}
 use Rattle.rules.specs.Reference.{Cluster, beginning, steady, keepsWith, keeps, referenceAfter, step, after}
 use Rattle.theorem_agreement.specs.Demand3.{Kept, Reference, allKeep}

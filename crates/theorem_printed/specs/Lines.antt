@@ -8,12 +8,13 @@ use Prim.Native.Nat.{ℕ, suc}
 use lib.ListN.{length}
 use Rattle.state.specs.declared.Group.{Group}
 use Rattle.rules.specs.declared.Faults.{Faults}
-use Rattle.rules.specs.OneCycle.{Config}
+use Rattle.rules.specs.declared.Config.{Config}
 use Rattle.rules.specs.Reference.{Cluster, beginning, keeps}
 use Rattle.theorem_agreement.specs.Demand3.{Demand3, Kept, Reference, clusterAfter}
 use Rattle.table.specs.Table.{tableOf}
 use Rattle.cluster_watched.specs.Watched.{haltedIn, enteredIn}
-use Rattle.print_run.specs.Printed.{headerLine, fields, lines, refusedLine, ofNodes, printed}
+use Rattle.rules.specs.OneCycle.{ofNodes}
+use Rattle.print_run.specs.Printed.{headerLine, fields, lines, refusedLine, printed}
 
 -- the press of the table s, and its beginning
 abbrev pub pressOf : List ℕ → Config

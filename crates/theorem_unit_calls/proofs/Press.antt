@@ -19,7 +19,8 @@ use Rattle.state.specs.Image.{imageOf}
 use Rattle.state.specs.State.{formedPlace, formedState, initial}
 use Rattle.rules.specs.declared.Vote.{Vote}
 use Rattle.rules.specs.declared.Faults.{Faults}
-use Rattle.rules.specs.OneCycle.{Config, stopped, stopIf, startIf, stopAndStart, sendsMember}
+use Rattle.rules.specs.declared.Config.{Config}
+use Rattle.rules.specs.OneCycle.{stopped, stopIf, startIf, stopAndStart, sendsMember}
 use Rattle.rules.specs.Faults.{Row, at, founding, ruleOne, heartbeatReaches, voteReaches, arriveIf, cycle}
 use Rattle.rules.specs.Reference.{Cluster, beginning, step, after}
 use Rattle.rules.proofs.Rows.{get-tabulate}

@@ -20,7 +20,8 @@ use Rattle.state.specs.State.{formedPlace, formedState, foundingGroup, initial}
 use Rattle.state.specs.Image.{imageOf}
 use Rattle.rules.specs.declared.Vote.{Vote}
 use Rattle.rules.specs.declared.Faults.{Faults}
-use Rattle.rules.specs.OneCycle.{Config, stopped, stopAndStart, sendsMember}
+use Rattle.rules.specs.declared.Config.{Config}
+use Rattle.rules.specs.OneCycle.{stopped, stopAndStart, sendsMember}
 use Rattle.rules.specs.Faults.{Row, at, founding, ruleOne, heartbeatReaches, voteReaches, cycle}
 use Rattle.rules.proofs.Rows.{get-tabulate}
 use Rattle.theorem_formed.proofs.Formed.{FormedRow, stop-start-formed, founding-formed, cycle-formed}
