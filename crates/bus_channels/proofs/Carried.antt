@@ -2,59 +2,17 @@
 use mathlib.Core.Path.{_≡_, refl, sym, ap, _∙_, subst}
 use mathlib.Core.Logic.{_⊎_, inl, inr}
 use mathlib.Core.Bool.{true, false}
-use mathlib.Core.List.{List, _++_, append-assoc}
+use mathlib.Core.List.{List}
 use mathlib.Core.Option.{Option, none, some}
-use Prim.Native.Nat.{ℕ, zero, suc, _+_, _-_, _*_, _≤_, _<_}
+use Prim.Native.Nat.{ℕ, zero, suc, _+_, _*_, _≤_, _<_}
 use native.Mathlib.Numerals.{add-one}
 use native.Mathlib.Omega.{arith}
 use lib.Dec.{eqb}
-use lib.ListN.{length, take, drop, replicate, length-append, length-drop, length-replicate, take-append-drop}
-use lib.Seq.{length-take-le, take-append-le, drop-append-le, take-at, drop-at}
+use lib.ListN.{length, take, drop, replicate, length-replicate}
 use borrow.Author.Tests.{eqb-false}
+use Rattle.parts.proofs.Laws.{part-length, part-there, part-kept}
 use Rattle.sets.proofs.Booleans.{bool, eqb-true}
 use Rattle.bus_channels.specs.Channels.{withFrame, withSent, channelOf}
-
--- what stands in the front part of a list does not change with what follows it
-front : (m k : ℕ) (s t : List ℕ) → m + k ≤ length s → take k (drop m (s ++ t)) ≡ take k (drop m s)
-front m k s t h =
-    let i : m ≤ length s = omega arith in
-    let l : length (drop m s) ≡ length s - m = length-drop m s in
-    let j : k ≤ length (drop m s) = omega arith in
-    ap (take k) (drop-append-le m s t i) ∙ take-append-le k (drop m s) t j
-
-module _ (q : ℕ) (x c : List ℕ) (room : 36 * q + length x ≤ length c) where
-  start : length (take (36 * q) c) ≡ 36 * q
-  start = length-take-le (36 * q) c (omega arith)
-
-  -- the frame that is put in, one that stands in a slot before, and the length
-  put-there : take (length x) (drop (36 * q) (withFrame q x c)) ≡ x
-  unfolding withFrame
-  put-there =
-      let t = drop (36 * q + length x) c in
-      ap (λ (s : List ℕ). take (length x) (drop (36 * q) s)) (append-assoc (take (36 * q) c) x t)
-      ∙ ap (take (length x)) (drop-at (take (36 * q) c) (x ++ t) (36 * q) start)
-      ∙ take-at x t (length x) refl
-
-  put-kept : (p k : ℕ) → 36 * p + k ≤ 36 * q → take k (drop (36 * p) (withFrame q x c)) ≡ take k (drop (36 * p) c)
-  unfolding withFrame
-  put-kept p k h =
-      let s = take (36 * q) c in
-      let l : 36 * p + k ≤ length s = subst (λ (y : ℕ). 36 * p + k ≤ y) (sym start) h in
-      ap (λ (y : List ℕ). take k (drop (36 * p) y)) (append-assoc s x (drop (36 * q + length x) c))
-      ∙ front (36 * p) k s (x ++ drop (36 * q + length x) c) l
-      ∙ sym (front (36 * p) k s (drop (36 * q) c) l)
-      ∙ ap (λ (y : List ℕ). take k (drop (36 * p) y)) (take-append-drop (36 * q) c)
-
-  put-length : length (withFrame q x c) ≡ length c
-  unfolding withFrame
-  put-length =
-      let s = take (36 * q) c in
-      let t = drop (36 * q + length x) c in
-      let a : length (s ++ x ++ t) ≡ length (s ++ x) + length t = length-append (s ++ x) t in
-      let b : length (s ++ x) ≡ length s + length x = length-append s x in
-      let d : length t ≡ length c - (36 * q + length x) = length-drop (36 * q + length x) c in
-      let e : length s ≡ 36 * q = start in
-      omega arith
 
 -- a channel on which the first n nodes have sent
 pub record Carries (n : ℕ) (sent : ℕ → Option (List ℕ)) (c : List ℕ) : Type 0 where
@@ -72,7 +30,7 @@ module _ (sent : ℕ → Option (List ℕ)) (short : (q : ℕ) (x : List ℕ) �
       go : (p : ℕ) (x : List ℕ) → p < suc n → sent p ≡ some x → (eqb p n ≡ true) ⊎ (eqb p n ≡ false) → take (length x) (drop (36 * p) c) ≡ x
       go p x k f (inl i) = absurd (not-none (sym e ∙ ap sent (sym (eqb-true i)) ∙ f))
       go p x k f (inr i) = let z : p ≡ n → ⊥ = eqb-false p n i in h .there p x (omega arith) f
-  next n c l h (some y) e = record { sized = put-length n y c room ∙ h .sized; there = λ p x k f. go p x k f (bool (eqb p n)) }
+  next n c l h (some y) e = record { sized = part-length (36 * n) y c room ∙ h .sized; there = λ p x k f. go p x k f (bool (eqb p n)) }
     where
       room : 36 * n + length y ≤ length c
       room = let a : length y ≤ 36 = short n y e in let b : length c ≡ 2304 = h .sized in omega arith
@@ -85,11 +43,11 @@ module _ (sent : ℕ → Option (List ℕ)) (short : (q : ℕ) (x : List ℕ) �
           let z : p ≡ n = eqb-true i in
           let w : y ≡ x = same (sym e ∙ ap sent (sym z) ∙ f) in
           subst (λ (v : List ℕ). take (length v) (drop (36 * p) (withFrame n y c)) ≡ v) w
-          (ap (λ (m : ℕ). take (length y) (drop (36 * m) (withFrame n y c))) z ∙ put-there n y c room)
+          (ap (λ (m : ℕ). take (length y) (drop (36 * m) (withFrame n y c))) z ∙ part-there (36 * n) y c (omega (arith, room)))
       go p x k f (inr i) =
           let z : p ≡ n → ⊥ = eqb-false p n i in
           let a : length x ≤ 36 = short p x f in
-          put-kept n y c room p (length x) (omega arith) ∙ h .there p x (omega arith) f
+          part-kept (36 * n) y c (omega (arith, room)) (36 * p) (length x) (omega arith) ∙ h .there p x (omega arith) f
 
   pub carries : (n : ℕ) → n ≤ 64 → Carries n sent (channelOf n sent)
   unfolding channelOf

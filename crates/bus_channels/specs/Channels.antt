@@ -1,13 +1,15 @@
 -- Paper 01, "Run through frames": what stands on the two channels in each half of a cycle, and what a unit makes of what it reads there.
 -- Assumes nothing.
 use mathlib.Core.Bool.{Bool, true, false, cond}
-use mathlib.Core.List.{List, _++_}
+use mathlib.Core.List.{List}
 use mathlib.Core.Option.{Option, none, some}
-use Prim.Native.Nat.{ℕ, zero, suc, _+_, _*_}
+use Prim.Native.Nat.{ℕ, zero, suc, _*_}
 use lib.Dec.{ltb}
-use lib.ListN.{length, take, drop, replicate}
+use lib.ListN.{take, drop, replicate}
+use Rattle.parts.specs.Parts.{withPart}
 use Rattle.sets.specs.Sets.{has, those}
 use Rattle.state.specs.declared.State.{State}
+use Rattle.rules.specs.declared.Config.{Config}
 use Rattle.rules.specs.declared.Vote.{Vote}
 use Rattle.rules.specs.OneCycle.{Ballots, viewOf, memberDecides, joinerDecides}
 use Rattle.rules.specs.Ballots.{voteAt}
@@ -22,8 +24,8 @@ use Rattle.cluster_states.specs.Decided.{outAt}
 
 -- ---- a channel: a slot of 36 bytes for each of 64 nodes, a frame at the beginning of its sender's
 
-unfoldable pub withFrame : ℕ → List ℕ → List ℕ → List ℕ
-withFrame q x channel = take (36 * q) channel ++ x ++ drop (36 * q + length x) channel
+abbrev pub withFrame : ℕ → List ℕ → List ℕ → List ℕ
+withFrame q x channel = withPart (36 * q) x channel
 
 abbrev pub withSent : ℕ → Option (List ℕ) → List ℕ → List ℕ
 withSent q none channel = channel
@@ -84,8 +86,8 @@ unfoldable pub ballotsRead : ℕ → ℕ → ℕ → List ℕ → List ℕ → B
 ballotsRead n count reach a b p = cond (ltb p n) (received (voteRead n count reach a b p)) none
 
 -- rules 5 and 6, on what node q reads; an out node stays as it is
-unfoldable pub decidedRead : List ℕ → List ℕ → List ℕ → List ℕ → ℕ → ℕ → Roles → ℕ → List ℕ → List ℕ → ℕ → State
-decidedRead numbers sets bases views n count w reach a b q =
-    cond (has q (w .members)) (memberDecides (record { nodes = n }) q (voteAt numbers sets bases views q) (ballotsRead n count reach a b))
-    (cond (has q (w .joining)) (joinerDecides (record { nodes = n }) q (ballotsRead n count reach a b))
+unfoldable pub decidedRead : List ℕ → List ℕ → List ℕ → List ℕ → Config → ℕ → Roles → ℕ → List ℕ → List ℕ → ℕ → State
+decidedRead numbers sets bases views C count w reach a b q =
+    cond (has q (w .members)) (memberDecides C q (voteAt numbers sets bases views q) (ballotsRead (C .nodes) count reach a b))
+    (cond (has q (w .joining)) (joinerDecides C q (ballotsRead (C .nodes) count reach a b))
     (outAt w q))

@@ -24,12 +24,7 @@ pub fn put(channel: [u8; 2304], q: usize, x: &[u8]) -> [u8; 2304]
     ensures { λ r. ⌜ r ≡ withFrame q (now (x .entry)) channel ⌝ }
 {
     let mut r = channel;
-    let at = 36 * q;
-    let mut i = 0;
-    while i < x.len() {
-        r[at + i] = x[i];
-        i += 1;
-    }
+    parts::put(&mut r, 36 * q, x);
     r
 }
 
@@ -152,7 +147,7 @@ fn views_of(
     views
 }
 
-// Rules 2 and 3: all heartbeats go out on both channels, and each node reads what reaches it.
+// Rules 2 and 3: all heartbeats go out on both channels, and each node reads what reaches it. Free: the views from n on.
 pub fn heartbeat_phase(
     n: usize,
     count: u32,

@@ -1,7 +1,6 @@
 -- What the entry decide answers and leaves: rules 3 to 6 of one node, from what it heard and the votes that arrived.
 -- Assumes nothing.
-use mathlib.Core.Bool.{_||_}
-use mathlib.Core.List.{List, [], _∷_}
+use mathlib.Core.List.{List}
 use Prim.Native.Nat.{ℕ}
 use Rattle.state.specs.declared.State.{State}
 use Rattle.state.specs.declared.State.the-variants.{Out, Joining, Member}
@@ -9,21 +8,21 @@ use Rattle.state.specs.declared.Node.{Node}
 use Rattle.state.specs.declared.Decoded.{Decoded}
 use Rattle.state.specs.declared.Decoded.the-variants.{Good, WrongLength, Malformed}
 use Rattle.state.specs.Image.{imageOf, decoded}
-use Rattle.rules.specs.OneCycle.{memberDecides, joinerDecides}
-use Rattle.refusal.specs.Refusal.{when, first, unless}
-use Rattle.entry_lent.specs.Refusals.{wrongLength, malformed}
+use Rattle.rules.specs.OneCycle.{ofNodes, memberDecides, joinerDecides}
+use Rattle.refusal.specs.Refusal.{first, unless}
+use Rattle.entry_lent.specs.Refusals.{lentConditions}
 use Rattle.entry_send_vote.specs.Voting.{ownView}
 use Rattle.entry_slots.specs.Slots.{bufferBallots}
 
 unfoldable pub decideStatus : List ℕ → List ℕ → ℕ
-decideStatus s votes = first (when (wrongLength 24 s || wrongLength 1792 votes) 3 ∷ when (malformed s) 4 ∷ [])
+decideStatus s votes = first (lentConditions s 1792 votes)
 
 abbrev pub decision : Node → State → ℕ → ℕ → List ℕ → ℕ → State
 decision n (Out r) heard0 heard1 votes arrived = Out r
 decision n Joining heard0 heard1 votes arrived =
-    joinerDecides (record { nodes = n .nodes }) (n .id) (bufferBallots (n .nodes) (n .id) votes arrived)
+    joinerDecides (ofNodes (n .nodes)) (n .id) (bufferBallots (n .nodes) (n .id) votes arrived)
 decision n (Member g) heard0 heard1 votes arrived =
-    memberDecides (record { nodes = n .nodes }) (n .id) (record { group = g; view = ownView n heard0 heard1 g })
+    memberDecides (ofNodes (n .nodes)) (n .id) (record { group = g; view = ownView n heard0 heard1 g })
     (bufferBallots (n .nodes) (n .id) votes arrived)
 
 abbrev pub decidedFrom : Decoded → ℕ → ℕ → List ℕ → ℕ → List ℕ → List ℕ

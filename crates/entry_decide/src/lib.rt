@@ -4,6 +4,7 @@ ghost use Prim.Native.Nat.{_≤_, _<_};
 ghost use lib.ListN.{length};
 ghost use Rattle.entry_decide.specs.Decide.{decision, decideStatus, decideLeft};
 use entry_send_vote::own_vote;
+use rules::Config;
 use state::Decoded;
 use state::Node;
 use state::State;
@@ -15,6 +16,7 @@ fn next_state(n: Node, heard0: u64, heard1: u64, votes: &[u8], arrived: u64) -> 
 {
     let s = n.state;
     let nodes = n.nodes as usize;
+    let config = Config { nodes };
     let q = n.id as usize;
     let mut numbers = [0u32; 64];
     let mut sets = [0u64; 64];
@@ -33,7 +35,7 @@ fn next_state(n: Node, heard0: u64, heard1: u64, votes: &[u8], arrived: u64) -> 
     match s {
         State::Out(r) => State::Out(r),
         State::Joining => rule_joiner::joiner_decides(
-            nodes,
+            config,
             q,
             &numbers,
             &sets,
@@ -43,7 +45,7 @@ fn next_state(n: Node, heard0: u64, heard1: u64, votes: &[u8], arrived: u64) -> 
         ),
         State::Member(g) => {
             let own = own_vote(n, g, heard0, heard1);
-            rule_member::member_decides(nodes, q, own, &numbers, &sets, &bases, &views, present)
+            rule_member::member_decides(config, q, own, &numbers, &sets, &bases, &views, present)
         }
     }
 }

@@ -1,7 +1,7 @@
 -- What reading a lent image says of its length and of the node in it, and the refusals of a call that is lent an image and another buffer. Assumes nothing.
 use mathlib.Core.Path.{_≡_, refl, ap, _∙_}
-use mathlib.Core.Bool.{Bool, true, false, not, _||_, cond, or-false, or-true}
-use mathlib.Core.List.{List, [], _∷_}
+use mathlib.Core.Bool.{Bool, true, false, not, cond, or-false, or-true}
+use mathlib.Core.List.{List}
 use Prim.Native.Nat.{ℕ, _≤_, _<_}
 use lib.Dec.{eqb}
 use lib.ListN.{length}
@@ -15,8 +15,8 @@ use Rattle.state.specs.Image.{decoded, refusal, wellFormed, nodeAt}
 use Rattle.state.proofs.Fields.{place-bounds}
 use Rattle.state.proofs.RoundTrip.{decoded-formed}
 use Rattle.sets.proofs.Booleans.{and-l}
-use Rattle.refusal.specs.Refusal.{Condition, when, first}
-use Rattle.entry_lent.specs.Refusals.{wrongLength, malformed}
+use Rattle.refusal.specs.Refusal.{first}
+use Rattle.entry_lent.specs.Refusals.{wrongLength, lentConditions}
 use Rattle.entry_lent.proofs.Bounds.{length-is}
 
 -- the length of a lent image, by what reading it finds
@@ -42,10 +42,6 @@ unfolding formed
 good-place s n b e =
     let p = place-bounds (n .id) (n .nodes) (and-l (formedPlace (n .id) (n .nodes)) (formedState (n .id) (n .nodes) (n .state)) (decoded-formed s n b e)) in
     (p .1, p .2)
-
--- refusals 3 and 4 of a call that is lent an image and a buffer where k bytes are due
-abbrev pub lentConditions : List ℕ → ℕ → List ℕ → List Condition
-lentConditions s k f = when (wrongLength 24 s || wrongLength k f) 3 ∷ when (malformed s) 4 ∷ []
 
 pub other-length : (s f : List ℕ) (k : ℕ) → (length f ≡ k → ⊥) → 3 ≡ first (lentConditions s k f)
 unfolding first

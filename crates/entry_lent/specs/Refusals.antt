@@ -1,10 +1,11 @@
 -- Paper 01, "Who can be refused, and for what": the conditions that the caller's numbers and buffers can meet.
 -- Assumes nothing.
 use mathlib.Core.Bool.{Bool, not, _||_}
-use mathlib.Core.List.{List}
+use mathlib.Core.List.{List, [], _∷_}
 use Prim.Native.Nat.{ℕ}
 use lib.Dec.{eqb, ltb, leb}
 use lib.ListN.{length}
+use Rattle.refusal.specs.Refusal.{Condition, when}
 use Rattle.sets.specs.Sets.{below}
 use Rattle.state.specs.Image.{decoded, refusal}
 
@@ -36,6 +37,10 @@ wrongLength k s = not (eqb (length s) k)
 -- "4: a state image not well formed"; an image of another length is 3
 abbrev pub malformed : List ℕ → Bool
 malformed s = eqb (refusal (decoded s)) 4
+
+-- 3 and 4 of a call that is lent a state image, and a buffer where k bytes are due
+abbrev pub lentConditions : List ℕ → ℕ → List ℕ → List Condition
+lentConditions s k f = when (wrongLength 24 s || wrongLength k f) 3 ∷ when (malformed s) 4 ∷ []
 
 -- 3 and 4, where nothing but a state image can be refused
 unfoldable pub imageStatus : List ℕ → ℕ

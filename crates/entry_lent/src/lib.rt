@@ -1,7 +1,16 @@
-// Tests of the caller's numbers.
+// The numbers, buffers and states that a C host passes: how they are refused, as definitions, tests of the numbers, and the node of a lent state.
 ghost use mathlib.Core.Path.{_≡_};
 ghost use mathlib.Core.Bool.{_||_};
 ghost use Rattle.entry_lent.specs.Refusals.{wrongCount, wrongNode, wrongCycle, wrongChannel, wrongIndicators};
+ghost use Rattle.entry_lent.specs.Found.{lentNode};
+use state::Decoded;
+use state::Node;
+
+// A state image that is lent: the node that it holds, or the number of a refusal.
+pub enum Lent {
+    Holds(Node),
+    Refused(u32),
+}
 
 // Refusal 1.
 pub fn wrong_count(n: u32) -> bool
@@ -37,4 +46,21 @@ pub fn wrong_indicators(sync: u32, startup: u32) -> bool
         return true;
     }
     sync < startup
+}
+
+// The node of a call whose numbers are `wrong` or not, and that is lent `given` bytes where `due` are.
+pub fn lent_node(wrong: bool, state: &[u8], given: usize, due: usize) -> Lent
+    ensures { λ r. ⌜ r ≡ lentNode wrong (now (state .entry)) given due ⌝ }
+{
+    if wrong {
+        return Lent::Refused(2);
+    }
+    if given != due {
+        return Lent::Refused(3);
+    }
+    match state_decoding::decode(state) {
+        Decoded::Good(n) => Lent::Holds(n),
+        Decoded::WrongLength => Lent::Refused(3),
+        Decoded::Malformed => Lent::Refused(4),
+    }
 }

@@ -1,22 +1,8 @@
 // Votes that arrive: read from one channel, or received on both into the vote buffer.
 ghost use mathlib.Core.Path.{_≡_};
-ghost use Rattle.frames.specs.Written.{votePayload};
 ghost use Rattle.entry_receive_vote.specs.Arrivals.{readVoteStatus, readVoteLeft, receiveVoteStatus, receiveVoteLeft, receiveVoteArrived};
 use frames::VoteRead;
 use frames::VoteReceived;
-use rules::Vote;
-
-fn payload(v: Vote) -> [u8; 28]
-    ensures { λ r. ⌜ r ≡ votePayload v ⌝ }
-{
-    let group = v.group;
-    let mut r = [0u8; 28];
-    parts::put(&mut r, 0, &bigendian::write4(group.number));
-    parts::put(&mut r, 4, &bigendian::write8(group.set));
-    parts::put(&mut r, 12, &bigendian::write8(group.base));
-    parts::put(&mut r, 20, &bigendian::write8(v.view));
-    r
-}
 
 // One copy of a node's vote: its 28 bytes.
 pub fn read(n: u32, node: u32, cycle: u32, channel: u32, frame: &[u8], vote: &mut [u8]) -> u32
@@ -29,7 +15,7 @@ pub fn read(n: u32, node: u32, cycle: u32, channel: u32, frame: &[u8], vote: &mu
     }
     match frame_reading::read_vote(n as usize, node, cycle, channel, frame) {
         VoteRead::Whole(v) => {
-            bytes::copy(&payload(v), vote);
+            bytes::copy(&frame_writing::vote_payload(v), vote);
             0
         }
         VoteRead::Refused(f) => frame_reading::fault_code(f),
@@ -64,7 +50,7 @@ pub fn receive(
             0
         }
         VoteReceived::Whole(v) => {
-            parts::put(votes, 28 * node as usize, &payload(v));
+            parts::put(votes, 28 * node as usize, &frame_writing::vote_payload(v));
             *arrived = sets::union(sender, *arrived);
             0
         }

@@ -1,7 +1,7 @@
 -- What the entry that sends a heartbeat from a state answers and leaves.
 -- Assumes nothing.
 use mathlib.Core.Bool.{_||_, cond}
-use mathlib.Core.List.{List, [], _∷_}
+use mathlib.Core.List.{List, _∷_}
 use Prim.Native.Nat.{ℕ}
 use lib.Dec.{eqb}
 use Rattle.state.specs.declared.State.{State}
@@ -12,17 +12,13 @@ use Rattle.state.specs.declared.Decoded.the-variants.{Good, WrongLength, Malfor
 use Rattle.state.specs.Image.{decoded}
 use Rattle.frames.specs.Written.{heartbeatFrame}
 use Rattle.refusal.specs.Refusal.{when, first, unless}
-use Rattle.entry_lent.specs.Refusals.{wrongCycle, wrongChannel, wrongIndicators, wrongLength, malformed}
+use Rattle.entry_lent.specs.Refusals.{wrongCycle, wrongChannel, wrongIndicators, lentConditions}
 
 -- "a member sends one with join 0, a joining node with join 1, an out node nothing"
 
 unfoldable pub sendHeartbeatStatus : List ℕ → ℕ → ℕ → ℕ → ℕ → List ℕ → ℕ
 sendHeartbeatStatus s sync startup cycle channel f =
-    first
-    (when (wrongIndicators sync startup || wrongCycle cycle || wrongChannel channel) 2
-    ∷ when (wrongLength 24 s || wrongLength 10 f) 3
-    ∷ when (malformed s) 4
-    ∷ [])
+    first (when (wrongIndicators sync startup || wrongCycle cycle || wrongChannel channel) 2 ∷ lentConditions s 10 f)
 
 abbrev pub sendsByte : State → ℕ
 sendsByte (Out r) = 0

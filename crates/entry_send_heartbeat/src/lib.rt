@@ -5,8 +5,10 @@ ghost use Prim.Native.Nat.{_≤_, _<_};
 ghost use lib.ListN.{length};
 ghost use Rattle.entry_lent.specs.Refusals.{wrongIndicators, wrongCycle, wrongChannel};
 ghost use Rattle.entry_send_heartbeat.specs.Beating.{sendHeartbeatStatus, sendsByte, joinBit, heartbeatOf, sendHeartbeatLeft, sendHeartbeatSent};
+use entry_lent::Lent;
+use entry_lent::lent_node;
 use entry_lent::wrong_indicators;
-use state::Decoded;
+use entry_lent::wrong_slot;
 use state::Node;
 use state::State;
 
@@ -35,10 +37,7 @@ fn wrong_sending(sync: u32, startup: u32, cycle: u32, channel: u32) -> bool
     if wrong_indicators(sync, startup) {
         return true;
     }
-    if 63 < cycle {
-        return true;
-    }
-    1 < channel
+    wrong_slot(1, 0, cycle, channel)
 }
 
 // What node n sends.
@@ -89,18 +88,12 @@ pub fn send(
     ensures { λ _. ⌜ now (frame .exit) ≡ sendHeartbeatLeft (now (state .entry)) sync startup cycle channel (now (frame .entry)) ⌝ }
     ensures { λ _. ⌜ now (sent .exit) ≡ sendHeartbeatSent (now (state .entry)) sync startup cycle channel (now (frame .entry)) (now (sent .entry)) ⌝ }
 {
-    if wrong_sending(sync, startup, cycle, channel) {
-        return 2;
-    }
-    if frame.len() != 10 {
-        return 3;
-    }
-    match state_decoding::decode(state) {
-        Decoded::Good(n) => {
+    let wrong = wrong_sending(sync, startup, cycle, channel);
+    match lent_node(wrong, state, frame.len(), 10) {
+        Lent::Holds(n) => {
             send_of(n, sync, startup, cycle, channel, frame, sent);
             0
         }
-        Decoded::WrongLength => 3,
-        Decoded::Malformed => 4,
+        Lent::Refused(k) => k,
     }
 }

@@ -1,7 +1,7 @@
 -- What the entries that vote from a state answer and leave: its view, and its vote.
 -- Assumes nothing.
 use mathlib.Core.Bool.{_||_}
-use mathlib.Core.List.{List, [], _∷_}
+use mathlib.Core.List.{List, _∷_}
 use Prim.Native.Nat.{ℕ}
 use Rattle.state.specs.declared.Group.{Group}
 use Rattle.state.specs.declared.State.{State}
@@ -13,7 +13,7 @@ use Rattle.state.specs.Image.{decoded}
 use Rattle.rules.specs.OneCycle.{viewOf}
 use Rattle.frames.specs.Written.{voteFrame}
 use Rattle.refusal.specs.Refusal.{when, first, unless}
-use Rattle.entry_lent.specs.Refusals.{wrongCycle, wrongChannel, wrongLength, malformed}
+use Rattle.entry_lent.specs.Refusals.{wrongCycle, wrongChannel, lentConditions}
 
 -- ---- the view of a node: only a member has one, and it holds the member itself; 0 for others
 
@@ -34,7 +34,7 @@ viewFrom Malformed heard0 heard1 view = view
 
 unfoldable pub sendVoteStatus : List ℕ → ℕ → ℕ → List ℕ → ℕ
 sendVoteStatus s cycle channel f =
-    first (when (wrongCycle cycle || wrongChannel channel) 2 ∷ when (wrongLength 24 s || wrongLength 36 f) 3 ∷ when (malformed s) 4 ∷ [])
+    first (when (wrongCycle cycle || wrongChannel channel) 2 ∷ lentConditions s 36 f)
 
 abbrev pub votesByte : State → ℕ
 votesByte (Out r) = 0

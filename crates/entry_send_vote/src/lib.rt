@@ -5,6 +5,8 @@ ghost use lib.ListN.{length};
 ghost use Rattle.state.specs.Image.{decoded};
 ghost use Rattle.entry_lent.specs.Refusals.{imageStatus};
 ghost use Rattle.entry_send_vote.specs.Voting.{ownView, viewIn, viewFrom, votesByte, voteIn, sendVoteStatus, sendVoteLeft, sendVoteSent};
+use entry_lent::Lent;
+use entry_lent::lent_node;
 use entry_lent::wrong_slot;
 use rules::Vote;
 use state::Decoded;
@@ -96,18 +98,12 @@ pub fn send(
     ensures { λ _. ⌜ now (frame .exit) ≡ sendVoteLeft (now (state .entry)) heard0 heard1 cycle channel (now (frame .entry)) ⌝ }
     ensures { λ _. ⌜ now (sent .exit) ≡ sendVoteSent (now (state .entry)) cycle channel (now (frame .entry)) (now (sent .entry)) ⌝ }
 {
-    if wrong_slot(1, 0, cycle, channel) {
-        return 2;
-    }
-    if frame.len() != 36 {
-        return 3;
-    }
-    match state_decoding::decode(state) {
-        Decoded::Good(n) => {
+    let wrong = wrong_slot(1, 0, cycle, channel);
+    match lent_node(wrong, state, frame.len(), 36) {
+        Lent::Holds(n) => {
             send_of(n, heard0, heard1, cycle, channel, frame, sent);
             0
         }
-        Decoded::WrongLength => 3,
-        Decoded::Malformed => 4,
+        Lent::Refused(k) => k,
     }
 }

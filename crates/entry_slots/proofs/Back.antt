@@ -3,11 +3,13 @@ use mathlib.Core.Path.{_≡_, refl, sym, ap, ap₂, _∙_, subst}
 use mathlib.Core.Logic.{_⊎_, inl, inr}
 use mathlib.Core.Bool.{true, false, _&&_}
 use mathlib.Core.List.{List, _++_, append-assoc}
-use Prim.Native.Nat.{ℕ, zero, suc, _+_, _-_, _*_, _^_, _≤_, _<_}
+use Prim.Native.Nat.{ℕ, zero, suc, _+_, _*_, _^_, _≤_, _<_}
 use native.Mathlib.Omega.{arith}
 use lib.Dec.{eqb, ltb}
-use lib.ListN.{length, take, drop, getD, length-append, length-drop, List·getD-append}
-use lib.Seq.{length-take-le, getD-append-add, getD-take, getD-drop}
+use lib.ListN.{length, take, drop, getD, length-append}
+use lib.Seq.{length-take-le}
+use Rattle.parts.specs.Parts.{withPart}
+use Rattle.parts.proofs.Laws.{part-length, part-outside}
 use Rattle.sets.specs.Sets.{has, subset, below}
 use Rattle.sets.proofs.Booleans.{bool, and-i, ltb-lt, ltb-le}
 use Rattle.sets.proofs.Membership.{subset-of}
@@ -60,12 +62,12 @@ vote-fits n q v l e =
 
 pub slot-back : (n p : ℕ) (v : Vote) (s : List ℕ) → n ≤ 64 → 28 * p + 28 ≤ length s → v .group .number < 2 ^ 32 → formedVote n p v ≡ true
     → slotVote (withSlot p (votePayload v) s) p ≡ v
-unfolding slotVote votePayload
+unfolding slotVote votePayload withPart
 slot-back n p v s few room fg e =
     let g = v .group in
     let z = vote-fits n p v few e in
     let h = take (28 * p) s in
-    let t = drop (28 * p + 28) s in
+    let t = drop (28 * p + length (bytesOf 4 (g .number) ++ (bytesOf 8 (g .set) ++ (bytesOf 8 (g .base) ++ bytesOf 8 (v .view))))) s in
     let l : length h ≡ 28 * p = length-take-le (28 * p) s (omega arith) in
     let eg = at-0 h t (28 * p) (g .number) (g .set) (g .base) (v .view) l fg in
     let em = at-4 h t (28 * p) (g .number) (g .set) (g .base) (v .view) l (z .0) in
@@ -81,35 +83,11 @@ number-ext s t i zero e = refl
 number-ext s t i (suc k) e = ap₂ (λ (a b : ℕ). a * 256 + b) (number-ext s t i k (λ m h. e m (omega arith))) (e k (omega arith))
 
 module _ (p : ℕ) (x s : List ℕ) (sized : length x ≡ 28) (room : 28 * p + 28 ≤ length s) where
-  start : length (take (28 * p) s) ≡ 28 * p
-  start = length-take-le (28 * p) s (omega arith)
-
   pub slot-length : length (withSlot p x s) ≡ length s
-  slot-length =
-      let a : length (take (28 * p) s ++ (x ++ drop (28 * p + 28) s)) ≡ length (take (28 * p) s) + length (x ++ drop (28 * p + 28) s) = length-append (take (28 * p) s) (x ++ drop (28 * p + 28) s) in
-      let b : length (x ++ drop (28 * p + 28) s) ≡ length x + length (drop (28 * p + 28) s) = length-append x (drop (28 * p + 28) s) in
-      let d : length (drop (28 * p + 28) s) ≡ length s - (28 * p + 28) = length-drop (28 * p + 28) s in
-      let e = start in
-      omega arith
-
-  before : (m : ℕ) → m < 28 * p → getD (withSlot p x s) m 0 ≡ getD s m 0
-  before m h =
-      let k : m < length (take (28 * p) s) = let e = start in omega arith in
-      List·getD-append (take (28 * p) s) (x ++ drop (28 * p + 28) s) 0 m k ∙ getD-take (28 * p) s m 0 h
-
-  behind : (m : ℕ) → getD (withSlot p x s) (28 * p + 28 + m) 0 ≡ getD s (28 * p + 28 + m) 0
-  behind m =
-      let e : 28 * p + 28 + m ≡ length (take (28 * p) s) + (length x + m) = let f = start in omega arith in
-      ap (λ (k : ℕ). getD (withSlot p x s) k 0) e
-      ∙ getD-append-add (take (28 * p) s) (x ++ drop (28 * p + 28) s) (length x + m) 0
-      ∙ getD-append-add x (drop (28 * p + 28) s) m 0
-      ∙ getD-drop (28 * p + 28) s m 0
+  slot-length = part-length (28 * p) x s (omega arith)
 
   outside : (m : ℕ) → (m < 28 * p) ⊎ (28 * p + 28 ≤ m) → getD (withSlot p x s) m 0 ≡ getD s m 0
-  outside m (inl h) = before m h
-  outside m (inr h) =
-      let e : 28 * p + 28 + (m - (28 * p + 28)) ≡ m = omega arith in
-      subst (λ (k : ℕ). getD (withSlot p x s) k 0 ≡ getD s k 0) e (behind (m - (28 * p + 28)))
+  outside m h = part-outside (28 * p) x s (omega arith) m (subst (λ (k : ℕ). (m < 28 * p) ⊎ (28 * p + k ≤ m)) (sym sized) h)
 
   pub slot-kept : (j : ℕ) → (j ≡ p → ⊥) → slotVote (withSlot p x s) j ≡ slotVote s j
   unfolding slotVote

@@ -1,11 +1,11 @@
 -- The vote buffer that a host lends: a slot of 28 bytes for each node, and a mask of those that hold a vote.
 -- Assumes nothing.
 use mathlib.Core.Bool.{not, _&&_, cond}
-use mathlib.Core.List.{List, _++_}
+use mathlib.Core.List.{List}
 use mathlib.Core.Option.{none, some}
 use Prim.Native.Nat.{ℕ, _+_, _*_}
 use lib.Dec.{eqb}
-use lib.ListN.{take, drop}
+use Rattle.parts.specs.Parts.{withPart}
 use Rattle.sets.specs.Sets.{has, those}
 use Rattle.bigendian.specs.BigEndian.{numberAt}
 use Rattle.rules.specs.declared.Vote.{Vote}
@@ -22,7 +22,7 @@ slotVote votes p =
 
 -- slot p of the buffer replaced by the 28 bytes of a vote
 abbrev pub withSlot : ℕ → List ℕ → List ℕ → List ℕ
-withSlot p payload votes = take (28 * p) votes ++ (payload ++ drop (28 * p + 28) votes)
+withSlot p payload votes = withPart (28 * p) payload votes
 
 -- "a slot that meets condition 10 below, or a bit at N or above, counts as not arrived. The own bit is not looked at."
 unfoldable pub arrivedIn : ℕ → ℕ → List ℕ → ℕ → ℕ

@@ -41,7 +41,8 @@ fn has_arrived(n: usize, q: usize, v: Vote, arrived: u64, p: usize) -> bool
     frame_reading::formed_vote(n, p, v)
 }
 
-// Reads the slots into four arrays, and gives the nodes whose vote counts. One pass, since this is most of a decision's work.
+// Reads the slots into four arrays, and gives the nodes whose vote counts. One pass, since this is most of a decision's work. Free: the
+// places of the arrays from n on.
 pub fn read_votes(
     n: usize,
     q: usize,

@@ -1,4 +1,4 @@
-// Heartbeats from numbers.
+// Heartbeat frames, written from numbers.
 ghost use mathlib.Core.Path.{_≡_};
 ghost use mathlib.Core.Bool.{_||_};
 ghost use Rattle.entry_lent.specs.Refusals.{wrongNode, wrongBit, wrongIndicators, wrongCycle, wrongChannel};

@@ -1,4 +1,4 @@
-// Votes from numbers, and what is refused of a call that names a slot.
+// Vote frames, written from numbers, and what is refused of a call that names a slot.
 ghost use mathlib.Core.Path.{_≡_};
 ghost use mathlib.Core.Bool.{not, _||_};
 ghost use mathlib.Core.List.{List, [], _∷_};

@@ -1,10 +1,8 @@
 // Heartbeat and vote frames, written.
 ghost use mathlib.Core.Path.{_≡_};
-ghost use mathlib.Core.List.{_++_};
-ghost use Prim.Native.Nat.{_+_, _≤_, _<_};
-ghost use lib.ListN.{length, take};
+ghost use Prim.Native.Nat.{_≤_, _<_};
 ghost use Rattle.bigendian.specs.BigEndian.{bytesOf};
-ghost use Rattle.frames.specs.Written.{header, heartbeatFrame, voteFrame};
+ghost use Rattle.frames.specs.Written.{header, heartbeatFrame, votePayload, voteFrame};
 use rules::Vote;
 
 // The five header bytes, as one number of 40 bits; its null frame bit is 1.
@@ -63,31 +61,29 @@ pub fn write_heartbeat(
     f
 }
 
-// f with the bytes of x from `at` on. A loop: an array literal of 36 elements takes the checker longer than all else here.
-fn put(f: [u8; 36], at: usize, x: &[u8]) -> [u8; 36]
-    requires { ⌜ at + length (now x) ≤ 36 ⌝ }
-    ensures { λ r. ⌜ take (at + length (now (x .entry))) r ≡ take at f ++ now (x .entry) ⌝ }
+// The payload of a vote: G, M, B and V.
+pub fn vote_payload(v: Vote) -> [u8; 28]
+    ensures { λ r. ⌜ r ≡ votePayload v ⌝ }
 {
-    let mut r = f;
-    let mut i = 0;
-    while i < x.len() {
-        r[at + i] = x[i];
-        i += 1;
-    }
+    let group = v.group;
+    let mut r = [0u8; 28];
+    parts::put(&mut r, 0, &bigendian::write4(group.number));
+    parts::put(&mut r, 4, &bigendian::write8(group.set));
+    parts::put(&mut r, 12, &bigendian::write8(group.base));
+    parts::put(&mut r, 20, &bigendian::write8(v.view));
     r
 }
 
+// Parts that are put: an array literal of 36 elements takes the checker longer than all else here.
 pub fn write_vote(q: u32, v: Vote, cycle: u32, channel: u32) -> [u8; 36]
     requires { ⌜ q < 64 ⌝ }
     requires { ⌜ cycle < 64 ⌝ }
     ensures { λ r. ⌜ r ≡ voteFrame q v cycle channel ⌝ }
 {
-    let group = v.group;
-    let h = put([0u8; 36], 0, &header_bytes(0, 0, q + 65, 14, cycle));
-    let g = put(h, 5, &bigendian::write4(group.number));
-    let m = put(g, 9, &bigendian::write8(group.set));
-    let b = put(m, 17, &bigendian::write8(group.base));
-    let w = put(b, 25, &bigendian::write8(v.view));
-    let c = write3(crc::frame_check(crc::channel_start(channel), &w[..33]));
-    put(w, 33, &c)
+    let mut f = [0u8; 36];
+    parts::put(&mut f, 0, &header_bytes(0, 0, q + 65, 14, cycle));
+    parts::put(&mut f, 5, &vote_payload(v));
+    let c = write3(crc::frame_check(crc::channel_start(channel), &f[..33]));
+    parts::put(&mut f, 33, &c);
+    f
 }

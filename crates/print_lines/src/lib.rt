@@ -1,5 +1,4 @@
 // The lines that the program prints, each appended to a buffer.
-ghost use mathlib.Core.Path.{_≡_};
 ghost use Prim.Native.Nat.{_+_, _≤_};
 ghost use lib.ListN.{length};
 ghost use Rattle.print_text.specs.Text.{Appended};
@@ -75,17 +74,9 @@ pub fn put_refusal(out: &mut [u8], at: usize, refusal: u32) -> usize
     print_text::put_byte(out, number, b'\n')
 }
 
-// Where the header line ends in a print.
-pub fn header_length() -> usize
-    ensures { λ r. ⌜ r ≡ length headerLine ⌝ }
-{
-    39
-}
-
 pub fn put_header(out: &mut [u8], at: usize) -> usize
     requires { ⌜ at + 39 ≤ length (now out) ⌝ }
     ensures { λ r. ⌜ Appended (now (out .entry)) at headerLine (now (out .exit)) r ⌝ }
 {
-    let half = print_text::put(out, at, b"cycle promise group ");
-    print_text::put(out, half, b"set halted entered\n")
+    print_text::put(out, at, b"cycle promise group set halted entered\n")
 }

@@ -3,13 +3,14 @@ use mathlib.Core.Path.{_≡_, refl, sym, ap, ap₂, _∙_, subst}
 use mathlib.Core.Bool.{Bool, true, false, cond}
 use mathlib.Core.List.{List, [], _∷_, _++_, append-assoc, append-nil}
 use Prim.Native.Nat.{ℕ, zero, suc, _+_, _-_, _/_, _%_, _^_, _≤_, _<_}
-use native.Mathlib.Nat.{add-zero, pow-suc, div-lt-iff-lt-mul}
+use native.Mathlib.Nat.{pow-suc, div-lt-iff-lt-mul}
 use native.Mathlib.Numerals.{add-one}
 use native.Mathlib.Omega.{arith}
 use lib.Dec.{ltb, lit<}
-use lib.ListN.{length, take, drop, set, length-set, length-append}
-use lib.Seq.{take-add, take-set-le, drop-cons, drop-set-lt, getD-set-same}
+use lib.ListN.{length, set, length-set, length-append}
 use borrow.Author.Tests.{lt-ltb, le-ltb}
+use Rattle.parts.specs.Parts.{withPart}
+use Rattle.parts.proofs.Laws.{part-none, part-before}
 use Rattle.print_text.specs.Text.{glyph, digits, hexText, places, decimalText, Appended}
 
 length-digits : (b k n : ℕ) → length (digits b k n) ≡ k
@@ -36,70 +37,54 @@ pub decimal-length : (n : ℕ) → length (decimalText n) ≤ 20
 unfolding decimalText
 decimal-length n = omega (arith, length-digits 10 (places 19 n) n, places-few 19 n)
 
--- what follows a place after a store there
-set-here : (l : List ℕ) (p g : ℕ) → p < length l → drop p (set l p g) ≡ g ∷ drop (suc p) l
-set-here l p g h =
-    drop-cons (set l p g) p 0 (subst (λ (m : ℕ). p < m) (sym (length-set l p g)) h)
-    ∙ ap₂ (λ (x : ℕ) (t : List ℕ). x ∷ t) (getD-set-same l p g 0 h) (drop-set-lt (suc p) l p g (omega arith))
-
--- Of the k digits of n from `at` on, those from place i on are stored, and `rest` is what is left of n for the others.
+-- Of the k digits of n from `at` on, those from place i on, `last`, are stored, and `rest` is what is left of n for the others.
 pub record Stored (b k n : ℕ) (s : List ℕ) (at : ℕ) (s' : List ℕ) (i rest : ℕ) : Type 0 where
   pub within : i ≤ k
   pub room : length s' ≡ length s
-  pub front : take at s' ≡ take at s
-  pub back : digits b i rest ++ take (k - i) (drop (at + i) s') ≡ digits b k n
+  pub last : List ℕ
+  pub all : digits b i rest ++ last ≡ digits b k n
+  pub written : s' ≡ withPart (at + i) last s
 
 module _ (b k n : ℕ) (s : List ℕ) (at : ℕ) where
   pub stored-none : Stored b k n s at s k n
-  stored-none = record { within = omega arith; room = refl; front = refl; back = ap (λ (m : ℕ). digits b k n ++ take m (drop (at + k) s)) none ∙ append-nil (digits b k n) }
-    where
-      none : k - k ≡ 0
-      none = omega arith
+  stored-none = record { within = omega arith; room = refl; last = []; all = append-nil (digits b k n); written = sym (part-none (at + k) s) }
 
   -- one digit more, before those that are stored
   stored-at : (s' : List ℕ) (i rest g : ℕ) → at + k ≤ length s → g ≡ glyph (rest % b) → Stored b k n s at s' (suc i) rest
       → Stored b k n s at (set s' (at + i) g) i (rest / b)
   unfolding digits
   stored-at s' i rest g h e t =
+      let next : at + suc i ≡ suc (at + i) = omega arith in
+      let inside : at + i < length s = omega (arith, t .within) in
       record {
         within = omega (arith, t .within);
         room = length-set s' (at + i) g ∙ t .room;
-        front = take-set-le at s' (at + i) g (omega arith) ∙ t .front;
-        back =
-            ap₂ (λ (m : ℕ) (l : List ℕ). digits b i (rest / b) ++ take m l) left
-            (set-here s' (at + i) g inside ∙ ap₂ (λ (x m : ℕ). x ∷ drop m s') e next)
-            ∙ sym (append-assoc (digits b i (rest / b)) (glyph (rest % b) ∷ []) (take (k - suc i) (drop (at + suc i) s')))
-            ∙ t .back;
+        last = g ∷ t .last;
+        all =
+            ap (λ (x : ℕ). digits b i (rest / b) ++ (x ∷ t .last)) e
+            ∙ sym (append-assoc (digits b i (rest / b)) (glyph (rest % b) ∷ []) (t .last))
+            ∙ t .all;
+        written =
+            ap (λ (l : List ℕ). set l (at + i) g) (t .written ∙ ap (λ (j : ℕ). withPart j (t .last) s) next)
+            ∙ part-before (at + i) g (t .last) s inside;
       }
-    where
-      left : k - i ≡ suc (k - suc i)
-      left = omega (arith, t .within)
-
-      inside : at + i < length s'
-      inside = omega (arith, t .within, t .room)
-
-      next : suc (at + i) ≡ at + suc i
-      next = omega arith
 
   pub stored-more : (s' : List ℕ) (i rest g : ℕ) → at + k ≤ length s → 0 < i → g ≡ glyph (rest % b) → Stored b k n s at s' i rest
       → Stored b k n s at (set s' (at + (i - 1)) g) (i - 1) (rest / b)
   stored-more s' i rest g h l e t =
       let some : i ≡ suc (i - 1) = omega arith in stored-at s' (i - 1) rest g h e (subst (λ (m : ℕ). Stored b k n s at s' m rest) some t)
 
-  stored-whole : (s' : List ℕ) (rest : ℕ) → Stored b k n s at s' 0 rest → Appended s at (digits b k n) s' (at + k)
+  pub stored-all : (s' : List ℕ) (i rest : ℕ) → at + k ≤ length s → i ≤ 0 → Stored b k n s at s' i rest → Appended s at (digits b k n) s' (at + k)
   unfolding digits
-  stored-whole s' rest t =
+  stored-all s' i rest h l t =
+      let none : i ≡ 0 = omega arith in
+      let here : at + i ≡ at = omega arith in
+      let whole : t .last ≡ digits b k n = ap (λ (j : ℕ). digits b j rest ++ t .last) (sym none) ∙ t .all in
       record {
-        text = take-add at k s' ∙ ap₂ (λ (f d : List ℕ). f ++ d) (t .front) (ap₂ (λ (a m : ℕ). take a (drop m s')) all (sym (add-zero at)) ∙ t .back);
+        written = t .written ∙ ap₂ (λ (j : ℕ) (x : List ℕ). withPart j x s) here whole;
         end = ap (λ (m : ℕ). at + m) (sym (length-digits b k n));
-        room = t .room;
+        within = h;
       }
-    where
-      all : k ≡ k - 0
-      all = omega arith
-
-  pub stored-all : (s' : List ℕ) (i rest : ℕ) → i ≤ 0 → Stored b k n s at s' i rest → Appended s at (digits b k n) s' (at + k)
-  stored-all s' i rest l t = let none : i ≡ 0 = omega arith in stored-whole s' rest (subst (λ (m : ℕ). Stored b k n s at s' m rest) none t)
 
 -- Of the decimal digits of x, k - 1 are counted, and `rest` is what is left of x.
 pub record Counted (x k rest : ℕ) : Type 0 where

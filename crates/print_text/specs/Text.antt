@@ -6,9 +6,10 @@ use mathlib.Core.List.{List, [], _∷_, _++_}
 use Prim.Native.Char.{code}
 use Prim.Native.String as string
 use Prim.Native.String.{String}
-use Prim.Native.Nat.{ℕ, zero, suc, _+_, _/_, _%_}
+use Prim.Native.Nat.{ℕ, zero, suc, _+_, _/_, _%_, _≤_}
 use lib.Dec.{ltb}
-use lib.ListN.{length, take}
+use lib.ListN.{length}
+use Rattle.parts.specs.Parts.{withPart}
 
 -- words
 unfoldable pub ascii : String → List ℕ
@@ -37,8 +38,8 @@ places (suc most) n = cond (ltb n 10) 1 (suc (places most (n / 10)))
 unfoldable pub decimalText : ℕ → List ℕ
 decimalText n = digits 10 (places 19 n) n
 
--- After the first `at` bytes of s the text t is written, which gives s' and ends before r.
+-- The text t is written into s from place `at` on, which gives s' and ends before r; every other byte of s stays.
 pub record Appended (s : List ℕ) (at : ℕ) (t s' : List ℕ) (r : ℕ) : Type 0 where
-  pub text : take r s' ≡ take at s ++ t
+  pub written : s' ≡ withPart at t s
   pub end : r ≡ at + length t
-  pub room : length s' ≡ length s
+  pub within : r ≤ length s

@@ -1,9 +1,10 @@
-// Text appended to a lent buffer at a cursor: bytes, masks in hexadecimal, numbers in decimal. Each function returns the cursor after what it wrote.
+// Text appended to a lent buffer at a cursor: bytes, masks in hexadecimal, numbers in decimal.
+// Each function returns the cursor after what it wrote, and leaves every other byte as it was.
 ghost use mathlib.Core.Path.{_≡_};
 ghost use mathlib.Core.List.{[], _∷_};
 ghost use Prim.Native.Nat.{_+_, _≤_, _<_};
 ghost use lib.ListN.{length};
-ghost use Rattle.print_text.specs.Text.{hexText, places as placesIn, decimalText, Appended};
+ghost use Rattle.print_text.specs.Text.{digits, hexText, places as placesIn, decimalText, Appended};
 ghost use Rattle.print_text.specs.Text.{glyph as theGlyph};
 
 // The ASCII code of a digit: from 10 on a letter, 39 codes further. No branch, so that many digits are made at once.
@@ -40,41 +41,36 @@ pub fn put(out: &mut [u8], at: usize, words: &[u8]) -> usize
     requires { ⌜ at + length (now words) ≤ length (now out) ⌝ }
     ensures { λ r. ⌜ Appended (now (out .entry)) at (now (words .entry)) (now (out .exit)) r ⌝ }
 {
-    let mut i: usize = 0;
-    while i < words.len() {
-        out[at + i] = words[i];
-        i += 1;
-    }
-    at + i
+    parts::put(out, at, words);
+    at + words.len()
 }
 
-// 16 digits, stored from the last, which the rest of m gives first.
-pub fn put_hex(out: &mut [u8], at: usize, m: u64) -> usize
-    requires { ⌜ at + 16 ≤ length (now out) ⌝ }
-    ensures { λ r. ⌜ Appended (now (out .entry)) at (hexText m) (now (out .exit)) r ⌝ }
+// The last `count` digits of x in a base, stored from the last, which the rest of x gives first.
+fn put_digits(out: &mut [u8], at: usize, base: u64, count: usize, x: u64) -> usize
+    requires { ⌜ at + count ≤ length (now out) ⌝ }
+    requires { ⌜ (0 < base) × (base ≤ 16) ⌝ }
+    ensures { λ r. ⌜ Appended (now (out .entry)) at (digits base count x) (now (out .exit)) r ⌝ }
 {
-    let mut i: usize = 16;
-    let mut rest = m;
-    while i > 0 {
-        i -= 1;
-        out[at + i] = glyph(rest % 16);
-        rest /= 16;
-    }
-    at + 16
-}
-
-// The same, for as many digits as x has.
-pub fn put_decimal(out: &mut [u8], at: usize, x: u64) -> usize
-    requires { ⌜ at + 20 ≤ length (now out) ⌝ }
-    ensures { λ r. ⌜ Appended (now (out .entry)) at (decimalText x) (now (out .exit)) r ⌝ }
-{
-    let count = places(x);
     let mut i = count;
     let mut rest = x;
     while i > 0 {
         i -= 1;
-        out[at + i] = glyph(rest % 10);
-        rest /= 10;
+        out[at + i] = glyph(rest % base);
+        rest /= base;
     }
     at + count
+}
+
+pub fn put_hex(out: &mut [u8], at: usize, m: u64) -> usize
+    requires { ⌜ at + 16 ≤ length (now out) ⌝ }
+    ensures { λ r. ⌜ Appended (now (out .entry)) at (hexText m) (now (out .exit)) r ⌝ }
+{
+    put_digits(out, at, 16, 16, m)
+}
+
+pub fn put_decimal(out: &mut [u8], at: usize, x: u64) -> usize
+    requires { ⌜ at + 20 ≤ length (now out) ⌝ }
+    ensures { λ r. ⌜ Appended (now (out .entry)) at (decimalText x) (now (out .exit)) r ⌝ }
+{
+    put_digits(out, at, 10, places(x), x)
 }

@@ -2,16 +2,16 @@
 use mathlib.Core.Path.{_≡_, refl, sym, ap, ap₂, _∙_}
 use mathlib.Core.Logic.{_⊎_, inl, inr}
 use mathlib.Core.Bool.{Bool, true, false, _&&_, cond}
-use mathlib.Core.List.{List, [], _++_, append-assoc, append-nil}
+use mathlib.Core.List.{List, _++_, append-assoc, append-nil}
 use Prim.Native.Nat.{ℕ, zero, suc, _+_, _-_, _*_, _≤_, _<_}
 use native.Mathlib.Nat.{add-zero, add-suc, suc-add, zero-add}
 use native.Mathlib.Numerals.{add-one}
 use native.Mathlib.Omega.{arith}
 use lib.Dec.{ltb}
-use lib.ListN.{length, replicate, take, drop, length-set, length-append, length-drop, drop-of-length-le}
-use lib.Seq.{take-length, take-at, drop-append-add, drop-drop}
-use borrow.Rule.Slice.PartMut.{midOf, putMid, mid-len, post-is}
+use lib.ListN.{length, replicate, take, drop, length-set}
 use borrow.Author.Tests.{le-ltb, ltb-true, ltb-false}
+use Rattle.parts.specs.Parts.{withPart}
+use Rattle.parts.proofs.Laws.{part-length, part-none, part-all, fill-next}
 use Rattle.sets.proofs.Booleans.{bool}
 use Rattle.state.specs.declared.State.{State}
 use Rattle.state.specs.declared.Node.{Node}
@@ -28,7 +28,7 @@ use Rattle.row.specs.declared.Gathered.{Gathered}
 use Rattle.row.specs.Row.{nodesOf, inPlace}
 use Rattle.row.specs.Gathered.{withNode, nothingOf, pushOf, gathered, placedNode}
 use Rattle.row.proofs.Meaning.{push-in}
-use Rattle.row_images.specs.Images.{nodeOr, nodeIn, withImage, imagesOf}
+use Rattle.row_images.specs.Images.{nodeOr, nodeIn, imagesOf}
 use Rattle.row_images.proofs.Images.{length-images}
 
 -- ---- the node of image q, by what reading the image finds
@@ -121,25 +121,6 @@ module _ (count k : ℕ) (e : count ≡ cond (ltb k 64) k 64) where
           let far : 64 + (k - 64) ≡ k = omega arith in
           ap of (many b) ∙ sym (gathered-past n f (k - 64)) ∙ ap of far
 
--- ---- a part of a slice, lent and filled
-pub part-copied : {left : List ℕ} (from k : ℕ) (s part : List ℕ) → from + k ≤ length s → length part ≡ k
-    → left ≡ take (length part) part ++ drop (length part) (midOf from (from + k - from) s)
-    → putMid from (from + k - from) s left ≡ take from s ++ (part ++ drop (from + k) s)
-part-copied {left} from k s part fits e c =
-    ap₂ (λ (x y : List ℕ). take from s ++ (x ++ y)) filled (post-is from (from + k) s (omega arith))
-  where
-    mid : List ℕ
-    mid = midOf from (from + k - from) s
-
-    long : length mid ≡ from + k - from
-    long = mid-len from (from + k) s fits
-
-    none : drop (length part) mid ≡ []
-    none = let h : length mid ≤ length part = omega (arith, long) in drop-of-length-le mid h
-
-    filled : left ≡ part
-    filled = c ∙ ap₂ (λ (x y : List ℕ). x ++ y) (take-length part) none ∙ append-nil part
-
 -- ---- the row whose first images are written
 images-last : (k : ℕ) (f : ℕ → Node) → imagesOf (tabulate (suc k) f) ≡ imagesOf (tabulate k f) ++ imageOf (f k)
 unfolding imagesOf tabulate
@@ -150,51 +131,30 @@ images-last (suc k) f =
 
 -- the first k images of s replaced by those of the nodes f
 abbrev pub Written : ℕ → (ℕ → Node) → List ℕ → List ℕ
-Written k f s = imagesOf (tabulate k f) ++ drop (24 * k) s
+Written k f s = withPart 0 (imagesOf (tabulate k f)) s
 
 pub written-none : (f : ℕ → Node) (s : List ℕ) → s ≡ Written 0 f s
 unfolding imagesOf tabulate
-written-none f s = refl
+written-none f s = sym (part-none 0 s)
 
 written-first : (k : ℕ) (f : ℕ → Node) → length (imagesOf (tabulate k f)) ≡ 24 * k
 written-first k f = length-images (tabulate k f) ∙ ap (λ (j : ℕ). 24 * j) (length-tabulate k f)
 
 -- one more is written
-pub written-next : (k : ℕ) (f : ℕ → Node) (s t r : List ℕ) (x : Node)
-    → t ≡ Written k f s → x ≡ f k → r ≡ withImage k (imageOf x) t → r ≡ Written (k + 1) f s
-written-next k f s t r x e h p =
-    p ∙ ap₂ (λ (u : List ℕ) (y : Node). withImage k (imageOf y) u) e h
-    ∙ ap₂ (λ (u v : List ℕ). u ++ (imageOf (f k) ++ v)) (take-at done rest (24 * k) long)
-    (ap (λ (j : ℕ). drop (j + 24) (done ++ rest)) (sym long) ∙ drop-append-add done rest 24 ∙ drop-drop 24 (24 * k) s)
-    ∙ sym (append-assoc done (imageOf (f k)) (drop (24 * k + 24) s))
-    ∙ ap₂ (λ (u : List ℕ) (j : ℕ). u ++ drop j s) (sym (images-last k f) ∙ ap (λ (j : ℕ). imagesOf (tabulate j f)) (sym (add-one k))) far
-  where
-    done : List ℕ
-    done = imagesOf (tabulate k f)
-
-    rest : List ℕ
-    rest = drop (24 * k) s
-
-    far : 24 * k + 24 ≡ 24 * (k + 1)
-    far = omega arith
-
-    long : length done ≡ 24 * k
-    long = written-first k f
+pub written-next : (k : ℕ) (f : ℕ → Node) (s t r m : List ℕ) (x : Node)
+    → t ≡ Written k f s → x ≡ f k → m ≡ imageOf x → r ≡ withPart (24 * k) m t → r ≡ Written (k + 1) f s
+written-next k f s t r m x e h i p =
+    fill-next (imagesOf (tabulate k f)) m s t r (24 * k) (sym (written-first k f)) e p
+    ∙ ap (λ (l : List ℕ). withPart 0 l s)
+    (ap (λ (l : List ℕ). imagesOf (tabulate k f) ++ l) (i ∙ ap imageOf h) ∙ sym (images-last k f) ∙ ap (λ (j : ℕ). imagesOf (tabulate j f)) (sym (add-one k)))
 
 -- as many bytes as before
 pub written-length : (k n : ℕ) (f : ℕ → Node) (s t : List ℕ) → t ≡ Written k f s → k ≤ n → length s ≡ 24 * n → length t ≡ length s
-written-length k n f s t e l h =
-    let images = imagesOf (tabulate k f) in
-    let whole : length t ≡ length images + length (drop (24 * k) s) = ap length e ∙ length-append images (drop (24 * k) s) in
-    let done : length images ≡ 24 * k = written-first k f in
-    let rest : length (drop (24 * k) s) ≡ length s - 24 * k = length-drop (24 * k) s in
-    omega arith
+written-length k n f s t e l h = ap length e ∙ part-length 0 (imagesOf (tabulate k f)) s (omega (arith, written-first k f))
 
 -- all are written
 pub written-all : (k : ℕ) (f : ℕ → Node) (s : List ℕ) → length s ≡ 24 * k → Written k f s ≡ imagesOf (tabulate k f)
-written-all k f s e =
-    let h : length s ≤ 24 * k = omega arith in
-    ap (λ (r : List ℕ). imagesOf (tabulate k f) ++ r) (drop-of-length-le s h) ∙ append-nil (imagesOf (tabulate k f))
+written-all k f s e = part-all (imagesOf (tabulate k f)) s (omega (arith, written-first k f))
 
 -- ---- the node of place q, of the states s
 abbrev pub placed : ℕ → States → ℕ → Node

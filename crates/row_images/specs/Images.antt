@@ -3,7 +3,7 @@
 -- Assumes nothing.
 use mathlib.Core.Bool.{cond}
 use mathlib.Core.List.{List, [], _∷_, _++_}
-use Prim.Native.Nat.{ℕ, _+_, _*_, _/_, _%_}
+use Prim.Native.Nat.{ℕ, _*_, _/_, _%_}
 use lib.Dec.{eqb}
 use lib.ListN.{length, take, drop}
 use Rattle.state.specs.declared.Reason.the-variants.{Stopped}
@@ -33,10 +33,6 @@ entriesIn s = cond (eqb (length s % 24) 0) (length s / 24) 0
 
 unfoldable pub nodesIn : List ℕ → List Node
 nodesIn s = tabulate (entriesIn s) (nodeIn s)
-
--- image q replaced
-abbrev pub withImage : ℕ → List ℕ → List ℕ → List ℕ
-withImage q image s = take (24 * q) s ++ (image ++ drop (24 * q + 24) s)
 
 -- the images of the nodes, one after the other
 unfoldable pub imagesOf : List Node → List ℕ

@@ -4,11 +4,10 @@ ghost use mathlib.Core.Bool.{cond};
 ghost use Prim.Native.Nat.{_*_, _+_, _≤_};
 ghost use lib.Dec.{ltb};
 ghost use lib.ListN.{length};
-ghost use Rattle.state.specs.Image.{imageOf};
 ghost use Rattle.cluster_states.specs.States.{rowOf};
 ghost use Rattle.row.specs.Row.{nodesOf};
 ghost use Rattle.row.specs.Gathered.{nothingOf, gathered};
-ghost use Rattle.row_images.specs.Images.{nodeIn, entriesIn, noNode, nodesIn, withImage, imagesOf};
+ghost use Rattle.row_images.specs.Images.{nodeIn, entriesIn, noNode, nodesIn, imagesOf};
 use cluster_states::Roles;
 use cluster_states::States;
 use row::Gathered;
@@ -98,16 +97,6 @@ pub fn gather(n: u8, images: &[u8]) -> Gathered
     }
 }
 
-// Image q replaced.
-fn put_image(images: &mut [u8], q: usize, x: Node)
-    requires { ⌜ 24 * q + 24 ≤ length (now images) ⌝ }
-    ensures { λ _. ⌜ now (images .exit) ≡ withImage q (imageOf x) (now (images .entry)) ⌝ }
-{
-    let at = 24 * q;
-    let end = at + 24;
-    bytes::copy(&state_encoding::encode(x), &mut images[at..end]);
-}
-
 // The values as a row of n images.
 pub fn scatter(n: u8, s: States, images: &mut [u8])
     requires { ⌜ (n ≤ 64) × (length (now images) ≡ 24 * n) ⌝ }
@@ -118,7 +107,7 @@ pub fn scatter(n: u8, s: States, images: &mut [u8])
     let mut q: usize = 0;
     while q < count {
         let x = row::node_of(n, w, &s.numbers, &s.sets, &s.bases, q);
-        put_image(images, q, x);
+        parts::put(images, 24 * q, &state_encoding::encode(x));
         q += 1;
     }
 }

@@ -7,7 +7,7 @@ use Rattle.state.specs.declared.State.{State}
 use Rattle.state.specs.declared.State.the-variants.{Joining, Member}
 use Rattle.state.specs.declared.Node.{Node}
 use Rattle.rules.specs.declared.Vote.{Vote}
-use Rattle.rules.specs.OneCycle.{Ballots, memberDecides, joinerDecides}
+use Rattle.rules.specs.OneCycle.{ofNodes, Ballots, memberDecides, joinerDecides}
 use Rattle.rules.specs.Ballots.{ballotsOf}
 use Rattle.entry_send_vote.specs.Voting.{ownView}
 use Rattle.entry_decide.specs.Decide.{decision}
@@ -22,12 +22,12 @@ module _ (n : Node) (heard0 heard1 : ℕ) (votes : List ℕ) (arrived : ℕ) whe
   by-state e = sym (ap (λ (t : State). decision n t heard0 heard1 votes arrived) e)
 
   module _ {b : Ballots} {t : State} (k : b ≡ bufferBallots (n .nodes) (n .id) votes arrived) where
-    by-joining : n .state ≡ Joining → t ≡ joinerDecides (record { nodes = n .nodes }) (n .id) b → t ≡ decision n (n .state) heard0 heard1 votes arrived
-    by-joining e h = h ∙ ap (joinerDecides (record { nodes = n .nodes }) (n .id)) k ∙ by-state e
+    by-joining : n .state ≡ Joining → t ≡ joinerDecides (ofNodes (n .nodes)) (n .id) b → t ≡ decision n (n .state) heard0 heard1 votes arrived
+    by-joining e h = h ∙ ap (joinerDecides (ofNodes (n .nodes)) (n .id)) k ∙ by-state e
 
     by-vote : (g : Group) {v : Vote} → n .state ≡ Member g → v ≡ record { group = g; view = ownView n heard0 heard1 g }
-        → t ≡ memberDecides (record { nodes = n .nodes }) (n .id) v b → t ≡ decision n (n .state) heard0 heard1 votes arrived
-    by-vote g e o h = h ∙ ap₂ (memberDecides (record { nodes = n .nodes }) (n .id)) o k ∙ by-state e
+        → t ≡ memberDecides (ofNodes (n .nodes)) (n .id) v b → t ≡ decision n (n .state) heard0 heard1 votes arrived
+    by-vote g e o h = h ∙ ap₂ (memberDecides (ofNodes (n .nodes)) (n .id)) o k ∙ by-state e
 
 -- the arrays hold the votes of the buffer
 read : (c : tie.After-read-votes) → let a = c .before .before .before .before .before .before .before .before .args in let r = c .read-votes in ballotsOf (r .last .1 .1 .1 .1 .0) (r .last .1 .1 .1 .1 .1 .0) (r .last .1 .1 .1 .1 .1 .1 .0) (r .last .1 .1 .1 .1 .1 .1 .1 .0) (r .result) ≡ bufferBallots (a .n .nodes) (a .n .id) (a .votes .now) (a .arrived)

@@ -62,8 +62,8 @@ read-vote-requires c κs = let a = accepted (c .before .before .before .before .
 enum-known-v : tie.Need-enum-known-v
 enum-known-v c = search needs
 
-payload-requires : tie.Need-payload-requires
-payload-requires c κs = search needs
+vote-payload-requires : tie.Need-vote-payload-requires
+vote-payload-requires c κs = search needs
 
 slice-aggregate-copy : tie.Need-slice-aggregate-copy
 slice-aggregate-copy c = search needs
@@ -71,7 +71,7 @@ slice-aggregate-copy c = search needs
 copy-requires : tie.Need-copy-requires
 copy-requires c κs =
     let a = accepted (c .before .before .before .before .before .before .before .before .before .before .before .args .n) (c .before .before .before .before .before .before .before .before .before .before .before .args .node) (c .before .before .before .before .before .before .before .before .before .before .before .args .cycle) (c .before .before .before .before .before .before .before .before .before .before .before .args .channel) (length (c .before .before .before .before .before .before .before .before .before .before .before .args .vote .now)) 28 [] (sym (c .before .before .before .before .before .before .before .before .slot-status .ensures) ∙ c .before .before .before .before .before .before .before .if1 .left) in
-    let l : length (c .before .before .payload .result) ≡ 28 = ap length (c .before .before .payload .ensures) ∙ length-payload _ in
+    let l : length (c .before .before .vote-payload .result) ≡ 28 = ap length (c .before .before .vote-payload .ensures) ∙ length-payload _ in
     omega arith
 
 enum-known-f : tie.Need-enum-known-f
@@ -86,7 +86,7 @@ same-length c = search needs
 returns-2 : tie.Need-returns-2
 returns-2 c =
     whole (c .before .before .before .before .before .before .before .before .before .before .before .before .before .before .args .n) (c .before .before .before .before .before .before .before .before .before .before .before .before .before .before .args .node) (c .before .before .before .before .before .before .before .before .before .before .before .before .before .before .args .cycle) (c .before .before .before .before .before .before .before .before .before .before .before .before .before .before .args .channel) (c .before .before .before .before .before .before .before .before .before .before .before .before .before .before .args .frame .now) (c .before .before .before .before .before .before .before .before .before .before .before .before .before .before .args .vote .now) (sym (c .before .before .before .before .before .before .before .before .before .before .before .slot-status .ensures) ∙ c .before .before .before .before .before .before .before .before .before .before .if1 .left) _ _ (sym (c .before .before .before .before .before .before .before .before .before .read-vote .ensures) ∙ c .before .before .before .before .before .before .before .v .given .1)
-    (c .before .before .before .before .before .payload .ensures) (c .before .before .copy .ensures .1)
+    (c .before .before .before .before .before .vote-payload .ensures) (c .before .before .copy .ensures .1)
 
 returns-3 : tie.Need-returns-3
 returns-3 c =
@@ -101,7 +101,7 @@ read-spec =
     returns
     read-vote-requires
     enum-known-v
-    payload-requires
+    vote-payload-requires
     slice-aggregate-copy
     copy-requires
     enum-known-f

@@ -1,10 +1,10 @@
 -- `entry_receive_vote::receive` meets its contract, by what the two copies give. Assumes nothing.
 use mathlib.Core.Path.{_≡_, refl, sym, ap, ap₂, _∙_}
 use mathlib.Core.Bool.{Bool, true, false, _||_}
-use mathlib.Core.List.{List, [], _∷_, _++_}
-use Prim.Native.Nat.{ℕ, _+_, _*_}
+use mathlib.Core.List.{List, [], _∷_}
+use Prim.Native.Nat.{ℕ}
 use native.Mathlib.Omega.{arith}
-use lib.ListN.{length, take, drop}
+use lib.ListN.{length}
 use Rattle.sets.specs.Sets.{single, _∪_, _∖_}
 use Rattle.rules.specs.declared.Vote.{Vote}
 use Rattle.frames.specs.declared.VoteRead.{VoteRead}
@@ -16,7 +16,6 @@ use Rattle.refusal.specs.Refusal.{when, first}
 use Rattle.entry_lent.specs.Refusals.{wrongCount, wrongNode, wrongCycle, wrongLength}
 use Rattle.entry_receive_vote.specs.Arrivals.{slotOr, arrivedOr, receivedVote, receiveVoteStatus, receiveVoteLeft, receiveVoteArrived}
 use Rattle.entry_slots.specs.Slots.{withSlot}
-use Rattle.parts.specs.Parts.{withPart}
 use Rattle.refusal.proofs.Laws.{unless-done, unless-refused}
 use Rattle.frames.proofs.Lengths.{length-payload}
 use Rattle.entry_write_vote.proofs.Accepted.{slotStatus, Accepted, accepted, small}
@@ -63,17 +62,11 @@ module _ (n q cycle : ℕ) (a b votes : List ℕ) (arrived : ℕ) where
     missed e s l = let r = received Missed e in (r .0, (r .1, l ∙ ap (λ (x : ℕ). arrived ∖ x) s ∙ r .2))
 
     whole : (v : Vote) (payload : List ℕ) {left : List ℕ} {sender mask : ℕ} → receivedVote n q cycle a b ≡ Whole v → payload ≡ votePayload v
-        → left ≡ take (28 * q) votes ++ (payload ++ drop (28 * q + length payload) votes) → sender ≡ single q → mask ≡ sender ∪ arrived
+        → left ≡ withSlot q payload votes → sender ≡ single q → mask ≡ sender ∪ arrived
         → (0 ≡ receiveVoteStatus n q cycle votes) × ((left ≡ receiveVoteLeft n q cycle a b votes) × (mask ≡ receiveVoteArrived n q cycle a b votes arrived))
     whole v payload e p l s m =
         let r = received (Whole v) e in
-        let k : length payload ≡ 28 = ap length p ∙ length-payload v in (
-          r .0,
-          (
-            l ∙ ap (λ (x : ℕ). take (28 * q) votes ++ (payload ++ drop (28 * q + x) votes)) k ∙ ap (λ (x : List ℕ). withSlot q x votes) p ∙ r .1,
-            m ∙ ap (λ (x : ℕ). x ∪ arrived) s ∙ r .2,
-          ),
-        )
+        (r .0, (l ∙ ap (λ (x : List ℕ). withSlot q x votes) p ∙ r .1, m ∙ ap (λ (x : ℕ). x ∪ arrived) s ∙ r .2))
 
 -- nothing was refused
 fine : (c : tie.Else1) → let a = c .before .before .before .before .before .args in slotStatus (a .n) (a .node) (a .cycle) 0 (length (a .votes .now)) 1792 ≡ 0
@@ -118,8 +111,8 @@ enum-known-v c = search needs
 mul-put : tie.Need-mul-put
 mul-put c = let h = small (bounds (c .before .before .before .before .before .before .before .before)) in omega arith
 
-payload-requires : tie.Need-payload-requires
-payload-requires c κs = search needs
+vote-payload-requires : tie.Need-vote-payload-requires
+vote-payload-requires c κs = search needs
 
 slice-aggregate-put : tie.Need-slice-aggregate-put
 slice-aggregate-put c = search needs
@@ -130,7 +123,7 @@ put-requires c κs =
     let b = bounds (p .before .before .before .before .before .before .before .before .before) in
     let h = small b in
     let l = b .sized in
-    let k : length (p .payload .result) ≡ 28 = ap length (p .payload .ensures) ∙ length-payload _ in
+    let k : length (p .vote-payload .result) ≡ 28 = ap length (p .vote-payload .ensures) ∙ length-payload _ in
     omega arith
 
 union-requires : tie.Need-union-requires
@@ -148,14 +141,13 @@ same-length : tie.Need-same-length
 same-length c = search needs
 
 returns-3 : tie.Need-returns-3
-unfolding withPart
 returns-3 c =
     let p = c .before .before .before .before in
     let k = p .before .before .before .before .before in
     let r = k .before .before in
     let e = r .before .before .before .before in
     let a = e .before .before .before .before .before .args in
-    whole (a .n) (a .node) (a .cycle) (a .a .now) (a .b .now) (a .votes .now) _ (fine e) _ _ (copies r ∙ k .v .given .1) (p .before .before .payload .ensures) (p .put .ensures) (r .before .single .ensures) (c .union .ensures)
+    whole (a .n) (a .node) (a .cycle) (a .a .now) (a .b .now) (a .votes .now) _ (fine e) _ _ (copies r ∙ k .v .given .1) (p .before .before .vote-payload .ensures) (p .put .ensures) (r .before .single .ensures) (c .union .ensures)
 
 pub receive-spec : {M : Type 1} → statement M
 receive-spec =
@@ -171,7 +163,7 @@ receive-spec =
     difference-requires
     enum-known-v
     mul-put
-    payload-requires
+    vote-payload-requires
     slice-aggregate-put
     put-requires
     union-requires

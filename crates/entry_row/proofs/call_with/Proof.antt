@@ -40,13 +40,6 @@ gather-requires c κs = tt
 answer-requires : tie.Need-answer-requires
 answer-requires c κs = tt
 
-scatter-requires : tie.Need-scatter-requires
-scatter-requires c κs =
-    let w = c .before .before .before .before in
-    let a = asked w .args in
-    let e = c .before .if1 .taken in
-    whole-images (a .task) (a .n) _ _ _ (now (a .images)) (length (now (a .frames))) (now (a .bytes)) (counting w .entries .ensures) (sym (answered w) ∙ e) (w .answer .ensures .1 .0 _ (lent w) e)
-
 same-length : tie.Need-same-length
 same-length c = search needs
 
@@ -63,9 +56,17 @@ returns c =
       answered w,
       (
         images-done (a .task) (a .n) _ _ _ (now (a .images)) (length (now (a .frames))) (now (a .bytes)) _ (sym (answered w) ∙ t .if1 .taken) l (d .scatter .ensures),
-        frames-left (a .task) _ (now (a .images)) (now (a .bytes)) (now (a .frames)) _ (counting w .entries .ensures) (w .answer .ensures .1 .1),
+        frames-left (a .task) _ (now (a .images)) (now (a .bytes)) (now (a .frames)) _ (counting w .entries .ensures) (w .answer .ensures .1 .1 .0),
       ),
     )
+
+-- below what is returned: a call that writes though it is refused is wrong there
+scatter-requires : tie.Need-scatter-requires
+scatter-requires c κs =
+    let w = c .before .before .before .before in
+    let a = asked w .args in
+    let e = c .before .if1 .taken in
+    whole-images (a .task) (a .n) _ _ _ (now (a .images)) (length (now (a .frames))) (now (a .bytes)) (counting w .entries .ensures) (sym (answered w) ∙ e) (w .answer .ensures .1 .0 _ (lent w) e)
 
 same-length-3 : tie.Need-same-length-3
 same-length-3 c = search needs
@@ -80,7 +81,7 @@ returns-2 c =
       answered w,
       (
         images-kept (a .task) (a .n) (now (a .images)) (length (now (a .frames))) (now (a .bytes)) (λ e. c .if1 .left (answered w ∙ e)),
-        frames-left (a .task) _ (now (a .images)) (now (a .bytes)) (now (a .frames)) _ (counting w .entries .ensures) (w .answer .ensures .1 .1),
+        frames-left (a .task) _ (now (a .images)) (now (a .bytes)) (now (a .frames)) _ (counting w .entries .ensures) (w .answer .ensures .1 .1 .0),
       ),
     )
 

@@ -4,6 +4,10 @@ use borrow.Author.Needs.{needs}
 use Rattle.entry_slots.proofs.has_arrived.Statement.{statement}
 use Rattle.entry_slots.proofs.has_arrived.Tie as tie
 
+-- first: that the own slot is left out matters here alone
+returns-3 : tie.Need-returns-3
+returns-3 c = simp (ne-eqb _ _ (c .before .before .before .if1 .left), sym (c .before .before .contains .ensures) ∙ not-false _ (c .before .if2 .left)) (c .formed-vote .ensures)
+
 returns : tie.Need-returns
 returns c = simp (eq-eqb _ _ (c .if1 .taken))
 
@@ -15,9 +19,6 @@ returns-2 c = simp (ne-eqb _ _ (c .before .before .if1 .left), sym (c .before .c
 
 formed-vote-requires : tie.Need-formed-vote-requires
 formed-vote-requires c κs = search needs
-
-returns-3 : tie.Need-returns-3
-returns-3 c = simp (ne-eqb _ _ (c .before .before .before .if1 .left), sym (c .before .before .contains .ensures) ∙ not-false _ (c .before .if2 .left)) (c .formed-vote .ensures)
 
 pub has-arrived-spec : {M : Type 1} → statement M
 has-arrived-spec =

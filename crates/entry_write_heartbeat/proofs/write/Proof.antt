@@ -22,6 +22,13 @@ returns : tie.Need-returns
 unfolding writeHeartbeatLeft
 returns c = (c .before .write-refusal .ensures, sym (unless-refused _ _ _ (λ z. c .if1 .taken (c .before .write-refusal .ensures ∙ z))))
 
+-- above what the call asks: a frame of other numbers is wrong here alone
+returns-2 : tie.Need-returns-2
+returns-2 c =
+    let m = c .before .before in
+    let w = m .before .before .before in
+    written _ _ _ _ _ _ _ _ (fine (w .before)) _ _ (w .write-heartbeat .ensures) (m .copy .ensures .1)
+
 write-heartbeat-requires : tie.Need-write-heartbeat-requires
 write-heartbeat-requires c κs = write-bounds _ _ _ _ _ _ _ _ (fine c)
 
@@ -33,12 +40,6 @@ copy-requires c κs = let l = write-length _ _ _ _ _ _ _ _ (fine (c .before .bef
 
 same-length-2 : tie.Need-same-length-2
 same-length-2 c = search needs
-
-returns-2 : tie.Need-returns-2
-returns-2 c =
-    let m = c .before .before in
-    let w = m .before .before .before in
-    written _ _ _ _ _ _ _ _ (fine (w .before)) _ _ (w .write-heartbeat .ensures) (m .copy .ensures .1)
 
 pub write-spec : {M : Type 1} → statement M
 write-spec =

@@ -22,7 +22,7 @@ unfolding refusedLine
 none-refused r h = rw (eq-eqb r 0 h)
 
 returns : tie.Need-returns
-returns c = let a = c .before .before .args in same (sym (none-refused (a .refusal) (c .if1 .taken))) (none (now (a .out)) (a .at) (a .at) refl)
+returns c = let a = c .before .before .args in same (sym (none-refused (a .refusal) (c .if1 .taken))) (none (now (a .out)) (a .at) (a .at) (omega arith) refl)
 
 slice-aggregate-put : tie.Need-slice-aggregate-put
 slice-aggregate-put c = omega arith
