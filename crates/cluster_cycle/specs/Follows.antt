@@ -7,19 +7,20 @@ use Prim.Native.Nat.{ℕ, _<_}
 use lib.Dec.{eqb}
 use Rattle.sets.specs.Sets.{has, single, _∪_}
 use Rattle.state.specs.declared.State.the-variants.{Member}
+use Rattle.rules.specs.declared.Config.{Config}
 use Rattle.cluster_states.specs.declared.Roles.{Roles}
-use Rattle.cluster_cycle.specs.declared.Kept.{Kept}
+use Rattle.cluster_cycle.specs.declared.Followed.{Followed}
 use Rattle.cluster_states.specs.Decided.{decidedAt}
 use Rattle.cluster_tallies.specs.Grouped.{Within, ownTally}
 
 -- whether q cast the vote of the member that is kept and counts the same votes
-abbrev pub follows : Kept → ℕ → ℕ → Bool
+abbrev pub follows : Followed → ℕ → ℕ → Bool
 follows k present q = has q (k .votes) && eqb (ownTally (k .votes) (k .set) present q) (k .counted)
 
 -- what is kept is worth: whoever follows decides the same
-abbrev pub Worth : List ℕ → List ℕ → List ℕ → List ℕ → ℕ → Roles → Kept → Type 0
-Worth numbers sets bases views n w k =
-    (q present : ℕ) → q < n → Within present (w .members) → follows k present q ≡ true → decidedAt numbers sets bases views n w present q ≡ Member (k .group)
+abbrev pub Worth : List ℕ → List ℕ → List ℕ → List ℕ → Config → Roles → Followed → Type 0
+Worth numbers sets bases views C w k =
+    (q present : ℕ) → q < C .nodes → Within present (w .members) → follows k present q ≡ true → decidedAt numbers sets bases views C w present q ≡ Member (k .group)
 
 -- the masks with node q added as a member
 abbrev pub withMember : Roles → ℕ → Roles

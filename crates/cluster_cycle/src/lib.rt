@@ -1,4 +1,4 @@
-// One cycle of all nodes of a cluster.
+// One cycle of all nodes of a cluster, on masks and arrays.
 ghost use mathlib.Core.Path.{_≡_};
 ghost use Prim.Native.Nat.{ℕ, _<_, _≤_};
 ghost use lib.ListN.{length, getD};
@@ -10,6 +10,7 @@ ghost use Rattle.cluster_states.specs.Decided.{viewAt, decidedAt};
 ghost use Rattle.cluster_cycle.specs.Follows.{follows as doesFollow, Worth, withMember};
 use cluster_states::Roles;
 use cluster_states::States;
+use rules::Config;
 use rules::Faults;
 use rules::Marks;
 use state::Group;
@@ -38,7 +39,7 @@ fn views_of(
 
 // What node q decides on the votes in the slots `present`.
 fn decide(
-    n: usize,
+    config: Config,
     q: usize,
     numbers: &[u32; 64],
     sets: &[u64; 64],
@@ -49,14 +50,14 @@ fn decide(
     w: Roles,
     present: u64,
 ) -> State
-    requires { ⌜ (n ≤ 64) × (q < n) ⌝ }
-    requires { ⌜ Grouped (now numbers) (now sets) (now bases) (now views) n (w .members) lead (now same) ⌝ }
+    requires { ⌜ (config .nodes ≤ 64) × (q < config .nodes) ⌝ }
+    requires { ⌜ Grouped (now numbers) (now sets) (now bases) (now views) (config .nodes) (w .members) lead (now same) ⌝ }
     requires { ⌜ Within present (w .members) ⌝ }
-    ensures { λ r. ⌜ r ≡ decidedAt (now (numbers .entry)) (now (sets .entry)) (now (bases .entry)) (now (views .entry)) n w present q ⌝ }
+    ensures { λ r. ⌜ r ≡ decidedAt (now (numbers .entry)) (now (sets .entry)) (now (bases .entry)) (now (views .entry)) config w present q ⌝ }
 {
     if sets::contains(w.members, q) {
         cluster_tallies::member_decides(
-            n,
+            config,
             q,
             numbers,
             sets,
@@ -69,7 +70,7 @@ fn decide(
         )
     } else if sets::contains(w.joining, q) {
         cluster_tallies::joiner_decides(
-            n,
+            config,
             q,
             numbers,
             sets,
@@ -99,17 +100,17 @@ fn with_member(w: Roles, q: usize) -> Roles
 }
 
 // A member that stays, for those that decide the same: the members that cast its vote, the set of its group, the votes that it counts, and its new group.
-struct Kept {
+struct Followed {
     votes: u64,
     set: u64,
     counted: u64,
     group: Group,
 }
 
-fn nobody() -> Kept
+fn nobody() -> Followed
     ensures { λ r. ⌜ r .votes ≡ 0 ⌝ }
 {
-    Kept {
+    Followed {
         votes: 0,
         set: 0,
         counted: 0,
@@ -122,7 +123,7 @@ fn nobody() -> Kept
 }
 
 // Whether q cast that member's vote and counts the same votes.
-fn follows(k: Kept, present: u64, q: usize) -> bool
+fn follows(k: Followed, present: u64, q: usize) -> bool
     requires { ⌜ q < 64 ⌝ }
     ensures { λ r. ⌜ r ≡ doesFollow k present q ⌝ }
 {
@@ -135,7 +136,7 @@ fn follows(k: Kept, present: u64, q: usize) -> bool
 
 // What is kept once node q has decided d: the last member that stays.
 fn keep(
-    n: usize,
+    config: Config,
     q: usize,
     numbers: &[u32; 64],
     sets: &[u64; 64],
@@ -146,14 +147,14 @@ fn keep(
     w: Roles,
     present: u64,
     d: State,
-    k: Kept,
-) -> Kept
-    requires { ⌜ (n ≤ 64) × (q < n) ⌝ }
-    requires { ⌜ Grouped (now numbers) (now sets) (now bases) (now views) n (w .members) lead (now same) ⌝ }
+    k: Followed,
+) -> Followed
+    requires { ⌜ (config .nodes ≤ 64) × (q < config .nodes) ⌝ }
+    requires { ⌜ Grouped (now numbers) (now sets) (now bases) (now views) (config .nodes) (w .members) lead (now same) ⌝ }
     requires { ⌜ Within present (w .members) ⌝ }
-    requires { ⌜ d ≡ decidedAt (now numbers) (now sets) (now bases) (now views) n w present q ⌝ }
-    requires { ⌜ Worth (now numbers) (now sets) (now bases) (now views) n w k ⌝ }
-    ensures { λ r. ⌜ Worth (now (numbers .entry)) (now (sets .entry)) (now (bases .entry)) (now (views .entry)) n w r ⌝ }
+    requires { ⌜ d ≡ decidedAt (now numbers) (now sets) (now bases) (now views) config w present q ⌝ }
+    requires { ⌜ Worth (now numbers) (now sets) (now bases) (now views) config w k ⌝ }
+    ensures { λ r. ⌜ Worth (now (numbers .entry)) (now (sets .entry)) (now (bases .entry)) (now (views .entry)) config w r ⌝ }
 {
     let votes = cluster_tallies::votes_like(lead, same, q);
     let set = sets[q];
@@ -163,7 +164,7 @@ fn keep(
     if !rule_steps::sends_member(d) {
         return k;
     }
-    Kept {
+    Followed {
         votes,
         set,
         counted: cluster_tallies::own_tally(votes, set, present, q),
@@ -173,7 +174,7 @@ fn keep(
 
 // Rules 5 and 6 of all nodes, on the votes that go out: the masks, and into the new arrays the groups.
 fn decisions(
-    n: usize,
+    config: Config,
     numbers: &[u32; 64],
     sets: &[u64; 64],
     bases: &[u64; 64],
@@ -187,11 +188,12 @@ fn decisions(
     new_sets: &mut [u64; 64],
     new_bases: &mut [u64; 64],
 ) -> Roles
-    requires { ⌜ (n ≤ 64) × (length (now «new_numbers») ≡ 64) × (length (now «new_sets») ≡ 64) × (length (now «new_bases») ≡ 64) ⌝ }
-    requires { ⌜ Grouped (now numbers) (now sets) (now bases) (now views) n (w .members) lead (now same) ⌝ }
+    requires { ⌜ (config .nodes ≤ 64) × (length (now «new_numbers») ≡ 64) × (length (now «new_sets») ≡ 64) × (length (now «new_bases») ≡ 64) ⌝ }
+    requires { ⌜ Grouped (now numbers) (now sets) (now bases) (now views) (config .nodes) (w .members) lead (now same) ⌝ }
     requires { ⌜ Within sent (w .members) ⌝ }
-    ensures { λ r. ⌜ ((q : ℕ) → q < n → stateAt (statesOf r (now («new_numbers» .exit)) (now («new_sets» .exit)) (now («new_bases» .exit))) q ≡ decidedAt (now (numbers .entry)) (now (sets .entry)) (now (bases .entry)) (now (views .entry)) n w (sent ∖ getD (now (missed .entry)) q 0) q) ⌝ }
+    ensures { λ r. ⌜ ((q : ℕ) → q < config .nodes → stateAt (statesOf r (now («new_numbers» .exit)) (now («new_sets» .exit)) (now («new_bases» .exit))) q ≡ decidedAt (now (numbers .entry)) (now (sets .entry)) (now (bases .entry)) (now (views .entry)) config w (sent ∖ getD (now (missed .entry)) q 0) q) ⌝ }
 {
+    let n = config.nodes;
     let mut next = Roles {
         members: 0,
         joining: 0,
@@ -206,8 +208,21 @@ fn decisions(
         if follows(k, came, q) {
             next = with_member(next, q);
         } else {
-            let d = decide(n, q, numbers, sets, bases, views, lead, same, w, came);
-            k = keep(n, q, numbers, sets, bases, views, lead, same, w, came, d, k);
+            let d = decide(config, q, numbers, sets, bases, views, lead, same, w, came);
+            k = keep(
+                config,
+                q,
+                numbers,
+                sets,
+                bases,
+                views,
+                lead,
+                same,
+                w,
+                came,
+                d,
+                k,
+            );
             g = cluster_states::held_by(d);
             next = cluster_states::with_state(next, q, d);
         }
@@ -220,8 +235,9 @@ fn decisions(
 }
 
 // One cycle of nodes with the roles w: the roles after it, and in place their groups. What node q misses is in the elements q of `unheard` and `missed`.
+// Free: what the row after it does not show.
 pub fn advance<'a>(
-    n: usize,
+    config: Config,
     w: Roles,
     numbers: &mut [u32; 64],
     sets: &mut [u64; 64],
@@ -230,9 +246,10 @@ pub fn advance<'a>(
     unheard: &'a [u64; 64],
     missed: &'a [u64; 64],
 ) -> Roles
-    requires { ⌜ n ≤ 64 ⌝ }
-    ensures { λ r. ⌜ rowOf n (statesOf r (now (numbers .exit)) (now (sets .exit)) (now (bases .exit))) ≡ theCycle (record { nodes = n }) (faultsOf m (now (unheard .entry)) (now (missed .entry))) (rowOf n (statesOf w (now (numbers .entry)) (now (sets .entry)) (now (bases .entry)))) ⌝ }
+    requires { ⌜ config .nodes ≤ 64 ⌝ }
+    ensures { λ r. ⌜ rowOf (config .nodes) (statesOf r (now (numbers .exit)) (now (sets .exit)) (now (bases .exit))) ≡ theCycle config (faultsOf m (now (unheard .entry)) (now (missed .entry))) (rowOf (config .nodes) (statesOf w (now (numbers .entry)) (now (sets .entry)) (now (bases .entry)))) ⌝ }
 {
+    let n = config.nodes;
     let v = cluster_states::rule_one(n, w, m.stop, m.start);
     let mut views = [0u64; 64];
     views_of(
@@ -249,7 +266,7 @@ pub fn advance<'a>(
     let mut new_sets = [0u64; 64];
     let mut new_bases = [0u64; 64];
     let after = decisions(
-        n,
+        config,
         numbers,
         sets,
         bases,
@@ -269,16 +286,16 @@ pub fn advance<'a>(
     after
 }
 
-// The same of states and faults by value.
-pub fn cycle(n: usize, s: States, f: Faults) -> States
-    requires { ⌜ n ≤ 64 ⌝ }
-    ensures { λ r. ⌜ rowOf n r ≡ theCycle (record { nodes = n }) f (rowOf n s) ⌝ }
+// The same of states and faults by value, with as much left free.
+pub fn cycle(config: Config, s: States, f: Faults) -> States
+    requires { ⌜ config .nodes ≤ 64 ⌝ }
+    ensures { λ r. ⌜ rowOf (config .nodes) r ≡ theCycle config f (rowOf (config .nodes) s) ⌝ }
 {
     let mut numbers = s.numbers;
     let mut sets = s.sets;
     let mut bases = s.bases;
     let w = advance(
-        n,
+        config,
         Roles {
             members: s.members,
             joining: s.joining,

@@ -2,21 +2,21 @@
 use mathlib.Core.Path.{_≡_, refl, sym, ap, ap₂, _∙_}
 use mathlib.Core.Bool.{Bool, true, false, not, _&&_, _||_, cond}
 use mathlib.Core.List.{List}
-use mathlib.Core.Option.{Option, none}
+use mathlib.Core.Option.{Option, none, some}
 use Prim.Native.Nat.{ℕ, _<_}
 use lib.Dec.{ltb}
-use Rattle.sets.specs.Sets.{has, _∪_, _∩_, _∖_, those, below, any}
+use Rattle.sets.specs.Sets.{has, _∪_, _∩_, _∖_, those, below}
 use Rattle.sets.proofs.Booleans.{and-l, and-r, ltb-true, ltb-lt}
 use Rattle.sets.proofs.Membership.{has-inter, has-union, has-diff, has-none, set-ext}
 use Rattle.sets.proofs.Dropping.{drop-less}
-use Rattle.sets.proofs.Nodes.{has-those, has-below, those-in, in-those, of-those}
+use Rattle.sets.proofs.Nodes.{has-those, has-below, in-those}
 use Rattle.rules.specs.declared.Vote.{Vote}
 use Rattle.rules.specs.OneCycle.{is}
 use Rattle.rules.specs.Ballots.{voteAt, ballotsOf}
-use Rattle.rules.proofs.Counting.{any-none}
-use Rattle.rules.proofs.Votes.{is-eq, is-self}
+use Rattle.rules.proofs.Votes.{is-self}
 use Rattle.rules.proofs.Slots.{slot-full, slot-empty}
 use Rattle.cluster_tallies.specs.Grouped.{Grouped, Within, spreadAt}
+use Rattle.cluster_tallies.proofs.Tallies.{cast-it}
 
 module _ (numbers sets bases views : List ℕ) (n present : ℕ) (holds : Option Vote → Bool) where
   abbrev pub answers : ℕ → Bool
@@ -49,28 +49,20 @@ module _ (numbers sets bases views : List ℕ) (n present : ℕ) (holds : Option
       has-those x n (λ j. not (has j left) && answers j) ∙ ap (λ (y : Bool). ltb x n && (not y && answers x)) (ap (has x) z ∙ has-none x)
       ∙ sym (has-those x n answers))
 
-  -- nothing was found
-  pub looked-nowhere : (left : ℕ) → Looked left 0 → left ≡ 0 → any n answers ≡ false
-  looked-nowhere left s z = any-none n answers (λ j h. sym (those-in j n answers h) ∙ ap (has j) (sym (looked-end left 0 s z)) ∙ has-none j)
-
 -- ---- the next slot p, and all with its vote
 
 module _ (numbers sets bases views : List ℕ) (n members present : ℕ) (inside : Within present members) (lead : ℕ) (same : List ℕ) (grouped : Grouped numbers sets bases views n members lead same) where
   module _ (p votes : ℕ) (l : p < n) (h : has p present ≡ true) (o : votes ≡ spreadAt lead same p) where
-    cast : votes ≡ those n (λ x. is (voteAt numbers sets bases views p) (ballotsOf numbers sets bases views members x))
-    cast = o ∙ grouped p l (inside p h)
-
     votes-own : has p votes ≡ true
     votes-own =
-        ap (has p) cast
+        ap (has p) (o ∙ grouped p l (inside p h))
         ∙ in-those p n (λ x. is (voteAt numbers sets bases views p) (ballotsOf numbers sets bases views members x)) l (is-self (voteAt numbers sets bases views p) (ballotsOf numbers sets bases views members p) (slot-full numbers sets bases views members p (inside p h)))
 
     -- whoever is among those with the vote of p cast what p did
     alike-slots : (j : ℕ) → has j votes ≡ true → has j present ≡ true → ballotsOf numbers sets bases views present j ≡ ballotsOf numbers sets bases views present p
     alike-slots j i k =
-        let w = of-those j n (λ x. is (voteAt numbers sets bases views p) (ballotsOf numbers sets bases views members x)) (ap (has j) (sym cast) ∙ i) in
-        slot-full numbers sets bases views present j k ∙ sym (slot-full numbers sets bases views members j (inside j k))
-        ∙ is-eq (voteAt numbers sets bases views p) (ballotsOf numbers sets bases views members j) (w .1) ∙ sym (slot-full numbers sets bases views present p h)
+        slot-full numbers sets bases views present j k ∙ ap {B = Option Vote} some (cast-it numbers sets bases views n members lead same grouped p j l (inside p h) (ap (has j) (sym o) ∙ i) .1)
+        ∙ sym (slot-full numbers sets bases views present p h)
 
   module _ (holds : Option Vote → Bool) (left p votes m : ℕ) (s : Looked numbers sets bases views n present holds left m) (l : p < n) (h : has p left ≡ true) (o : votes ≡ spreadAt lead same p) (L : ℕ) (k : L ≡ left ∖ votes) where
     pub looked-less : L < left

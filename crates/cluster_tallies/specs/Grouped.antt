@@ -1,17 +1,16 @@
 -- Votes grouped by their value.
 -- Assumes nothing.
 use mathlib.Core.Path.{_≡_}
-use mathlib.Core.Bool.{Bool, true, cond}
+use mathlib.Core.Bool.{true, cond}
 use mathlib.Core.List.{List}
 use Prim.Native.Nat.{ℕ, _<_}
 use lib.ListN.{getD}
 use Rattle.sets.specs.Sets.{has, single, _∪_, _∩_, _∖_}
-use Rattle.state.specs.declared.Group.{Group}
 use Rattle.state.specs.declared.State.{State}
 use Rattle.state.specs.declared.State.the-variants.{Member}
 use Rattle.rules.specs.declared.Vote.{Vote}
-use Rattle.rules.specs.OneCycle.{rival, groupWith}
-use Rattle.rules.specs.Ballots.{voteAt, ballotsOf, equalTo}
+use Rattle.rules.specs.OneCycle.{groupWith}
+use Rattle.rules.specs.Ballots.{voteAt, equalTo}
 
 -- element j of `same` where m is stored for each of its nodes
 abbrev pub spreadAt : ℕ → List ℕ → ℕ → ℕ
@@ -32,11 +31,6 @@ Within a b = (p : ℕ) → has p a ≡ true → has p b ≡ true
 
 abbrev pub Below : ℕ → ℕ → Type 0
 Below n m = (p : ℕ) → has p m ≡ true → p < n
-
--- whether the vote in slot p is one with the group g that has a quorum
-abbrev pub rivalAt : List ℕ → List ℕ → List ℕ → List ℕ → ℕ → ℕ → Group → ℕ → Bool
-rivalAt numbers sets bases views n present g p =
-    rival n (ballotsOf numbers sets bases views present) g (ballotsOf numbers sets bases views present p)
 
 -- of those with the vote of q, the ones that q counts: those in the set whose vote arrived, and its own whatever arrived of it
 abbrev pub ownTally : ℕ → ℕ → ℕ → ℕ → ℕ

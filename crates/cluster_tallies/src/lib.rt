@@ -1,22 +1,14 @@
 // Votes grouped by their value once a cycle, so that each node's tally is an intersection and a count; and what members and joining nodes decide by them.
 ghost use mathlib.Core.Path.{_≡_};
-ghost use mathlib.Core.Bool.{true, cond};
+ghost use mathlib.Core.Bool.{true};
 ghost use Prim.Native.Nat.{ℕ, _<_, _≤_};
 ghost use lib.ListN.{length, getD};
-ghost use Rattle.sets.specs.Sets.{has, _∩_, those, any};
+ghost use Rattle.sets.specs.Sets.{has, _∩_, those};
 ghost use Rattle.rules.specs.OneCycle.{memberDecides, joinerDecides};
 ghost use Rattle.rules.specs.Ballots.{voteAt, ballotsOf, fitsAt};
-ghost use Rattle.cluster_tallies.specs.Grouped.{Alike, Grouped, spreadAt, Within, Below, rivalAt, ownTally};
-use rules::Vote;
-use state::Group;
-use state::Reason;
+ghost use Rattle.cluster_tallies.specs.Grouped.{Alike, Grouped, spreadAt, Within, Below, ownTally};
+use rules::Config;
 use state::State;
-
-fn pick(yes: bool, a: u64, b: u64) -> u64
-    ensures { λ r. ⌜ r ≡ cond yes a b ⌝ }
-{
-    if yes { a } else { b }
-}
 
 // Stores m for each of its nodes.
 fn spread(n: usize, m: u64, same: &mut [u64; 64])
@@ -26,7 +18,7 @@ fn spread(n: usize, m: u64, same: &mut [u64; 64])
 {
     let mut j: usize = 0;
     while j < n {
-        same[j] = pick(sets::contains(m, j), m, same[j]);
+        same[j] = sets::pick(sets::contains(m, j), m, same[j]);
         j += 1;
     }
 }
@@ -53,7 +45,8 @@ fn leading(
 }
 
 // For each member the members with an equal vote: the result for its own nodes, `same` for the others. A vote is looked for once, for the lowest member
-// that cast it.
+// that cast it. The largest group leads: a member that halts looks at it first. Free: which vote leads, and in `same` the
+// places of its nodes and of nodes that are no members.
 pub fn groups_of(
     n: usize,
     numbers: &[u32; 64],
@@ -67,13 +60,15 @@ pub fn groups_of(
     requires { ⌜ Below n members ⌝ }
     ensures { λ r. ⌜ Grouped (now (numbers .entry)) (now (sets .entry)) (now (bases .entry)) (now (views .entry)) n members r (now (same .exit)) ⌝ }
 {
-    let lead = leading(n, numbers, sets, bases, views, members);
+    let mut lead = leading(n, numbers, sets, bases, views, members);
     let mut left = sets::difference(members, lead);
     while left != 0 {
         let p = sets::lowest(left) as usize;
         let v = rule_steps::vote_at(numbers, sets, bases, views, p);
         let m = rule_steps::equal_votes(n, numbers, sets, bases, views, members, v);
-        spread(n, m, same);
+        let more = sets::size(lead) < sets::size(m);
+        spread(n, sets::pick(more, lead, m), same);
+        lead = sets::pick(more, m, lead);
         left = sets::difference(left, m);
     }
     lead
@@ -84,7 +79,7 @@ pub fn votes_like(lead: u64, same: &[u64; 64], p: usize) -> u64
     requires { ⌜ p < 64 ⌝ }
     ensures { λ r. ⌜ r ≡ spreadAt lead (now (same .entry)) p ⌝ }
 {
-    pick(sets::contains(lead, p), lead, same[p])
+    sets::pick(sets::contains(lead, p), lead, same[p])
 }
 
 // Of those with equal votes, the ones that arrived from nodes of the set.
@@ -102,81 +97,9 @@ pub fn own_tally(votes: u64, set: u64, present: u64, q: usize) -> u64
     tally(votes, sets::union(present, sets::single(q)), set)
 }
 
-// Whether the vote in slot p has the group g and a quorum.
-fn rival_at(
-    n: usize,
-    numbers: &[u32; 64],
-    sets: &[u64; 64],
-    bases: &[u64; 64],
-    views: &[u64; 64],
-    lead: u64,
-    same: &[u64; 64],
-    members: u64,
-    present: u64,
-    g: Group,
-    p: usize,
-) -> bool
-    requires { ⌜ (n ≤ 64) × (p < n) ⌝ }
-    requires { ⌜ Grouped (now numbers) (now sets) (now bases) (now views) n members lead (now same) ⌝ }
-    requires { ⌜ Within present members ⌝ }
-    ensures { λ r. ⌜ r ≡ rivalAt (now (numbers .entry)) (now (sets .entry)) (now (bases .entry)) (now (views .entry)) n present g p ⌝ }
-{
-    let v = rule_steps::vote_at(numbers, sets, bases, views, p);
-    let h = v.group;
-    let votes = votes_like(lead, same, p);
-    if !sets::contains(present, p) {
-        return false;
-    }
-    if !rule_steps::same_group(g, h) {
-        return false;
-    }
-    sets::is_quorum(tally(votes, present, h.set), h.base)
-}
-
-// Whether some vote has the group g and a quorum. One slot answers for all with its vote.
-fn any_rival(
-    n: usize,
-    numbers: &[u32; 64],
-    sets: &[u64; 64],
-    bases: &[u64; 64],
-    views: &[u64; 64],
-    lead: u64,
-    same: &[u64; 64],
-    members: u64,
-    present: u64,
-    g: Group,
-) -> bool
-    requires { ⌜ n ≤ 64 ⌝ }
-    requires { ⌜ Grouped (now numbers) (now sets) (now bases) (now views) n members lead (now same) ⌝ }
-    requires { ⌜ Within present members ⌝ }
-    ensures { λ r. ⌜ r ≡ any n (rivalAt (now (numbers .entry)) (now (sets .entry)) (now (bases .entry)) (now (views .entry)) n present g) ⌝ }
-{
-    let mut left = sets::below(n, present);
-    while left != 0 {
-        let p = sets::lowest(left) as usize;
-        if rival_at(
-            n,
-            numbers,
-            sets,
-            bases,
-            views,
-            lead,
-            same,
-            members,
-            present,
-            g,
-            p,
-        ) {
-            return true;
-        }
-        left = sets::difference(left, votes_like(lead, same, p));
-    }
-    false
-}
-
 // Rule 5. The own vote counts for no view but its own.
 pub fn member_decides(
-    n: usize,
+    config: Config,
     q: usize,
     numbers: &[u32; 64],
     sets: &[u64; 64],
@@ -187,33 +110,19 @@ pub fn member_decides(
     members: u64,
     present: u64,
 ) -> State
-    requires { ⌜ (n ≤ 64) × (q < n) × (has q members ≡ true) ⌝ }
-    requires { ⌜ Grouped (now numbers) (now sets) (now bases) (now views) n members lead (now same) ⌝ }
+    requires { ⌜ (config .nodes ≤ 64) × (q < config .nodes) × (has q members ≡ true) ⌝ }
+    requires { ⌜ Grouped (now numbers) (now sets) (now bases) (now views) (config .nodes) members lead (now same) ⌝ }
     requires { ⌜ Within present members ⌝ }
-    ensures { λ r. ⌜ r ≡ memberDecides (record { nodes = n }) q (voteAt (now (numbers .entry)) (now (sets .entry)) (now (bases .entry)) (now (views .entry)) q) (ballotsOf (now (numbers .entry)) (now (sets .entry)) (now (bases .entry)) (now (views .entry)) present) ⌝ }
+    ensures { λ r. ⌜ r ≡ memberDecides config q (voteAt (now (numbers .entry)) (now (sets .entry)) (now (bases .entry)) (now (views .entry)) q) (ballotsOf (now (numbers .entry)) (now (sets .entry)) (now (bases .entry)) (now (views .entry)) present) ⌝ }
 {
     let own = rule_steps::vote_at(numbers, sets, bases, views, q);
     let g = own.group;
     let votes = votes_like(lead, same, q);
     let mine = own_tally(votes, g.set, present, q);
-    let others = sets::difference(present, sets::single(q));
     if sets::is_quorum(mine, g.base) {
         rule_steps::member_on(own, mine)
-    } else if any_rival(
-        n,
-        numbers,
-        sets,
-        bases,
-        views,
-        lead,
-        same,
-        members,
-        others,
-        g,
-    ) {
-        State::Out(Reason::Outvoted)
     } else {
-        State::Out(Reason::NoQuorum)
+        rule_member::halts(config, q, own, numbers, sets, bases, views, lead, present)
     }
 }
 
@@ -284,7 +193,7 @@ fn fitting(
             present,
             p,
         );
-        m = sets::union(m, pick(yes, sets::intersection(left, votes), 0));
+        m = sets::union(m, sets::pick(yes, sets::intersection(left, votes), 0));
         left = sets::difference(left, votes);
     }
     m
@@ -292,7 +201,7 @@ fn fitting(
 
 // Rule 6. One vote value fits where all votes that fit are equal to the first of them.
 pub fn joiner_decides(
-    n: usize,
+    config: Config,
     q: usize,
     numbers: &[u32; 64],
     sets: &[u64; 64],
@@ -303,13 +212,13 @@ pub fn joiner_decides(
     members: u64,
     present: u64,
 ) -> State
-    requires { ⌜ (n ≤ 64) × (q < n) ⌝ }
-    requires { ⌜ Grouped (now numbers) (now sets) (now bases) (now views) n members lead (now same) ⌝ }
+    requires { ⌜ (config .nodes ≤ 64) × (q < config .nodes) ⌝ }
+    requires { ⌜ Grouped (now numbers) (now sets) (now bases) (now views) (config .nodes) members lead (now same) ⌝ }
     requires { ⌜ Within present members ⌝ }
-    ensures { λ r. ⌜ r ≡ joinerDecides (record { nodes = n }) q (ballotsOf (now (numbers .entry)) (now (sets .entry)) (now (bases .entry)) (now (views .entry)) present) ⌝ }
+    ensures { λ r. ⌜ r ≡ joinerDecides config q (ballotsOf (now (numbers .entry)) (now (sets .entry)) (now (bases .entry)) (now (views .entry)) present) ⌝ }
 {
     let fit = fitting(
-        n,
+        config.nodes,
         q,
         numbers,
         sets,

@@ -6,6 +6,7 @@ ghost use Rattle.sets.specs.Sets.{has, _∩_, _∖_, lowest as theLowest};
 ghost use Rattle.sets.specs.Quorum.{quorum};
 ghost use Rattle.rules.specs.OneCycle.{joinerDecides};
 ghost use Rattle.rules.specs.Ballots.{ballotsOf, fitsAt};
+use rules::Config;
 use rules::Vote;
 use state::State;
 
@@ -54,7 +55,7 @@ fn from_fit(
 
 // Rule 6. The first vote that fits stands for the others: each of them that fits must be equal to it.
 pub fn joiner_decides(
-    n: usize,
+    config: Config,
     q: usize,
     numbers: &[u32; 64],
     sets: &[u64; 64],
@@ -62,9 +63,10 @@ pub fn joiner_decides(
     views: &[u64; 64],
     present: u64,
 ) -> State
-    requires { ⌜ (n ≤ 64) × (q < n) ⌝ }
-    ensures { λ r. ⌜ r ≡ joinerDecides (record { nodes = n }) q (ballotsOf (now (numbers .entry)) (now (sets .entry)) (now (bases .entry)) (now (views .entry)) present) ⌝ }
+    requires { ⌜ (config .nodes ≤ 64) × (q < config .nodes) ⌝ }
+    ensures { λ r. ⌜ r ≡ joinerDecides config q (ballotsOf (now (numbers .entry)) (now (sets .entry)) (now (bases .entry)) (now (views .entry)) present) ⌝ }
 {
+    let n = config.nodes;
     let arrived = sets::below(n, present);
     let rest = from_fit(n, q, numbers, sets, bases, views, present, arrived);
     if rest == 0 {

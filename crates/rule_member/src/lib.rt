@@ -1,85 +1,35 @@
 // Rule 5 of one member. Votes are lent as four arrays, a slot for each sender, and the mask of the slots that hold one.
 ghost use mathlib.Core.Path.{_≡_};
-ghost use mathlib.Core.Bool.{_&&_};
+ghost use mathlib.Core.Bool.{false, _&&_, cond};
 ghost use Prim.Native.Nat.{_<_, _≤_};
-ghost use Rattle.sets.specs.Sets.{those, any};
+ghost use lib.Dec.{eqb};
+ghost use Rattle.sets.specs.Sets.{has, _∩_, any, single as theSingle, lowest as theLowest};
 ghost use Rattle.sets.specs.Quorum.{quorum};
-ghost use Rattle.rules.specs.OneCycle.{memberDecides};
-ghost use Rattle.rules.specs.Ballots.{ballotsOf, alike, votedFor, agreed};
+ghost use Rattle.rules.specs.OneCycle.{wins, withOwn, rival, memberDecides};
+ghost use Rattle.rules.specs.Ballots.{ballotsOf, OneVote};
+use rules::Config;
 use rules::Vote;
 use state::Group;
 use state::Reason;
 use state::State;
 
-// Whether the vote in slot p has the group g, and its sender is of that group.
-fn is_alike(
-    numbers: &[u32; 64],
-    sets: &[u64; 64],
-    bases: &[u64; 64],
-    present: u64,
-    g: Group,
-    p: usize,
-) -> bool
+// The lowest node of m, of those in `lead` if there are any.
+fn first_of(m: u64, lead: u64) -> usize
+    ensures { λ r. ⌜ r ≡ theLowest 64 (λ x. has x (cond (eqb (m ∩ lead) 0) m (m ∩ lead))) ⌝ }
+{
+    let both = sets::intersection(m, lead);
+    sets::lowest(sets::pick(both == 0, m, both)) as usize
+}
+
+// The slots that are known to hold the vote of slot p: those of `lead`, or p alone.
+fn known(lead: u64, p: usize) -> u64
     requires { ⌜ p < 64 ⌝ }
-    ensures { λ r. ⌜ r ≡ alike (now (numbers .entry)) (now (sets .entry)) (now (bases .entry)) present g p ⌝ }
+    ensures { λ r. ⌜ r ≡ cond (has p lead) lead (theSingle p) ⌝ }
 {
-    let h = rule_steps::group_at(numbers, sets, bases, p);
-    if sets::contains(sets::intersection(g.set, present), p) {
-        rule_steps::same_group(g, h)
-    } else {
-        false
-    }
+    sets::pick(sets::contains(lead, p), lead, sets::single(p))
 }
 
-// The senders whose vote counts for a member of the group g.
-fn senders(
-    n: usize,
-    numbers: &[u32; 64],
-    sets: &[u64; 64],
-    bases: &[u64; 64],
-    present: u64,
-    g: Group,
-) -> u64
-    requires { ⌜ n ≤ 64 ⌝ }
-    ensures { λ r. ⌜ r ≡ those n (alike (now (numbers .entry)) (now (sets .entry)) (now (bases .entry)) present g) ⌝ }
-{
-    let mut m: u64 = 0;
-    let mut p: usize = 0;
-    while p < n {
-        m = sets::include(m, p, is_alike(numbers, sets, bases, present, g, p));
-        p += 1;
-    }
-    m
-}
-
-// Whether p is one of the senders and voted for the view. The slot is read first, so that no turn of a tally branches.
-fn is_for(views: &[u64; 64], among: u64, view: u64, p: usize) -> bool
-    requires { ⌜ p < 64 ⌝ }
-    ensures { λ r. ⌜ r ≡ votedFor (now (views .entry)) among view p ⌝ }
-{
-    let w = views[p];
-    if sets::contains(among, p) {
-        view == w
-    } else {
-        false
-    }
-}
-
-// Those of the senders that voted for the view.
-fn tally(n: usize, views: &[u64; 64], among: u64, view: u64) -> u64
-    requires { ⌜ n ≤ 64 ⌝ }
-    ensures { λ r. ⌜ r ≡ those n (votedFor (now (views .entry)) among view) ⌝ }
-{
-    let mut m: u64 = 0;
-    let mut p: usize = 0;
-    while p < n {
-        m = sets::include(m, p, is_for(views, among, view, p));
-        p += 1;
-    }
-    m
-}
-
-// Whether the vote just looked at makes a quorum: only one that was counted can.
+// Whether the votes just looked at make a quorum: only those that were counted can.
 fn completes(counted: bool, m: u64, base: u64) -> bool
     ensures { λ r. ⌜ r ≡ (counted && quorum m base) ⌝ }
 {
@@ -90,33 +40,81 @@ fn completes(counted: bool, m: u64, base: u64) -> bool
     }
 }
 
-// Whether some view of the senders has a quorum of the base. Each view is tallied once; senders are left at the end only where one was found.
-fn any_agreed(n: usize, views: &[u64; 64], among: u64, base: u64) -> bool
+// Whether some V has a quorum of the votes with the group. Each V is tallied once, and a sender whose V has none is left out; senders that could make a
+// quorum are left at the end only where one was found. The slots of `lead` hold one vote, which is looked at once for all of them, and first.
+fn any_agreed(
+    n: usize,
+    numbers: &[u32; 64],
+    sets: &[u64; 64],
+    bases: &[u64; 64],
+    views: &[u64; 64],
+    lead: u64,
+    present: u64,
+    group: Group,
+) -> bool
     requires { ⌜ n ≤ 64 ⌝ }
-    ensures { λ r. ⌜ r ≡ any n (agreed n (now (views .entry)) among base) ⌝ }
+    requires { ⌜ OneVote (now numbers) (now sets) (now bases) (now views) n present lead ⌝ }
+    ensures { λ r. ⌜ r ≡ any n (λ p. rival n (ballotsOf (now (numbers .entry)) (now (sets .entry)) (now (bases .entry)) (now (views .entry)) present) group (ballotsOf (now (numbers .entry)) (now (sets .entry)) (now (bases .entry)) (now (views .entry)) present p)) ⌝ }
 {
-    let mut left = sets::below(n, among);
-    'found: while left != 0 {
-        let k = sets::lowest(left) as usize;
+    let mut left = sets::below(n, sets::intersection(present, group.set));
+    'found: while sets::is_quorum(left, group.base) {
+        let k = first_of(left, lead);
         let view = views[k];
+        let v = Vote { group, view };
         let mut m: u64 = 0;
-        let mut p = k;
-        while p < n {
-            let counted = is_for(views, left, view, p);
-            m = sets::include(m, p, counted);
-            if completes(counted, m, base) {
+        let mut rest = left;
+        while rest != 0 {
+            let p = sets::lowest(rest) as usize;
+            let these = sets::intersection(known(lead, p), rest);
+            let counted = rule_steps::equals_at(numbers, sets, bases, views, present, v, p);
+            m = sets::union(m, sets::pick(counted, these, 0));
+            if completes(counted, m, group.base) {
                 break 'found;
             }
-            p += 1;
+            rest = sets::difference(rest, these);
         }
-        left = sets::difference(left, m);
+        left = sets::difference(left, sets::union(known(lead, k), m));
     }
-    left != 0
+    sets::is_quorum(left, group.base)
+}
+
+// Rule 5 of a member whose own vote has no quorum: it halts, with reason 2 if the others' votes give some V one, else with reason 1.
+pub fn halts(
+    config: Config,
+    q: usize,
+    own: Vote,
+    numbers: &[u32; 64],
+    sets: &[u64; 64],
+    bases: &[u64; 64],
+    views: &[u64; 64],
+    lead: u64,
+    present: u64,
+) -> State
+    requires { ⌜ (config .nodes ≤ 64) × (q < 64) ⌝ }
+    requires { ⌜ OneVote (now numbers) (now sets) (now bases) (now views) (config .nodes) present lead ⌝ }
+    requires { ⌜ wins (config .nodes) (withOwn q own (ballotsOf (now numbers) (now sets) (now bases) (now views) present)) own ≡ false ⌝ }
+    ensures { λ r. ⌜ r ≡ memberDecides config q own (ballotsOf (now (numbers .entry)) (now (sets .entry)) (now (bases .entry)) (now (views .entry)) present) ⌝ }
+{
+    let theirs = sets::difference(present, sets::single(q));
+    if any_agreed(
+        config.nodes,
+        numbers,
+        sets,
+        bases,
+        views,
+        lead,
+        theirs,
+        own.group,
+    ) {
+        State::Out(Reason::Outvoted)
+    } else {
+        State::Out(Reason::NoQuorum)
+    }
 }
 
 // Rule 5. The own vote counts whatever stands in the own slot, and for no view but its own.
 pub fn member_decides(
-    n: usize,
+    config: Config,
     q: usize,
     own: Vote,
     numbers: &[u32; 64],
@@ -125,22 +123,20 @@ pub fn member_decides(
     views: &[u64; 64],
     present: u64,
 ) -> State
-    requires { ⌜ (n ≤ 64) × (q < n) ⌝ }
-    ensures { λ r. ⌜ r ≡ memberDecides (record { nodes = n }) q own (ballotsOf (now (numbers .entry)) (now (sets .entry)) (now (bases .entry)) (now (views .entry)) present) ⌝ }
+    requires { ⌜ (config .nodes ≤ 64) × (q < config .nodes) ⌝ }
+    ensures { λ r. ⌜ r ≡ memberDecides config q own (ballotsOf (now (numbers .entry)) (now (sets .entry)) (now (bases .entry)) (now (views .entry)) present) ⌝ }
 {
     let g = own.group;
     let others = sets::difference(present, sets::single(q));
-    let counted = senders(n, numbers, sets, bases, others, g);
+    let alike = rule_steps::equal_votes(config.nodes, numbers, sets, bases, views, others, own);
     let mine = sets::include(
-        tally(n, views, counted, own.view),
+        sets::intersection(alike, g.set),
         q,
         sets::contains(g.set, q),
     );
     if sets::is_quorum(mine, g.base) {
         rule_steps::member_on(own, mine)
-    } else if any_agreed(n, views, counted, g.base) {
-        State::Out(Reason::Outvoted)
     } else {
-        State::Out(Reason::NoQuorum)
+        halts(config, q, own, numbers, sets, bases, views, 0, present)
     }
 }

@@ -1,5 +1,14 @@
 -- Sets of nodes. Paper 01: "A set is 64 bits, bit q for node q, nodes numbered from 0." A set is its mask, a number.
 -- Assumes nothing.
+--     has: node q is in m
+--     single: node q alone
+--     _∪_, _∩_, _∖_: in one or both; in both; in the first and not in the second
+--     those: the nodes below n of which a test holds
+--     below: the nodes of m below n
+--     subset: every node of a is in b
+--     size: how many nodes are in m
+--     lowest: the lowest node below n of which a test holds
+--     any, every: a test holds of some node below n; of every one
 use mathlib.Core.Bool.{Bool, true, false, _&&_, _||_, cond}
 use Prim.Native.Nat.{ℕ, zero, suc, _+_, _-_, _/_, _%_, _^_}
 use lib.Dec.{eqb}

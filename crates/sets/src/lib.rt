@@ -1,9 +1,8 @@
 // Sets of nodes as 64-bit masks, and quorums. Each function is the set operation of specs/.
 ghost use mathlib.Core.Path.{_≡_};
-ghost use mathlib.Core.Bool.{false, cond};
+ghost use mathlib.Core.Bool.{cond};
 ghost use Prim.Native.Nat.{_<_, _≤_};
-ghost use lib.ListN.{getD};
-ghost use Rattle.sets.specs.Sets.{has, _∪_, _∩_, _∖_, those, subset as isSubset};
+ghost use Rattle.sets.specs.Sets.{has, _∪_, _∩_, _∖_, subset as isSubset};
 ghost use Rattle.sets.specs.Sets.{
   single as theSingle,
   below as theBelow,
@@ -53,18 +52,11 @@ pub fn include(m: u64, q: usize, yes: bool) -> u64
     if yes { union(single(q), m) } else { m }
 }
 
-// The nodes below n whose entry holds.
-pub fn nodes_where(n: usize, holds: &[bool; 64]) -> u64
-    requires { ⌜ n ≤ 64 ⌝ }
-    ensures { λ r. ⌜ r ≡ those n (λ q. getD (now (holds .entry)) q false) ⌝ }
+// a if `yes`, else b: what a loop takes without a branch.
+pub fn pick(yes: bool, a: u64, b: u64) -> u64
+    ensures { λ r. ⌜ r ≡ cond yes a b ⌝ }
 {
-    let mut m: u64 = 0;
-    let mut q: usize = 0;
-    while q < n {
-        m = include(m, q, holds[q]);
-        q += 1;
-    }
-    m
+    if yes { a } else { b }
 }
 
 // The nodes of m below n.

@@ -39,7 +39,7 @@ views-of-requires c κs = search needs
 groups-of-requires : tie.Need-groups-of-requires
 groups-of-requires c κs =
     let r = ruled c in
-    (search needs, members-below (r .before .args .n) (states (r .before)) (faults (r .before)) (r .rule-one .result) (r .rule-one .ensures))
+    (search needs, members-below (r .before .args .config) (states (r .before)) (faults (r .before)) (r .rule-one .result) (r .rule-one .ensures))
 
 difference-requires-3 : tie.Need-difference-requires-3
 difference-requires-3 c κs = search needs
@@ -55,7 +55,7 @@ returns c =
     let g = grouped (c .before) in
     let v = seen g in
     let r = ruled (g .before) in
-    run-cycle (r .before .args .n) (states (r .before)) (faults (r .before)) (r .rule-one .result) _ _ _ _ _ (r .rule-one .ensures) (v .before .before .before .difference .ensures) (v .before .before .difference2 .ensures) (c .before .before .before .before .difference3 .ensures) (v .views-of .ensures) (c .decisions .ensures)
+    run-cycle (r .before .args .config) (states (r .before)) (faults (r .before)) (r .rule-one .result) _ _ _ _ _ (r .rule-one .ensures) (v .before .before .before .difference .ensures) (v .before .before .difference2 .ensures) (c .before .before .before .before .difference3 .ensures) (v .views-of .ensures) (c .decisions .ensures)
 
 pub advance-spec : {M : Type 1} → statement M
 advance-spec =

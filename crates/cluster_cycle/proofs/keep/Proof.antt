@@ -38,7 +38,7 @@ returns-3 c =
     let m = t .before .before in
     let s = m .before .before .before in
     let a = s .args in
-    keeps (a .numbers .now) (a .sets .now) (a .bases .now) (a .views .now) (a .n) (a .w) (a .lead) (a .same .now) (s .pre .1 .0) (a .q) (a .present) (a .d) _ (s .pre .0 .1) (s .pre .1 .1 .0) (sym (m .contains .ensures) ∙ not-f _ (t .before .if1 .left)) (s .pre .1 .1 .1 .0)
+    keeps (a .numbers .now) (a .sets .now) (a .bases .now) (a .views .now) (a .config) (a .w) (a .lead) (a .same .now) (s .pre .1 .0) (a .q) (a .present) (a .d) _ (s .pre .0 .1) (s .pre .1 .1 .0) (sym (m .contains .ensures) ∙ not-f _ (t .before .if1 .left)) (s .pre .1 .1 .1 .0)
     (sym (t .sends-member .ensures) ∙ not-f _ (c .before .before .if2 .left)) (m .before .before .votes-like .ensures) refl (c .before .own-tally .ensures) (c .held-by .ensures)
 
 pub keep-spec : {M : Type 1} → statement M

@@ -25,7 +25,7 @@ returns : tie.Need-returns
 returns c =
     let s = c .before .before in
     let a = s .args in
-    sym (enters-nowhere (a .numbers .now) (a .sets .now) (a .bases .now) (a .views .now) (a .n) (a .members) (a .present) (s .pre .1 .1) (a .lead) (a .same .now) (s .pre .1 .0) (a .q) _ (c .before .fitting .ensures) (c .if1 .taken))
+    sym (enters-nowhere (a .numbers .now) (a .sets .now) (a .bases .now) (a .views .now) (a .config) (a .members) (a .present) (s .pre .1 .1) (a .lead) (a .same .now) (s .pre .1 .0) (a .q) _ (c .before .fitting .ensures) (c .if1 .taken))
 
 lowest-requires : tie.Need-lowest-requires
 lowest-requires c κs = search needs
@@ -34,11 +34,11 @@ cast-first : tie.Need-cast-first
 cast-first c = search needs
 
 -- the first slot that fits is a node
-first-in : (c : tie.After-lowest) → (c .lowest .result < start c .args .n) × (has (c .lowest .result) (start c .args .present) ≡ true)
+first-in : (c : tie.After-lowest) → (c .lowest .result < start c .args .config .nodes) × (has (c .lowest .result) (start c .args .present) ≡ true)
 first-in c =
     let a = start c .args in (
-      first-fits (a .numbers .now) (a .sets .now) (a .bases .now) (a .views .now) (a .n) (a .members) (a .present) (start c .pre .1 .1) (a .lead) (a .same .now) (start c .pre .1 .0) (a .q) _ (c .before .before .fitting .ensures) (c .lowest .result) (c .before .if1 .left) (c .lowest .ensures) (start c .pre .0 .0) .0,
-      first-present (a .numbers .now) (a .sets .now) (a .bases .now) (a .views .now) (a .n) (a .members) (a .present) (start c .pre .1 .1) (a .lead) (a .same .now) (start c .pre .1 .0) (a .q) _ (c .before .before .fitting .ensures) (c .lowest .result) (c .before .if1 .left) (c .lowest .ensures) (start c .pre .0 .0),
+      first-fits (a .numbers .now) (a .sets .now) (a .bases .now) (a .views .now) (a .config) (a .members) (a .present) (start c .pre .1 .1) (a .lead) (a .same .now) (start c .pre .1 .0) (a .q) _ (c .before .before .fitting .ensures) (c .lowest .result) (c .before .if1 .left) (c .lowest .ensures) (start c .pre .0 .0) .0,
+      first-present (a .numbers .now) (a .sets .now) (a .bases .now) (a .views .now) (a .config) (a .members) (a .present) (start c .pre .1 .1) (a .lead) (a .same .now) (start c .pre .1 .0) (a .q) _ (c .before .before .fitting .ensures) (c .lowest .result) (c .before .if1 .left) (c .lowest .ensures) (start c .pre .0 .0),
     )
 
 vote-at-requires : tie.Need-vote-at-requires
@@ -58,12 +58,12 @@ member-on-requires c κs = search needs
 
 -- what it decides from the first vote that fits
 entered : (c : tie.After-subset)
-    → joinerDecides (record { nodes = start (c .before .before .before .before) .args .n }) (start (c .before .before .before .before) .args .q) (arrived (start (c .before .before .before .before)))
-    ≡ cond (c .subset .result) (memberOn (record { nodes = start (c .before .before .before .before) .args .n }) (arrived (start (c .before .before .before .before))) (c .before .before .before .vote-at .result)) Joining
+    → joinerDecides (start (c .before .before .before .before) .args .config) (start (c .before .before .before .before) .args .q) (arrived (start (c .before .before .before .before)))
+    ≡ cond (c .subset .result) (memberOn (start (c .before .before .before .before) .args .config) (arrived (start (c .before .before .before .before))) (c .before .before .before .vote-at .result)) Joining
 entered c =
     let d = c .before .before .before .before in
     let a = start d .args in
-    enters-with (a .numbers .now) (a .sets .now) (a .bases .now) (a .views .now) (a .n) (a .members) (a .present) (start d .pre .1 .1) (a .lead) (a .same .now) (start d .pre .1 .0) (a .q) _ (d .before .before .fitting .ensures) (d .lowest .result) (d .before .if1 .left) (d .lowest .ensures) (start d .pre .0 .0) _ _ _ (c .before .before .before .vote-at .ensures) (c .before .votes-like .ensures) (c .subset .ensures)
+    enters-with (a .numbers .now) (a .sets .now) (a .bases .now) (a .views .now) (a .config) (a .members) (a .present) (start d .pre .1 .1) (a .lead) (a .same .now) (start d .pre .1 .0) (a .q) _ (d .before .before .fitting .ensures) (d .lowest .result) (d .before .if1 .left) (d .lowest .ensures) (start d .pre .0 .0) _ _ _ (c .before .before .before .vote-at .ensures) (c .before .votes-like .ensures) (c .subset .ensures)
 
 returns-2 : tie.Need-returns-2
 returns-2 c =
@@ -71,7 +71,7 @@ returns-2 c =
     let d = e .before .before .before .before in
     let a = start d .args in
     c .member-on .ensures
-    ∙ member-with (a .numbers .now) (a .sets .now) (a .bases .now) (a .views .now) (a .n) (a .members) (a .present) (start d .pre .1 .1) (a .lead) (a .same .now) (start d .pre .1 .0) (d .lowest .result) _ _ _ (first-in d .0) (start d .pre .1 .1 (d .lowest .result) (first-in d .1)) (e .before .before .before .vote-at .ensures) (e .before .votes-like .ensures) (c .before .tally .ensures)
+    ∙ member-with (a .numbers .now) (a .sets .now) (a .bases .now) (a .views .now) (a .config) (a .members) (a .present) (start d .pre .1 .1) (a .lead) (a .same .now) (start d .pre .1 .0) (d .lowest .result) _ _ _ (first-in d .0) (start d .pre .1 .1 (d .lowest .result) (first-in d .1)) (e .before .before .before .vote-at .ensures) (e .before .votes-like .ensures) (c .before .tally .ensures)
     ∙ sym (entered e ∙ cond-taken _ _ _ (c .before .before .if2 .taken))
 
 returns-3 : tie.Need-returns-3

@@ -11,13 +11,13 @@ use Rattle.rule_joiner.proofs.from_fit.Statement.{statement}
 use Rattle.rule_joiner.proofs.from_fit.Tie as tie
 
 abbrev Inv-loop : tie.InvT-loop
-Inv-loop n q numbers sets bases views present among left₀ left = Dropped numbers sets bases views n q present among left
+Inv-loop n q numbers sets bases views present among left₀ left = Dropped numbers sets bases views present n q among left
 
 abbrev μ-loop : tie.MeasureT-loop
 μ-loop n q numbers sets bases views present among left₀ left = left
 
 loop-holds : tie.Need-loop-holds Inv-loop μ-loop
-loop-holds c = let a = c .args in dropped-none (a .numbers .now) (a .sets .now) (a .bases .now) (a .views .now) (a .n) (a .q) (a .present) (a .among)
+loop-holds c = let a = c .args in dropped-none (a .numbers .now) (a .sets .now) (a .bases .now) (a .views .now) (a .present) (a .n) (a .q) (a .among)
 
 lowest-requires : tie.Need-lowest-requires Inv-loop μ-loop
 lowest-requires c κs = search needs
@@ -49,7 +49,7 @@ tested : (c : tie.After-fits-node Inv-loop μ-loop) → c .fits-node .result
 tested c =
     let o = c .before .before .before in
     let a = o .before .before .before .args in
-    fits-slot (a .numbers .now) (a .sets .now) (a .bases .now) (a .views .now) (a .n) (a .q) (a .present) (o .lowest .result) (c .before .equal-votes .result) (c .before .before .vote-at .result) (next o .0) (next o .2) (c .before .before .vote-at .ensures) (c .before .equal-votes .ensures) (c .fits-node .result) (c .fits-node .ensures)
+    fits-slot (a .numbers .now) (a .sets .now) (a .bases .now) (a .views .now) (a .present) (a .n) (a .q) (o .lowest .result) (c .before .equal-votes .result) (c .before .before .vote-at .result) (next o .0) (next o .2) (c .before .before .vote-at .ensures) (c .before .equal-votes .ensures) (c .fits-node .result) (c .fits-node .ensures)
 
 returns : tie.Need-returns Inv-loop μ-loop
 returns c =
@@ -67,7 +67,7 @@ loop-less c =
     let o = t .before .before .before in
     let l = o .before .before in
     let a = l .before .args in
-    dropped-less (a .numbers .now) (a .sets .now) (a .bases .now) (a .views .now) (a .n) (a .q) (a .present) (o .lowest .result) (t .before .equal-votes .result) (t .before .before .vote-at .result) (next o .0) (next o .2) (t .before .before .vote-at .ensures) (t .before .equal-votes .ensures) (a .among) (l .loop .left) (c .difference .result) (l .loop .inv) (next o .1) (c .difference .ensures)
+    dropped-less (a .numbers .now) (a .sets .now) (a .bases .now) (a .views .now) (a .present) (a .n) (a .q) (o .lowest .result) (t .before .equal-votes .result) (t .before .before .vote-at .result) (next o .0) (next o .2) (t .before .before .vote-at .ensures) (t .before .equal-votes .ensures) (a .among) (l .loop .left) (c .difference .result) (l .loop .inv) (next o .1) (c .difference .ensures)
 
 loop-again : tie.Need-loop-again Inv-loop μ-loop
 loop-again c =
@@ -75,7 +75,7 @@ loop-again c =
     let o = t .before .before .before in
     let l = o .before .before in
     let a = l .before .args in
-    dropped-next (a .numbers .now) (a .sets .now) (a .bases .now) (a .views .now) (a .n) (a .q) (a .present) (o .lowest .result) (t .before .equal-votes .result) (t .before .before .vote-at .result) (next o .0) (next o .2) (t .before .before .vote-at .ensures) (t .before .equal-votes .ensures) (a .among) (l .loop .left) (c .difference .result) (l .loop .inv) (next o .1) (c .difference .ensures) (sym (tested t) ∙ c .before .if1 .left)
+    dropped-next (a .numbers .now) (a .sets .now) (a .bases .now) (a .views .now) (a .present) (a .n) (a .q) (o .lowest .result) (t .before .equal-votes .result) (t .before .before .vote-at .result) (next o .0) (next o .2) (t .before .before .vote-at .ensures) (t .before .equal-votes .ensures) (a .among) (l .loop .left) (c .difference .result) (l .loop .inv) (next o .1) (c .difference .ensures) (sym (tested t) ∙ c .before .if1 .left)
 
 returns-2 : tie.Need-returns-2 Inv-loop μ-loop
 returns-2 c = (c .before .loop .inv .within, (c .before .loop .inv .unfit, λ h. absurd (h (c .loop-test .left))))

@@ -1,11 +1,9 @@
 use mathlib.Core.Path.{_≡_, sym, _∙_}
-use mathlib.Core.Bool.{cond}
-use Rattle.state.specs.declared.Reason.the-variants.{NoQuorum, Outvoted}
-use Rattle.state.specs.declared.State.the-variants.{Out}
-use Rattle.rules.specs.OneCycle.{Ballots, voters, withOwn, memberDecides}
+use native.Mathlib.Omega.{arith}
+use Rattle.rules.specs.OneCycle.{Ballots, voters, wins, withOwn}
 use Rattle.rules.specs.Ballots.{ballotsOf}
-use Rattle.rules.proofs.Counting.{cond-taken, cond-left}
-use Rattle.rules.proofs.Own.{own-tally, others-agreed, decides-on, decides-out}
+use Rattle.rules.proofs.Own.{own-tally, wins-by, decides-on}
+use Rattle.rule_member.proofs.Candidates.{one-none}
 use borrow.Author.Needs.{needs}
 use Rattle.rule_member.proofs.member_decides.Statement.{statement}
 use Rattle.rule_member.proofs.member_decides.Tie as tie
@@ -22,11 +20,11 @@ single-requires c κs = search needs
 difference-requires : tie.Need-difference-requires
 difference-requires c κs = search needs
 
-senders-requires : tie.Need-senders-requires
-senders-requires c κs = search needs
+equal-votes-requires : tie.Need-equal-votes-requires
+equal-votes-requires c κs = search needs
 
-tally-requires : tie.Need-tally-requires
-tally-requires c κs = search needs
+intersection-requires : tie.Need-intersection-requires
+intersection-requires c κs = search needs
 
 contains-requires : tie.Need-contains-requires
 contains-requires c κs = search needs
@@ -40,37 +38,31 @@ is-quorum-requires c κs = search needs
 member-on-requires : tie.Need-member-on-requires
 member-on-requires c κs = search needs
 
-any-agreed-requires : tie.Need-any-agreed-requires
-any-agreed-requires c κs = search needs
-
 -- the own vote's voters
-mine : (c : tie.After-include) → c .include .result ≡ voters (start c .args .n) (withOwn (start c .args .q) (start c .args .own) (arrived (start c))) (start c .args .own)
+mine : (c : tie.After-include) → c .include .result ≡ voters (start c .args .config .nodes) (withOwn (start c .args .q) (start c .args .own) (arrived (start c))) (start c .args .own)
 mine c =
     let a = start c .args in
-    own-tally (a .numbers .now) (a .sets .now) (a .bases .now) (a .views .now) (a .n) (a .present) (a .q) (a .own) _ _ _ (c .before .before .before .before .before .single .ensures) (c .before .before .before .before .difference .ensures) (c .before .before .before .senders .ensures)
-    _ _ _ (start c .pre .1) (c .before .before .tally .ensures) (c .before .contains .ensures) (c .include .ensures)
+    let i = c .before .before in
+    own-tally (a .numbers .now) (a .sets .now) (a .bases .now) (a .views .now) (a .config .nodes) (a .present) (a .q) (a .own) _ _ (i .before .before .before .single .ensures) (i .before .before .difference .ensures) _ _ _ _ (start c .pre .1) (i .before .equal-votes .ensures) (i .intersection .ensures) (c .before .contains .ensures) (c .include .ensures)
 
--- without a quorum for it, the others' votes decide
-lost : (c : tie.After-any-agreed)
-    → memberDecides (record { nodes = start (c .before .before .before) .args .n }) (start (c .before .before .before) .args .q) (start (c .before .before .before) .args .own) (arrived (start (c .before .before .before)))
-    ≡ cond (c .any-agreed .result) (Out Outvoted) (Out NoQuorum)
-lost c =
-    let d = c .before .before .before in
-    let a = start d .args in
-    decides-out (record { nodes = a .n }) (a .q) (a .own) (arrived (start d)) _ (mine d) _ (sym (c .before .before .is-quorum .ensures) ∙ c .before .if1 .left)
-    (others-agreed (a .numbers .now) (a .sets .now) (a .bases .now) (a .views .now) (a .n) (a .present) (a .q) (a .own) _ _ _ (d .before .before .before .before .before .single .ensures) (d .before .before .before .before .difference .ensures) (d .before .before .before .senders .ensures) _ (c .any-agreed .ensures))
+-- whether it wins
+won : (c : tie.After-is-quorum) → c .is-quorum .result ≡ wins (start (c .before) .args .config .nodes) (withOwn (start (c .before) .args .q) (start (c .before) .args .own) (arrived (start (c .before)))) (start (c .before) .args .own)
+won c = let a = start (c .before) .args in wins-by (a .config .nodes) _ (withOwn (a .q) (a .own) (arrived (start (c .before)))) (a .own) _ (mine (c .before)) (c .is-quorum .ensures)
+
+halts-requires : tie.Need-halts-requires
+halts-requires c κs =
+    let s = start (c .before .before) in
+    let a = s .args in
+    ((s .pre .0, omega (arith, s .pre .0, s .pre .1)), (one-none (a .numbers .now) (a .sets .now) (a .bases .now) (a .views .now) (a .config .nodes) (a .present), sym (won (c .before)) ∙ c .if1 .left))
 
 returns : tie.Need-returns
 returns c =
-    let d = c .before .before .before in
-    let a = start d .args in
-    c .member-on .ensures ∙ sym (decides-on (record { nodes = a .n }) (a .q) (a .own) (arrived (start d)) _ (mine d) (sym (c .before .before .is-quorum .ensures) ∙ c .before .if1 .taken))
+    let i = c .before .before in
+    let a = start (i .before) .args in
+    c .member-on .ensures ∙ sym (decides-on (a .config) (a .q) (a .own) (arrived (start (i .before))) _ (mine (i .before)) (sym (won i) ∙ c .before .if1 .taken))
 
 returns-2 : tie.Need-returns-2
-returns-2 c = sym (lost (c .before) ∙ cond-taken _ _ _ (c .if2 .taken))
-
-returns-3 : tie.Need-returns-3
-returns-3 c = sym (lost (c .before) ∙ cond-left _ _ _ (c .if2 .left))
+returns-2 c = c .halts .ensures
 
 pub member-decides-spec : {M : Type 1} → statement M
 member-decides-spec =
@@ -78,13 +70,12 @@ member-decides-spec =
     (tie.spec
     single-requires
     difference-requires
-    senders-requires
-    tally-requires
+    equal-votes-requires
+    intersection-requires
     contains-requires
     include-requires
     is-quorum-requires
     member-on-requires
-    any-agreed-requires
+    halts-requires
     returns
-    returns-2
-    returns-3)
+    returns-2)
