@@ -1,4 +1,4 @@
-// What is watched of a cluster: who was disturbed in a cycle, who was steady, and whether the cycle kept the fault hypothesis.
+// What is watched of a cluster: who was disturbed in a cycle, who was steady, and whether the cycle met the premise.
 ghost use mathlib.Core.Path.{_≡_};
 ghost use mathlib.Core.Bool.{_&&_, cond};
 ghost use Prim.Native.Nat.{_<_, _≤_};
@@ -8,7 +8,7 @@ ghost use Rattle.rules.specs.Faults.{missesOther};
 ghost use Rattle.cluster_watched.specs.Watched.{missesAt};
 use state::Group;
 
-// The reference group, if it is defined, and the nodes that were disturbed in the last cycle.
+// The reference group, if it is defined (else any group, which `referenceOf` does not show), and the nodes that were disturbed in the last cycle.
 pub struct Watch {
     pub defined: bool,
     pub group: Group,
@@ -67,7 +67,7 @@ pub fn keeps(w: Watch, steady: u64) -> bool
     }
 }
 
-// The lowest steady node, whose group is the reference group after the cycle; some node where the cycle did not keep the hypothesis.
+// The lowest steady node, whose group is the reference group after the cycle; some node where the cycle did not meet the premise.
 pub fn lowest_steady(kept: bool, steady: u64) -> usize
     ensures { λ r. ⌜ r ≡ cond kept (lowest 64 (λ q. has q steady)) 0 ⌝ }
 {

@@ -1,7 +1,8 @@
--- The printed run of paper 01, byte by byte: the definition gives what the paper shows. Assumes nothing.
+-- Printed runs, byte by byte: that of paper 01, and four more whose text comes from other code (bench/plain). Assumes nothing.
 use mathlib.Core.Path.{_≡_, refl}
-use mathlib.Core.List.{List, [], _∷_, _++_}
+use mathlib.Core.List.{List, [], _∷_, _++_, map}
 use Prim.Native.Nat.{ℕ}
+use native.Mathlib.Omega.{arith}
 use lib.Count.{ones}
 use Rattle.sets.specs.Sets.{has, single, _∪_, _∩_, _∖_, those, below, size, lowest, any, every}
 use Rattle.sets.specs.Quorum.{quorum}
@@ -10,31 +11,100 @@ use Rattle.refusal.specs.Refusal.{first}
 use Rattle.state.specs.State.{nextNumber}
 use Rattle.rules.specs.OneCycle.{stopAndStart, viewOf, sameGroup, sameVote, voters, wins, newSet, groupWith, newGroup, memberDecides, joinerDecides}
 use Rattle.rules.specs.Faults.{tabulate, founding, reaches, disturbed, ruleOne, heard, ownVote, votes, decisions, cycle}
-use Rattle.rules.specs.Reference.{beginning, steady, keeps, step}
+use Rattle.rules.specs.Reference.{beginning, steady, keeps, step, haltedIn, enteredIn}
+use Rattle.rules.proofs.Failing.{equal-numbers, equal-lists, failing, all-hold}
 use Rattle.table.specs.Records.{mark, marked, startRefusal, goodEntry, masksBeyond, wrongCycle, cycleRefusal, missedOf, faultsAt}
 use Rattle.table.specs.Table.{cyclesIn, tableOf}
-use Rattle.cluster_watched.specs.Watched.{haltedIn, enteredIn}
 use Rattle.print_text.specs.Text.{ascii, glyph, digits, hexText, places, decimalText}
 use Rattle.print_run.specs.Printed.{headerLine, promiseText, groupText, masksText, fields, line, lines, refusedLine, reported, printed}
+
+-- a table, with a number to name it by (that of crates/rules/specs/Examples.antt, where it is there), and what is printed for it
+pub record Run : Type 0 where
+  pub example : ℕ
+  pub table : List ℕ
+  pub text : List ℕ
 
 abbrev start : ℕ → ℕ → List ℕ
 start n founding = mark ++ (1 ∷ n ∷ bytesOf 8 founding)
 
--- the masks stop, start, heartbeat lost and vote lost, and no entry
+-- the masks stop, start, heartbeat lost and vote lost, and the count and the entries
+abbrev recordOf : ℕ → ℕ → ℕ → ℕ → List ℕ → List ℕ
+recordOf s t h v entries = mark ++ (2 ∷ (bytesOf 8 s ++ (bytesOf 8 t ++ (bytesOf 8 h ++ (bytesOf 8 v ++ entries)))))
+
 abbrev cycleOf : ℕ → ℕ → ℕ → ℕ → List ℕ
-cycleOf s t h v = mark ++ (2 ∷ (bytesOf 8 s ++ (bytesOf 8 t ++ (bytesOf 8 h ++ (bytesOf 8 v ++ (0 ∷ []))))))
+cycleOf s t h v = recordOf s t h v (0 ∷ [])
 
--- "founding set hex 1F, N 5 and five cycles (2: heartbeat of node 4 lost in sending; 3: start node 4; 4: vote of node 0 lost in sending)"
-abbrev table : List ℕ
-table =
-    start 5 0x1f ++ (cycleOf 0 0 0 0 ++ (cycleOf 0 0 0x10 0 ++ (cycleOf 0 0x10 0 0 ++ (cycleOf 0 0 0 0x01 ++ cycleOf 0 0 0 0))))
+abbrev pub runs : List Run
+runs =
+    -- "founding set hex 1F, N 5 and five cycles (2: heartbeat of node 4 lost in sending; 3: start node 4; 4: vote of node 0 lost in sending)"
+    record {
+      example = 1;
+      table =
+          start 5 0x1f ++ (cycleOf 0 0 0 0 ++ (cycleOf 0 0 0x10 0 ++ (cycleOf 0 0x10 0 0 ++ (cycleOf 0 0 0 0x01 ++ cycleOf 0 0 0 0))));
+      text =
+          ascii "cycle promise group set halted entered\n"
+          ++ (ascii "1 kept 0 000000000000001f 0000000000000000 0000000000000000\n"
+          ++ (ascii "2 kept 1 000000000000000f 0000000000000010 0000000000000000\n"
+          ++ (ascii "3 kept 2 000000000000001f 0000000000000000 0000000000000010\n"
+          ++ (ascii "4 kept 3 000000000000001e 0000000000000000 0000000000000000\n"
+          ++ ascii "5 kept 3 000000000000001e 0000000000000001 0000000000000000\n"))));
+    }
+    -- P4, and node 1 starts and stops again: broken stays broken, and who halted is shown once
+    ∷ record {
+      example = 4;
+      table = start 3 0x7 ++ (cycleOf 0x4 0 0 0 ++ (cycleOf 0x2 0 0 0 ++ (cycleOf 0 0x2 0 0 ++ cycleOf 0x2 0 0 0)));
+      text =
+          ascii "cycle promise group set halted entered\n"
+          ++ (ascii "1 kept 1 0000000000000003 0000000000000000 0000000000000000\n"
+          ++ (ascii "2 broken - - 0000000000000001 0000000000000000\n"
+          ++ (ascii "3 broken - - 0000000000000000 0000000000000000\n"
+          ++ ascii "4 broken - - 0000000000000000 0000000000000000\n")));
+    }
+    -- P6: node 4 stopped and started in cycle 1
+    ∷ record {
+      example = 6;
+      table = start 5 0x1f ++ (cycleOf 0x10 0x10 0 0 ++ cycleOf 0 0 0 0);
+      text =
+          ascii "cycle promise group set halted entered\n"
+          ++ (ascii "1 kept 1 000000000000000f 0000000000000000 0000000000000000\n"
+          ++ ascii "2 kept 2 000000000000001f 0000000000000000 0000000000000010\n");
+    }
+    -- Nodes 0 and 1 are marked as missing the vote of node 3, which is out: broken, and after it node 3 enters and node 2 halts.
+    ∷ record {
+      example = 13;
+      table =
+          start 4 0x7 ++ (recordOf 0 0 0 0 (2 ∷ 0x80 ∷ (bytesOf 8 0x8 ++ (0x81 ∷ bytesOf 8 0x8))) ++ (cycleOf 0 0x8 0 0 ++ cycleOf 0 0 0x4 0));
+      text =
+          ascii "cycle promise group set halted entered\n"
+          ++ (ascii "1 broken - - 0000000000000000 0000000000000000\n"
+          ++ (ascii "2 broken - - 0000000000000000 0000000000000008\n"
+          ++ ascii "3 broken - - 0000000000000004 0000000000000000\n"));
+    }
+    -- the first two cycles of P1, and one that starts node 40
+    ∷ record {
+      example = 99;
+      table = start 5 0x1f ++ (cycleOf 0 0 0 0 ++ (cycleOf 0 0 0x10 0 ++ cycleOf 0 0x10000000000 0 0));
+      text =
+          ascii "cycle promise group set halted entered\n"
+          ++ (ascii "1 kept 0 000000000000001f 0000000000000000 0000000000000000\n"
+          ++ (ascii "2 kept 1 000000000000000f 0000000000000010 0000000000000000\n"
+          ++ ascii "refused 13\n"));
+    }
+    ∷ []
 
-run-printed : printed table
-    ≡ ascii "cycle promise group set halted entered\n"
-    ++ (ascii "1 kept 0 000000000000001f 0000000000000000 0000000000000000\n"
-    ++ (ascii "2 kept 1 000000000000000f 0000000000000010 0000000000000000\n"
-    ++ (ascii "3 kept 2 000000000000001f 0000000000000000 0000000000000010\n"
-    ++ (ascii "4 kept 3 000000000000001e 0000000000000000 0000000000000000\n"
-    ++ ascii "5 kept 3 000000000000001e 0000000000000001 0000000000000000\n"))))
-unfolding ones has single _∪_ _∩_ _∖_ those below size lowest any every quorum bytesOf numberAt first nextNumber stopAndStart viewOf sameGroup sameVote voters wins newSet groupWith newGroup memberDecides joinerDecides tabulate founding reaches disturbed ruleOne heard ownVote votes decisions cycle beginning steady keeps step marked startRefusal goodEntry masksBeyond wrongCycle cycleRefusal missedOf faultsAt cyclesIn tableOf haltedIn enteredIn ascii glyph digits hexText places decimalText headerLine promiseText groupText masksText fields line lines refusedLine reported printed
-run-printed = refl
+abbrev number : Run → ℕ
+number r = r .example
+
+abbrev given : Run → List ℕ
+given r = printed (r .table)
+
+abbrev text : Run → List ℕ
+text r = r .text
+
+-- no run is printed otherwise, by computation; where one is, the error says at which number `failed` is not 0
+none-fails : (failed : ℕ) → failed ≡ failing Run (List ℕ) number given text (equal-lists ℕ equal-numbers) runs → failed ≡ 0
+unfolding ones has single _∪_ _∩_ _∖_ those below size lowest any every quorum bytesOf numberAt first nextNumber stopAndStart viewOf sameGroup sameVote voters wins newSet groupWith newGroup memberDecides joinerDecides tabulate founding reaches disturbed ruleOne heard ownVote votes decisions cycle beginning steady keeps step haltedIn enteredIn marked startRefusal goodEntry masksBeyond wrongCycle cycleRefusal missedOf faultsAt cyclesIn tableOf ascii glyph digits hexText places decimalText headerLine promiseText groupText masksText fields line lines refusedLine reported printed
+none-fails failed e = omega arith
+
+pub runs-printed : map given runs ≡ map text runs
+runs-printed = all-hold Run (List ℕ) number given text (equal-lists ℕ equal-numbers) runs (none-fails _ refl)

@@ -10,9 +10,8 @@ use Rattle.state.specs.declared.Group.{Group}
 use Rattle.rules.specs.declared.Faults.{Faults}
 use Rattle.rules.specs.declared.Config.{Config}
 use Rattle.rules.specs.OneCycle.{ofNodes}
-use Rattle.rules.specs.Reference.{Cluster, beginning, keeps, step}
+use Rattle.rules.specs.Reference.{Cluster, beginning, keeps, step, haltedIn, enteredIn}
 use Rattle.table.specs.Table.{Cycles, tableOf}
-use Rattle.cluster_watched.specs.Watched.{haltedIn, enteredIn}
 
 -- "The header line is always printed."
 unfoldable pub headerLine : List ℕ

@@ -1,12 +1,14 @@
--- Counting of votes: a tally over slots, the own vote beside the slots, and the one vote that fits. Assumes nothing.
+-- Tests that code makes, and that a quorum has a node. Assumes nothing.
 use mathlib.Core.Path.{_≡_, refl, sym, ap, _∙_}
 use mathlib.Core.Bool.{Bool, true, false, _&&_, cond, false≢true}
 use Prim.Native.Nat.{ℕ, _<_}
-use Rattle.sets.specs.Sets.{has, single, _∪_, _∩_, any}
+use Rattle.sets.specs.Sets.{has, any}
 use Rattle.sets.specs.Quorum.{quorum}
-use Rattle.sets.proofs.Membership.{_⊆_, has-inter, has-none, some-node}
+use Rattle.sets.proofs.Membership.{_⊆_, has-none, some-node}
 use Rattle.sets.proofs.Nodes.{any-e}
-use Rattle.sets.proofs.Quorum.{quorum-meet}
+use Rattle.sets.proofs.Quorum.{quorum-meet, quorum-mono}
+use Rattle.rules.specs.declared.Vote.{Vote}
+use Rattle.rules.specs.OneCycle.{Ballots, voters, wins}
 
 -- ---- tests
 
@@ -28,14 +30,6 @@ cond-taken r x y e = rw e
 pub cond-left {ℓ} : {A : Type ℓ} (r : Bool) (x y : A) → r ≡ false → cond r x y ≡ y
 cond-left r x y e = rw e
 
--- one test of the nodes in both sets for two tests
-pub in-both : (p a b m : ℕ) (r x : Bool) → m ≡ a ∩ b → r ≡ has p m → (has p a && (has p b && x)) ≡ (r && x)
-in-both p a b m r x e f = assoc (has p a) (has p b) ∙ ap (λ (y : Bool). y && x) (sym (f ∙ ap (has p) e ∙ has-inter p a b))
-  where
-    assoc : (y z : Bool) → (y && (z && x)) ≡ ((y && z) && x)
-    assoc true z = refl
-    assoc false z = refl
-
 pub any-none : (n : ℕ) (f : ℕ → Bool) → ((q : ℕ) → q < n → f q ≡ false) → any n f ≡ false
 any-none n f h = no (any n f) (λ e. let w = any-e n f e in false≢true (sym (h (w .0) (w .1)) ∙ w .2))
 
@@ -47,15 +41,17 @@ quorum-none B = no (quorum 0 B) (λ e. let w = quorum-meet 0 0 B none-in none-in
     none-in : _⊆_ 0 B
     none-in q h = absurd (false≢true (sym (has-none q) ∙ h))
 
-quorum-some : (S B : ℕ) → quorum S B ≡ true → S ≡ 0 → ⊥
+pub quorum-some : (S B : ℕ) → quorum S B ≡ true → S ≡ 0 → ⊥
 quorum-some S B e z = false≢true (sym (quorum-none B) ∙ ap (λ (x : ℕ). quorum x B) (sym z) ∙ e)
 
 pub quorum-node : (S B : ℕ) → quorum S B ≡ true → (q : ℕ) × (has q S ≡ true)
 quorum-node S B e = some-node S (quorum-some S B e)
 
--- ---- the tally of one candidate
+-- so a vote that has one was cast, and more voters have it too
+pub wins-node : (N : ℕ) (b : Ballots) (v : Vote) → wins N b v ≡ true → (q : ℕ) × (has q (voters N b v) ≡ true)
+unfolding wins
+wins-node N b v e = quorum-node (voters N b v) _ e
 
--- a turn that does not complete a quorum leaves none
-pub none-yet : (p s m B : ℕ) (counted q : Bool) → quorum s B ≡ false → m ≡ cond counted (single p ∪ s) s → q ≡ (counted && quorum m B) → q ≡ false → quorum m B ≡ false
-none-yet p s m B true q h e k f = sym k ∙ f
-none-yet p s m B false q h e k f = ap (λ (x : ℕ). quorum x B) e ∙ h
+pub wins-mono : (N : ℕ) (a b : Ballots) (v : Vote) → _⊆_ (voters N a v) (voters N b v) → wins N a v ≡ true → wins N b v ≡ true
+unfolding wins
+wins-mono N a b v s e = quorum-mono (voters N a v) (voters N b v) _ s e

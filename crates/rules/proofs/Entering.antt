@@ -12,10 +12,10 @@ use Rattle.sets.proofs.Nodes.{lowest-in, lowest-least, every-e}
 use Rattle.state.specs.declared.State.the-variants.{Joining}
 use Rattle.rules.specs.declared.Vote.{Vote}
 use Rattle.rules.specs.declared.Config.{Config}
-use Rattle.rules.specs.OneCycle.{Ballots, voters, wins, memberOn, fits, enterOn, joinerDecides}
+use Rattle.rules.specs.OneCycle.{Ballots, wins, memberOn, fits, enterOn, joinerDecides}
 use Rattle.rules.specs.Ballots.{ballotsOf, fitsAt, agreesAt}
 use Rattle.rules.proofs.Votes.{voters-is}
-use Rattle.rules.proofs.Counting.{no, quorum-node}
+use Rattle.rules.proofs.Counting.{no, wins-node}
 use Rattle.rules.proofs.Slots.{slot-empty}
 
 -- whether a vote fits, from the test r that the node comes in by it
@@ -43,12 +43,12 @@ every-no n p f h e = no (every n f) (λ k. false≢true (sym e ∙ every-e n p f
 module _ (C : Config) (q : ℕ) (b : Ballots) where
   -- a vote that wins was cast by a sender, so that its slot fits
   pub enters-none : ((p : ℕ) → p < C .nodes → fitsAt (C .nodes) q b p ≡ false) → joinerDecides C q b ≡ Joining
-  unfolding joinerDecides wins
+  unfolding joinerDecides
   enters-none f = go (b (lowest (C .nodes) (fitsAt (C .nodes) q b)))
     where
       unfit : (v : Vote) → fits (C .nodes) q b (some v) ≡ true → ⊥
       unfit v e =
-          let x = quorum-node (voters (C .nodes) b v) (v .group .base) (and-r (has q (v .view) && not (has q (v .group .set))) (wins (C .nodes) b v) e) in
+          let x = wins-node (C .nodes) b v (and-r (has q (v .view) && not (has q (v .group .set))) (wins (C .nodes) b v) e) in
           let w = voters-is (C .nodes) b v (x .0) (x .1) in
           false≢true (sym (f (x .0) (w .0)) ∙ ap (fits (C .nodes) q b) (w .1) ∙ e)
 

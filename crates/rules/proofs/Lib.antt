@@ -1,3 +1,5 @@
+pub mod Failing
+mod Worked
 pub mod Rows
 pub mod Arrays
 pub mod Votes
@@ -7,4 +9,3 @@ pub mod Counting
 pub mod Slots
 pub mod Own
 pub mod Entering
-mod Worked

@@ -5,22 +5,21 @@ use mathlib.Core.List.{List}
 use mathlib.Core.Option.{Option, none, some}
 use Prim.Native.Nat.{ℕ, _<_}
 use lib.Dec.{eqb, ltb}
-use Rattle.sets.specs.Sets.{has, single, _∪_, _∖_, those, any}
+use Rattle.sets.specs.Sets.{has, single, _∪_, _∩_, _∖_, any}
 use Rattle.sets.specs.Quorum.{quorum}
 use Rattle.sets.proofs.Booleans.{both, eqb-self, eqb-true, ltb-true, and-l, and-r, and-i}
 use Rattle.sets.proofs.Membership.{_⊆_, has-union, has-single, set-ext}
 use Rattle.sets.proofs.Nodes.{has-those, any-i, any-e}
-use Rattle.sets.proofs.Quorum.{quorum-mono}
 use Rattle.state.specs.declared.Reason.the-variants.{NoQuorum, Outvoted}
 use Rattle.state.specs.declared.State.the-variants.{Out, Member}
 use Rattle.rules.specs.declared.Vote.{Vote}
 use Rattle.rules.specs.declared.Config.{Config}
-use Rattle.rules.specs.OneCycle.{Ballots, sameGroup, is, voters, wins, newSet, groupWith, newGroup, withOwn, rival, memberDecides}
-use Rattle.rules.specs.Ballots.{ballotsOf, alike, votedFor, agreed}
+use Rattle.rules.specs.OneCycle.{Ballots, sendsMember, sameGroup, is, voters, wins, newSet, groupWith, newGroup, withOwn, rival, memberDecides}
+use Rattle.rules.specs.Ballots.{ballotsOf, equalTo}
 use Rattle.rules.proofs.Votes.{vote-self, voters-is, voters-sub, in-voters}
 use Rattle.rules.proofs.States.{none-some, some-inj}
-use Rattle.rules.proofs.Counting.{quorum-node}
-use Rattle.rules.proofs.Slots.{without, slots-without, voters-tally, rival-agreed}
+use Rattle.rules.proofs.Counting.{wins-node, wins-mono}
+use Rattle.rules.proofs.Slots.{without, slots-without, equal-voters}
 
 has-voters : (x N : ℕ) (b : Ballots) (v : Vote) → has x (voters N b v) ≡ (ltb x N && (has x (v .group .set) && is v (b x)))
 unfolding voters
@@ -72,7 +71,6 @@ module _ (N q : ℕ) (own : Vote) (b : Ballots) where
   -- where the own vote has no quorum, the others alone say whether another vote has one
   own-rivals : wins N (withOwn q own b) own ≡ false
       → any N (λ p. rival N (withOwn q own b) (own .group) (withOwn q own b p)) ≡ any N (λ p. rival N (without q b) (own .group) (without q b p))
-  unfolding wins
   own-rivals lost = both (any N f) (any N h) (λ e. let w = any-e N f e in to (withOwn q own b (w .0)) (w .2)) (λ e. let w = any-e N h e in from (w .0) (w .1) (without q b (w .0)) refl (w .2))
     where
       f : ℕ → Bool
@@ -97,8 +95,8 @@ module _ (N q : ℕ) (own : Vote) (b : Ballots) where
           let n : own ≡ v → ⊥ = λ k. false≢true (sym lost ∙ ap (λ (x : Vote). wins N (withOwn q own b) x) k ∙ enough) in
           let part : _⊆_ (voters N (withOwn q own b) v) (voters N (without q b) v) =
           λ x m. let w = voters-is N (withOwn q own b) v x m in in-voters N (without q b) v x (w .0) (voters-sub N (withOwn q own b) v x m) (other v n x (eqb x q) refl (w .1)) in
-          let still : wins N (without q b) v ≡ true = quorum-mono (voters N (withOwn q own b) v) (voters N (without q b) v) (v .group .base) part enough in
-          let x = quorum-node (voters N (without q b) v) (v .group .base) still in
+          let still : wins N (without q b) v ≡ true = wins-mono N (withOwn q own b) (without q b) v part enough in
+          let x = wins-node N (without q b) v still in
           let w = voters-is N (without q b) v (x .0) (x .1) in
           any-i N (x .0) h (w .0) (ap (rival N (without q b) (own .group)) (w .1)
           ∙ and-i (sameGroup (own .group) (v .group)) (wins N (without q b) v) (and-l (sameGroup (own .group) (v .group)) (wins N (withOwn q own b) v) e) still)
@@ -109,40 +107,55 @@ module _ (N q : ℕ) (own : Vote) (b : Ballots) where
           let part : _⊆_ (voters N (without q b) v) (voters N (withOwn q own b) v) =
           λ x m. let w = voters-is N (without q b) v x m in in-voters N (withOwn q own b) v x (w .0) (voters-sub N (without q b) v x m) (back v x (eqb x q) refl (w .1)) in
           let enough : wins N (withOwn q own b) v ≡ true =
-          quorum-mono (voters N (without q b) v) (voters N (withOwn q own b) v) (v .group .base) part (and-r (sameGroup (own .group) (v .group)) (wins N (without q b) v) e) in
+          wins-mono N (without q b) (withOwn q own b) v part (and-r (sameGroup (own .group) (v .group)) (wins N (without q b) v) e) in
           any-i N p f l (ap (rival N (withOwn q own b) (own .group)) (back v p (eqb p q) refl k)
           ∙ and-i (sameGroup (own .group) (v .group)) (wins N (withOwn q own b) v) (and-l (sameGroup (own .group) (v .group)) (wins N (without q b) v) e) enough)
 
 -- ---- the same from the votes in slots
 
-module _ (numbers sets bases views : List ℕ) (N present q : ℕ) (own : Vote) where
-  -- d holds the slots of the others, A those of them whose vote has the own group
-  module _ (s d A : ℕ) (es : s ≡ single q) (ed : d ≡ present ∖ s) (ea : A ≡ those N (alike numbers sets bases d (own .group))) where
-    others : ballotsOf numbers sets bases views d ≡ without q (ballotsOf numbers sets bases views present)
-    others = ap (ballotsOf numbers sets bases views) (ed ∙ ap (λ (x : ℕ). present ∖ x) es) ∙ slots-without numbers sets bases views present q
+module _ (numbers sets bases views : List ℕ) (N present q : ℕ) (own : Vote) (s d : ℕ) (es : s ≡ single q) (ed : d ≡ present ∖ s) where
+  -- d holds the slots of the others
+  pub others : ballotsOf numbers sets bases views d ≡ without q (ballotsOf numbers sets bases views present)
+  others = ap (ballotsOf numbers sets bases views) (ed ∙ ap (λ (x : ℕ). present ∖ x) es) ∙ slots-without numbers sets bases views present q
 
-    pub own-tally : (t m : ℕ) (r : Bool) → q < N → t ≡ those N (votedFor views A (own .view)) → r ≡ has q (own .group .set) → m ≡ cond r (single q ∪ t) t
-        → m ≡ voters N (withOwn q own (ballotsOf numbers sets bases views present)) own
-    own-tally t m r l et er em =
-        let theirs : t ≡ voters N (without q (ballotsOf numbers sets bases views present)) own =
-        et ∙ ap (λ (x : ℕ). those N (votedFor views x (own .view))) ea ∙ sym (voters-tally numbers sets bases views N d own) ∙ ap (λ (b : Ballots). voters N b own) others in
-        em ∙ ap₂ (λ (x : Bool) (y : ℕ). cond x (single q ∪ y) y) er theirs ∙ sym (own-voters N q own (ballotsOf numbers sets bases views present) l)
+  -- e, those of them that cast the own vote
+  pub own-tally : (e t m : ℕ) (r : Bool) → q < N → e ≡ equalTo numbers sets bases views N d own → t ≡ e ∩ own .group .set → r ≡ has q (own .group .set) → m ≡ cond r (single q ∪ t) t
+      → m ≡ voters N (withOwn q own (ballotsOf numbers sets bases views present)) own
+  own-tally e t m r l ee et er em =
+      let theirs : t ≡ voters N (without q (ballotsOf numbers sets bases views present)) own =
+      et ∙ equal-voters N e (ballotsOf numbers sets bases views d) own ee ∙ ap (λ (b : Ballots). voters N b own) others in
+      em ∙ ap₂ (λ (x : Bool) (y : ℕ). cond x (single q ∪ y) y) er theirs ∙ sym (own-voters N q own (ballotsOf numbers sets bases views present) l)
 
-    pub others-agreed : (r : Bool) → r ≡ any N (agreed N views A (own .group .base))
-        → r ≡ any N (λ p. rival N (without q (ballotsOf numbers sets bases views present)) (own .group) (without q (ballotsOf numbers sets bases views present) p))
-    others-agreed r e =
-        e ∙ ap (λ (x : ℕ). any N (agreed N views x (own .group .base))) ea ∙ sym (rival-agreed numbers sets bases views N d (own .group))
-        ∙ ap (λ (b : Ballots). any N (λ p. rival N b (own .group) (b p))) others
+-- ---- what a member decides
 
--- ---- what a member decides, from its own vote's voters m
+-- a vote wins if its voters m are a quorum
+pub wins-by : (N m : ℕ) (b : Ballots) (v : Vote) (r : Bool) → m ≡ voters N b v → r ≡ quorum m (v .group .base) → r ≡ wins N b v
+unfolding wins
+wins-by N m b v r e f = f ∙ ap (λ (x : ℕ). quorum x (v .group .base)) e
 
-module _ (C : Config) (q : ℕ) (own : Vote) (b : Ballots) (m : ℕ) (e : m ≡ voters (C .nodes) (withOwn q own b) own) where
-  pub decides-on : quorum m (own .group .base) ≡ true → memberDecides C q own b ≡ Member (groupWith own (m ∪ (own .view ∖ own .group .set)))
-  unfolding memberDecides wins newGroup newSet
-  decides-on w = rw (sym e, w)
+module _ (C : Config) (q : ℕ) (own : Vote) (b : Ballots) where
+  pub decides-on : (m : ℕ) → m ≡ voters (C .nodes) (withOwn q own b) own → wins (C .nodes) (withOwn q own b) own ≡ true
+      → memberDecides C q own b ≡ Member (groupWith own (m ∪ (own .view ∖ own .group .set)))
+  unfolding memberDecides newGroup newSet
+  decides-on m e w = rw (w, sym e)
 
-  pub decides-out : (r : Bool) → quorum m (own .group .base) ≡ false → r ≡ any (C .nodes) (λ p. rival (C .nodes) (without q b) (own .group) (without q b p))
+  -- reason 2 if another vote has a quorum, else reason 1
+  pub decides-out : (r : Bool) → wins (C .nodes) (withOwn q own b) own ≡ false → r ≡ any (C .nodes) (λ p. rival (C .nodes) (without q b) (own .group) (without q b p))
       → memberDecides C q own b ≡ cond r (Out Outvoted) (Out NoQuorum)
-  unfolding memberDecides wins
-  decides-out r w k =
-      rw (sym e, w) (ap (λ (x : Bool). cond x (Out Outvoted) (Out NoQuorum)) (own-rivals (C .nodes) q own b (ap (λ (x : ℕ). quorum x (own .group .base)) (sym e) ∙ w) ∙ sym k))
+  unfolding memberDecides
+  decides-out r w e = rw w (ap (λ (x : Bool). cond x (Out Outvoted) (Out NoQuorum)) (own-rivals (C .nodes) q own b w ∙ sym e))
+
+  -- a member stays only on a vote that wins
+  pub stays-wins : sendsMember (memberDecides C q own b) ≡ true → wins (C .nodes) (withOwn q own b) own ≡ true
+  stays-wins e = go (wins (C .nodes) (withOwn q own b) own) refl
+    where
+      another : Bool
+      another = any (C .nodes) (λ p. rival (C .nodes) (without q b) (own .group) (without q b p))
+
+      out : (r : Bool) → sendsMember (cond r (Out Outvoted) (Out NoQuorum)) ≡ false
+      out true = refl
+      out false = refl
+
+      go : (r : Bool) → wins (C .nodes) (withOwn q own b) own ≡ r → r ≡ true
+      go true w = refl
+      go false w = sym (out another) ∙ ap sendsMember (sym (decides-out another w refl)) ∙ e

@@ -7,7 +7,6 @@ use Prim.Native.Nat.{ℕ, _≤_, _<_}
 use native.Mathlib.Omega.{arith}
 use lib.Dec.{eqb, ltb}
 use Rattle.sets.specs.Sets.{has, single, _∪_, _∩_, _∖_, below}
-use Rattle.sets.specs.Quorum.{quorum}
 use Rattle.sets.proofs.Booleans.{bool, and-l, and-r, and-i, or-e, or-l, or-r, not-e, not-i, eqb-self, eqb-true, ltb-lt, ltb-le}
 use Rattle.sets.proofs.Membership.{_⊆_, has-union, has-inter, has-diff, has-single, set-ext}
 use Rattle.sets.proofs.Nodes.{has-below, in-those, of-those, those-ext}
@@ -123,6 +122,17 @@ in-voters N b v q h m e = in-those q N (λ p. has p (v .group .set) && is v (b p
 
 -- ---- the new group of a vote
 
+pub in-new : (N : ℕ) (b : Ballots) (v : Vote) (x : ℕ) → has x (newGroup N b v .set) ≡ true
+    → (has x (voters N b v) ≡ true) ⊎ ((has x (v .view) ≡ true) × (has x (v .group .set) ≡ false))
+unfolding newGroup newSet groupWith
+in-new N b v x h = go (or-e (has x (voters N b v)) (has x (v .view ∖ v .group .set)) (sym (has-union x (voters N b v) (v .view ∖ v .group .set)) ∙ h))
+  where
+    go : (has x (voters N b v) ≡ true) ⊎ (has x (v .view ∖ v .group .set) ≡ true) → (has x (voters N b v) ≡ true) ⊎ ((has x (v .view) ≡ true) × (has x (v .group .set) ≡ false))
+    go (inl k) = inl k
+    go (inr k) =
+        let l : (has x (v .view) && not (has x (v .group .set))) ≡ true = sym (has-diff x (v .view) (v .group .set)) ∙ k in
+        inr (and-l (has x (v .view)) (not (has x (v .group .set))) l, not-e (has x (v .group .set)) (and-r (has x (v .view)) (not (has x (v .group .set))) l))
+
 -- the base does not depend on the box
 pub base-is : (N : ℕ) (b : Ballots) (v : Vote) → newGroup N b v .base ≡ v .view ∪ v .group .set
 unfolding newGroup newSet groupWith
@@ -144,17 +154,6 @@ pub new-inside : (N : ℕ) (b : Ballots) (v : Vote) → _⊆_ (newGroup N b v .s
 unfolding newGroup newSet groupWith
 new-inside N b v x h = has-union x (newSet N b v) (v .group .set) ∙ or-l (has x (newSet N b v)) (has x (v .group .set)) h
 
-pub in-new : (N : ℕ) (b : Ballots) (v : Vote) (x : ℕ) → has x (newGroup N b v .set) ≡ true
-    → (has x (voters N b v) ≡ true) ⊎ ((has x (v .view) ≡ true) × (has x (v .group .set) ≡ false))
-unfolding newGroup newSet groupWith
-in-new N b v x h = go (or-e (has x (voters N b v)) (has x (v .view ∖ v .group .set)) (sym (has-union x (voters N b v) (v .view ∖ v .group .set)) ∙ h))
-  where
-    go : (has x (voters N b v) ≡ true) ⊎ (has x (v .view ∖ v .group .set) ≡ true) → (has x (voters N b v) ≡ true) ⊎ ((has x (v .view) ≡ true) × (has x (v .group .set) ≡ false))
-    go (inl k) = inl k
-    go (inr k) =
-        let l : (has x (v .view) && not (has x (v .group .set))) ≡ true = sym (has-diff x (v .view) (v .group .set)) ∙ k in
-        inr (and-l (has x (v .view)) (not (has x (v .group .set))) l, not-e (has x (v .group .set)) (and-r (has x (v .view)) (not (has x (v .group .set))) l))
-
 pub new-in : (N : ℕ) (b : Ballots) (v : Vote) (x : ℕ) → has x (v .view) ≡ true → has x (v .group .set) ≡ false → has x (newGroup N b v .set) ≡ true
 unfolding newGroup newSet groupWith
 new-in N b v x s m =
@@ -169,8 +168,8 @@ voters-ext N a b v e = those-ext N (λ p. has p (v .group .set) && is v (a p)) (
 
 pub wins-ext : (N : ℕ) (a b : Ballots) (v : Vote) → ((p : ℕ) → p < N → a p ≡ b p) → wins N a v ≡ wins N b v
 unfolding wins
-wins-ext N a b v e = ap (λ (S : ℕ). quorum S (v .group .base)) (voters-ext N a b v e)
+wins-ext N a b v e = rw (voters-ext N a b v e)
 
 pub group-ext : (N : ℕ) (a b : Ballots) (v : Vote) → ((p : ℕ) → p < N → a p ≡ b p) → newGroup N a v ≡ newGroup N b v
 unfolding newGroup newSet
-group-ext N a b v e = ap (λ (S : ℕ). groupWith v (S ∪ (v .view ∖ v .group .set))) (voters-ext N a b v e)
+group-ext N a b v e = rw (voters-ext N a b v e)

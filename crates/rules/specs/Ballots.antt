@@ -1,16 +1,15 @@
 -- Votes as the code holds them: four arrays, one slot per sender, and the mask of the slots that hold a vote.
 -- Assumes nothing.
-use mathlib.Core.Bool.{Bool, not, _&&_, _||_, cond}
+use mathlib.Core.Path.{_≡_}
+use mathlib.Core.Bool.{Bool, true, not, _||_, cond}
 use mathlib.Core.List.{List}
 use mathlib.Core.Option.{none, some}
-use Prim.Native.Nat.{ℕ}
-use lib.Dec.{eqb}
+use Prim.Native.Nat.{ℕ, _<_}
 use lib.ListN.{getD}
 use Rattle.sets.specs.Sets.{has, those}
-use Rattle.sets.specs.Quorum.{quorum}
 use Rattle.state.specs.declared.Group.{Group}
 use Rattle.rules.specs.declared.Vote.{Vote}
-use Rattle.rules.specs.OneCycle.{Ballots, sameGroup, is, fits}
+use Rattle.rules.specs.OneCycle.{Ballots, is, fits}
 
 -- the group and the vote in slot p
 abbrev pub groupAt : List ℕ → List ℕ → List ℕ → ℕ → Group
@@ -26,17 +25,11 @@ ballotsOf numbers sets bases views present p = cond (has p present) (some (voteA
 abbrev pub equalTo : List ℕ → List ℕ → List ℕ → List ℕ → ℕ → ℕ → Vote → ℕ
 equalTo numbers sets bases views N present v = those N (λ p. is v (ballotsOf numbers sets bases views present p))
 
--- whether p is in the M of g, and its vote has the G, M and B of g
-abbrev pub alike : List ℕ → List ℕ → List ℕ → ℕ → Group → ℕ → Bool
-alike numbers sets bases present g p = has p (g .set) && (has p present && sameGroup g (groupAt numbers sets bases p))
-
--- whether p is one of the senders A, and its V is the given one
-abbrev pub votedFor : List ℕ → ℕ → ℕ → ℕ → Bool
-votedFor views A view p = has p A && eqb view (getD views p 0)
-
--- whether the V of the sender k, one of A, has a quorum of B among them
-abbrev pub agreed : ℕ → List ℕ → ℕ → ℕ → ℕ → Bool
-agreed N views A B k = has k A && quorum (those N (votedFor views A (getD views k 0))) B
+-- the slots of m below N that hold a vote hold one and the same
+abbrev pub OneVote : List ℕ → List ℕ → List ℕ → List ℕ → ℕ → ℕ → ℕ → Type 0
+OneVote numbers sets bases views N present m =
+    (p x : ℕ) → p < N → x < N → has p present ≡ true → has x present ≡ true → has p m ≡ true → has x m ≡ true
+    → voteAt numbers sets bases views p ≡ voteAt numbers sets bases views x
 
 -- whether the vote in slot p fits the joining node q, and whether it leaves v the only one
 abbrev pub fitsAt : ℕ → ℕ → Ballots → ℕ → Bool

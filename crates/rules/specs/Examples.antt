@@ -1,26 +1,34 @@
--- Paper 01, "Proved examples": P1 to P10 in one table, with the mistakes that P1 to P10 do not show; every state and the reference group after every cycle.
+-- Paper 01, "Proved examples": P1 to P10 in one table, with the mistakes that P1 to P10 do not show; all that is printed of every cycle, and every state
+-- after it. Then what a joining node makes of given votes.
 -- Assumes nothing.
-use mathlib.Core.Bool.{cond}
+use mathlib.Core.Bool.{Bool, true, false, cond}
 use mathlib.Core.List.{List, [], _∷_, _++_}
 use mathlib.Core.Option.{Option, none, some}
 use Prim.Native.Nat.{ℕ, zero, suc}
 use lib.Dec.{ltb, eqb}
+use lib.ListN.{getD}
 use Rattle.state.specs.declared.Reason.the-variants.{Stopped, NoQuorum, Outvoted}
 use Rattle.state.specs.declared.Group.{Group}
 use Rattle.state.specs.declared.State.{State}
 use Rattle.state.specs.declared.State.the-variants.{Out, Joining, Member}
+use Rattle.rules.specs.declared.Vote.{Vote}
 use Rattle.rules.specs.declared.Faults.{Faults}
 use Rattle.rules.specs.declared.Config.{Config}
+use Rattle.rules.specs.OneCycle.{ofNodes, joinerDecides}
 use Rattle.rules.specs.Faults.{Row, tabulate}
-use Rattle.rules.specs.Reference.{Cluster, beginning, step}
+use Rattle.rules.specs.Reference.{Cluster, beginning, keeps, step, haltedIn, enteredIn}
 
--- what is seen after a cycle
+-- what is seen of a cycle: whether it met the premise, the reference group after it, who halted and who entered, and the states after it
 pub record Seen : Type 0 where
-  pub row : Row
+  pub kept : Bool
   pub reference : Option Group
+  pub halted : ℕ
+  pub entered : ℕ
+  pub row : Row
 
--- N nodes, the founding set and the group number that it begins with, the cycles, and what is to be seen after each
+-- the example's own number, n for Pn; N nodes, the founding set and the group number that it begins with, the cycles, and what is to be seen of each
 pub record Example : Type 0 where
+  pub example : ℕ
   pub config : Config
   pub founders : ℕ
   pub number : ℕ
@@ -29,23 +37,25 @@ pub record Example : Type 0 where
 
 unfoldable pub watch : Config → Cluster → List Faults → List Seen
 watch C k [] = []
-watch C k (c ∷ cs) = let s = step C k c in record { row = s .row; reference = s .reference } ∷ watch C s cs
+watch C k (c ∷ cs) =
+    let s = step C k c in
+    record { kept = keeps C k c; reference = s .reference; halted = haltedIn C c (k .row); entered = enteredIn C c (k .row); row = s .row } ∷ watch C s cs
 
 unfoldable pub seen : Example → List Seen
 seen e = watch (e .config) (beginning (e .config) (e .number) (e .founders)) (e .cycles)
 
 -- ---- words for the table
 
-abbrev nodes : ℕ → Config
-nodes n = record { nodes = n }
+-- the masks stop, start, heartbeat lost and vote lost; whose heartbeats and whose votes each node misses
+abbrev missing : ℕ → ℕ → ℕ → ℕ → (ℕ → ℕ) → (ℕ → ℕ) → Faults
+missing s t h v beats votes =
+    record { stop = s; start = t; «heartbeat_lost» = h; «vote_lost» = v; «heartbeat_missed» = tabulate 64 beats; «vote_missed» = tabulate 64 votes }
 
-abbrev none-missed : List ℕ
-none-missed = tabulate 64 (λ q. 0)
+abbrev nobody's : ℕ → ℕ
+nobody's q = 0
 
--- the masks stop, start, heartbeat lost and vote lost
 abbrev faults : ℕ → ℕ → ℕ → ℕ → Faults
-faults s t h v =
-    record { stop = s; start = t; «heartbeat_lost» = h; «vote_lost» = v; «heartbeat_missed» = none-missed; «vote_missed» = none-missed }
+faults s t h v = missing s t h v nobody's nobody's
 
 abbrev clean : Faults
 clean = faults 0 0 0 0
@@ -60,8 +70,12 @@ times (suc n) s = s ∷ times n s
 abbrev member : ℕ → ℕ → ℕ → State
 member g m b = Member (group g m b)
 
-abbrev see : Row → Option Group → Seen
-see r g = record { row = r; reference = g }
+-- a cycle that met the premise, with the reference group after it; and one that did not, after which there is none
+abbrev kept : Group → ℕ → ℕ → Row → Seen
+kept g halted entered r = record { kept = true; reference = some g; halted = halted; entered = entered; row = r }
+
+abbrev broken : ℕ → ℕ → Row → Seen
+broken halted entered r = record { kept = false; reference = none; halted = halted; entered = entered; row = r }
 
 -- ---- the table
 
@@ -69,140 +83,184 @@ abbrev pub examples : List Example
 examples =
     -- "P1 the run above": N 5, founding set hex 1F; "2: heartbeat of node 4 lost in sending; 3: start node 4; 4: vote of node 0 lost in sending"
     record {
-      config = nodes 5;
+      example = 1;
+      config = ofNodes 5;
       founders = 0x1f;
       number = 0;
       cycles = clean ∷ faults 0 0 0x10 0 ∷ faults 0 0x10 0 0 ∷ faults 0 0 0 0x01 ∷ clean ∷ [];
       expected =
-          see (times 5 (member 0 0x1f 0x1f)) (some (group 0 0x1f 0x1f))
-          ∷ see (times 4 (member 1 0x0f 0x1f) ++ (Out Outvoted ∷ [])) (some (group 1 0x0f 0x1f))
-          ∷ see (times 5 (member 2 0x1f 0x1f)) (some (group 2 0x1f 0x1f))
-          ∷ see (member 2 0x1f 0x1f ∷ times 4 (member 3 0x1e 0x1f)) (some (group 3 0x1e 0x1f))
-          ∷ see (Out NoQuorum ∷ times 4 (member 3 0x1e 0x1e)) (some (group 3 0x1e 0x1e))
+          kept (group 0 0x1f 0x1f) 0 0 (times 5 (member 0 0x1f 0x1f))
+          ∷ kept (group 1 0x0f 0x1f) 0x10 0 (times 4 (member 1 0x0f 0x1f) ++ (Out Outvoted ∷ []))
+          ∷ kept (group 2 0x1f 0x1f) 0 0x10 (times 5 (member 2 0x1f 0x1f))
+          ∷ kept (group 3 0x1e 0x1f) 0 0 (member 2 0x1f 0x1f ∷ times 4 (member 3 0x1e 0x1f))
+          ∷ kept (group 3 0x1e 0x1e) 0x01 0 (Out NoQuorum ∷ times 4 (member 3 0x1e 0x1e))
           ∷ [];
     }
     -- "P2 two nodes, heartbeat of node 1 lost: both halt, reason 1."
     ∷ record {
-      config = nodes 2;
+      example = 2;
+      config = ofNodes 2;
       founders = 0x3;
       number = 0;
       cycles = faults 0 0 0x2 0 ∷ [];
-      expected = see (times 2 (Out NoQuorum)) none ∷ [];
+      expected = broken 0x3 0 (times 2 (Out NoQuorum)) ∷ [];
     }
-    -- "P3 three nodes, node 2 stopped: set 3. P4 then node 1 stopped in the next cycle: node 0 halts, reason 1."
+    -- "P3 three nodes, node 2 stopped: set 3."
     ∷ record {
-      config = nodes 3;
+      example = 3;
+      config = ofNodes 3;
       founders = 0x7;
       number = 0;
-      cycles = faults 0x4 0 0 0 ∷ faults 0x2 0 0 0 ∷ [];
+      cycles = faults 0x4 0 0 0 ∷ [];
+      expected = kept (group 1 0x3 0x7) 0 0 (times 2 (member 1 0x3 0x7) ++ (Out Stopped ∷ [])) ∷ [];
+    }
+    -- "P4 then node 1 stopped in the next cycle: node 0 halts, reason 1." Then node 1 starts, and stops again: what is broken stays broken, and node 0 has
+    -- halted before.
+    ∷ record {
+      example = 4;
+      config = ofNodes 3;
+      founders = 0x7;
+      number = 0;
+      cycles = faults 0x4 0 0 0 ∷ faults 0x2 0 0 0 ∷ faults 0 0x2 0 0 ∷ faults 0x2 0 0 0 ∷ [];
       expected =
-          see (times 2 (member 1 0x3 0x7) ++ (Out Stopped ∷ [])) (some (group 1 0x3 0x7))
-          ∷ see (Out NoQuorum ∷ times 2 (Out Stopped)) none
+          kept (group 1 0x3 0x7) 0 0 (times 2 (member 1 0x3 0x7) ++ (Out Stopped ∷ []))
+          ∷ broken 0x1 0 (Out NoQuorum ∷ times 2 (Out Stopped))
+          ∷ broken 0 0 (Out NoQuorum ∷ Joining ∷ Out Stopped ∷ [])
+          ∷ broken 0 0 (Out NoQuorum ∷ times 2 (Out Stopped))
           ∷ [];
     }
     -- "P5 founding set 1: node 0 stays."
     ∷ record {
-      config = nodes 2;
+      example = 5;
+      config = ofNodes 2;
       founders = 0x1;
       number = 0;
       cycles = clean ∷ [];
-      expected = see (member 0 0x1 0x1 ∷ Out Stopped ∷ []) (some (group 0 0x1 0x1)) ∷ [];
+      expected = kept (group 0 0x1 0x1) 0 0 (member 0 0x1 0x1 ∷ Out Stopped ∷ []) ∷ [];
     }
     -- "P6 five nodes, node 4 stopped and started in cycle 1: out of the set after 1, in after 2."
     ∷ record {
-      config = nodes 5;
+      example = 6;
+      config = ofNodes 5;
       founders = 0x1f;
       number = 0;
       cycles = faults 0x10 0x10 0 0 ∷ clean ∷ [];
       expected =
-          see (times 4 (member 1 0x0f 0x1f) ++ (Joining ∷ [])) (some (group 1 0x0f 0x1f))
-          ∷ see (times 5 (member 2 0x1f 0x1f)) (some (group 2 0x1f 0x1f))
+          kept (group 1 0x0f 0x1f) 0 0 (times 4 (member 1 0x0f 0x1f) ++ (Joining ∷ []))
+          ∷ kept (group 2 0x1f 0x1f) 0 0x10 (times 5 (member 2 0x1f 0x1f))
           ∷ [];
     }
     -- "P7 nine nodes, four stopped: five stay."
     ∷ record {
-      config = nodes 9;
+      example = 7;
+      config = ofNodes 9;
       founders = 0x1ff;
       number = 0;
       cycles = faults 0x1e0 0 0 0 ∷ [];
-      expected = see (times 5 (member 1 0x01f 0x1ff) ++ times 4 (Out Stopped)) (some (group 1 0x01f 0x1ff)) ∷ [];
+      expected = kept (group 1 0x01f 0x1ff) 0 0 (times 5 (member 1 0x01f 0x1ff) ++ times 4 (Out Stopped)) ∷ [];
     }
     -- "P8 five stopped: all halt."
     ∷ record {
-      config = nodes 9;
+      example = 8;
+      config = ofNodes 9;
       founders = 0x1ff;
       number = 0;
       cycles = faults 0x1f0 0 0 0 ∷ [];
-      expected = see (times 4 (Out NoQuorum) ++ times 5 (Out Stopped)) none ∷ [];
+      expected = broken 0x00f 0 (times 4 (Out NoQuorum) ++ times 5 (Out Stopped)) ∷ [];
     }
     -- "P9 nine nodes, nodes 0 to 3 miss the votes of 5 to 8: they hold hex 1F, the rest 1FF; after a clean cycle 0 to 3 have halted with reason 1 and the
     -- rest hold 1F0."
     ∷ record {
-      config = nodes 9;
+      example = 9;
+      config = ofNodes 9;
       founders = 0x1ff;
       number = 0;
-      cycles =
-          record {
-            stop = 0;
-            start = 0;
-            «heartbeat_lost» = 0;
-            «vote_lost» = 0;
-            «heartbeat_missed» = none-missed;
-            «vote_missed» = tabulate 64 (λ q. cond (ltb q 4) 0x1e0 0);
-          }
-          ∷ clean
-          ∷ [];
+      cycles = missing 0 0 0 0 nobody's (λ q. cond (ltb q 4) 0x1e0 0) ∷ clean ∷ [];
       expected =
-          see (times 4 (member 1 0x01f 0x1ff) ++ times 5 (member 0 0x1ff 0x1ff)) (some (group 0 0x1ff 0x1ff))
-          ∷ see (times 4 (Out NoQuorum) ++ times 5 (member 1 0x1f0 0x1ff)) (some (group 1 0x1f0 0x1ff))
+          kept (group 0 0x1ff 0x1ff) 0 0 (times 4 (member 1 0x01f 0x1ff) ++ times 5 (member 0 0x1ff 0x1ff))
+          ∷ kept (group 1 0x1f0 0x1ff) 0x00f 0 (times 4 (Out NoQuorum) ++ times 5 (member 1 0x1f0 0x1ff))
           ∷ [];
     }
     -- "P10 as P3, but all three members begin with G 4294967295: set 3, G 0."
     ∷ record {
-      config = nodes 3;
+      example = 10;
+      config = ofNodes 3;
       founders = 0x7;
       number = 4294967295;
       cycles = faults 0x4 0 0 0 ∷ [];
-      expected = see (times 2 (member 0 0x3 0x7) ++ (Out Stopped ∷ [])) (some (group 0 0x3 0x7)) ∷ [];
+      expected = kept (group 0 0x3 0x7) 0 0 (times 2 (member 0 0x3 0x7) ++ (Out Stopped ∷ [])) ∷ [];
     }
     -- "A join heartbeat of a present member taken as a sign of life": five nodes, node 4 stopped and started, node 3 misses its heartbeat. Node 3 stays,
     -- since the join heartbeat counts for nothing with the others either.
     ∷ record {
-      config = nodes 5;
+      example = 11;
+      config = ofNodes 5;
       founders = 0x1f;
       number = 0;
-      cycles =
-          record {
-            stop = 0x10;
-            start = 0x10;
-            «heartbeat_lost» = 0;
-            «vote_lost» = 0;
-            «heartbeat_missed» = tabulate 64 (λ q. cond (eqb q 3) 0x10 0);
-            «vote_missed» = none-missed;
-          }
-          ∷ [];
-      expected = see (times 4 (member 1 0x0f 0x1f) ++ (Joining ∷ [])) (some (group 1 0x0f 0x1f)) ∷ [];
+      cycles = missing 0x10 0x10 0 0 (λ q. cond (eqb q 3) 0x10 0) nobody's ∷ [];
+      expected = kept (group 1 0x0f 0x1f) 0 0 (times 4 (member 1 0x0f 0x1f) ++ (Joining ∷ [])) ∷ [];
     }
     -- "A joiner that believes the first vote it hears": five nodes, founding set F. Node 0 misses the vote of node 1 and holds hex D; node 4 then joins, and
     -- the first vote that it hears is that of node 0. It enters with the others, and node 0 halts.
     ∷ record {
-      config = nodes 5;
+      example = 12;
+      config = ofNodes 5;
       founders = 0x0f;
       number = 0;
-      cycles =
-          record {
-            stop = 0;
-            start = 0;
-            «heartbeat_lost» = 0;
-            «vote_lost» = 0;
-            «heartbeat_missed» = none-missed;
-            «vote_missed» = tabulate 64 (λ q. cond (eqb q 0) 0x02 0);
-          }
-          ∷ faults 0 0x10 0 0
-          ∷ [];
+      cycles = missing 0 0 0 0 nobody's (λ q. cond (eqb q 0) 0x02 0) ∷ faults 0 0x10 0 0 ∷ [];
       expected =
-          see (member 1 0x0d 0x0f ∷ (times 3 (member 0 0x0f 0x0f) ++ (Out Stopped ∷ []))) (some (group 0 0x0f 0x0f))
-          ∷ see (Out NoQuorum ∷ times 4 (member 1 0x1e 0x1f)) (some (group 1 0x1e 0x1f))
+          kept (group 0 0x0f 0x0f) 0 0 (member 1 0x0d 0x0f ∷ (times 3 (member 0 0x0f 0x0f) ++ (Out Stopped ∷ [])))
+          ∷ kept (group 1 0x1e 0x1f) 0x01 0x10 (Out NoQuorum ∷ times 4 (member 1 0x1e 0x1f))
           ∷ [];
+    }
+    -- "Marks count even if no frame was sent": four nodes, founding set 7. Nodes 0 and 1 are marked as missing the vote of node 3, which is out. The
+    -- premise is broken for good, though nobody halts; node 3 then enters, and node 2 halts.
+    ∷ record {
+      example = 13;
+      config = ofNodes 4;
+      founders = 0x7;
+      number = 0;
+      cycles = missing 0 0 0 0 nobody's (λ q. cond (ltb q 2) 0x8 0) ∷ faults 0 0x8 0 0 ∷ faults 0 0 0x4 0 ∷ [];
+      expected =
+          broken 0 0 (times 3 (member 0 0x7 0x7) ++ (Out Stopped ∷ []))
+          ∷ broken 0 0x8 (times 4 (member 1 0xf 0xf))
+          ∷ broken 0x4 0 (times 2 (member 2 0xb 0xf) ++ (Out Outvoted ∷ member 2 0xb 0xf ∷ []))
+          ∷ [];
+    }
+    ∷ []
+
+-- ---- a joining node
+
+-- the example's own number; N nodes, the joining node, the votes that arrived, by sender, and what it decides
+pub record Join : Type 0 where
+  pub example : ℕ
+  pub config : Config
+  pub node : ℕ
+  pub votes : List (Option Vote)
+  pub expected : State
+
+unfoldable pub decided : Join → State
+decided j = joinerDecides (j .config) (j .node) (λ p. getD (j .votes) p none)
+
+abbrev vote : ℕ → ℕ → ℕ → ℕ → Option Vote
+vote g m b v = some (record { group = group g m b; view = v })
+
+abbrev pub joins : List Join
+joins =
+    -- "If exactly one vote value fits": that of nodes 0 and 1 does, and so does that of nodes 2 and 3. Node 4 "stays joining".
+    record {
+      example = 14;
+      config = ofNodes 5;
+      node = 4;
+      votes = vote 7 0x03 0x03 0x13 ∷ vote 7 0x03 0x03 0x13 ∷ vote 7 0x0c 0x0c 0x1c ∷ vote 7 0x0c 0x0c 0x1c ∷ [];
+      expected = Joining;
+    }
+    -- The vote of node 3 is missed, so that one value alone has a quorum.
+    ∷ record {
+      example = 15;
+      config = ofNodes 5;
+      node = 4;
+      votes = vote 7 0x03 0x03 0x13 ∷ vote 7 0x03 0x03 0x13 ∷ vote 7 0x0c 0x0c 0x1c ∷ none ∷ [];
+      expected = member 8 0x13 0x13;
     }
     ∷ []

@@ -1,5 +1,24 @@
 -- Paper 01, "Faults": the fault record of a cycle, whom it disturbs, and one whole cycle of all nodes under it.
 -- Assumes nothing.
+--     Row: the states of all nodes
+--     at: the state of node q; out for whatever is no node
+--     tabulate: n entries, entry q by f
+--     founding: the row at the beginning
+--     heartbeatsMissed, votesMissed: the senders whose frame receiver q misses
+--     reaches: whether a frame of p reaches another node
+--     heartbeatReaches, voteReaches: whether the heartbeat or the vote of p reaches q
+--     missesOther: whether a mask marks a frame of another node as missed
+--     disturbed: whether a node is touched in a cycle
+--     ruleOne: the row after rule 1
+--     heard: the nodes whose heartbeat of a kind q hears
+--     ownVote: a member's vote
+--     voteOf: what a node sends as its vote, if it votes
+--     votes: what all send
+--     arriveIf: a vote, where it arrives
+--     arrivedAt: the votes that arrive at q
+--     decides: what a node decides: rule 5, rule 6, or nothing
+--     decisions: what all decide
+--     cycle: one whole cycle, from row to row
 use mathlib.Core.Bool.{Bool, true, false, not, _&&_, _||_}
 use mathlib.Core.List.{List, [], _∷_}
 use mathlib.Core.Option.{Option, none, some}

@@ -1,5 +1,27 @@
 -- Paper 01, "One cycle": rules 1 to 6, each of one node q in a cluster of N nodes.
 -- Assumes nothing.
+--     ofNodes: a cluster of N nodes
+--     stopped: out with reason 0
+--     stopIf, startIf: what a stop and a start make of a state, where they are given
+--     stopAndStart: rule 1, stop before start
+--     sendsMember, sendsJoin: whether a heartbeat goes out with join 0, with join 1
+--     viewOf: a member's view V, from its set and what it heard with join 0 and 1
+--     sameGroup: equal G, M and B
+--     sameVote: equal G, M, B and V
+--     Ballots: what arrived from each sender
+--     is: whether what arrived is the given vote
+--     voters: the senders in the vote's M whose vote it is
+--     wins: whether a vote has a quorum of its B
+--     newSet: the set that a vote gives
+--     groupWith: the group that a vote gives, with that set: G, M and B
+--     newGroup: both at once, from what arrived
+--     memberOn: a member of the group that a vote gives
+--     withOwn: what arrived, with the node's own vote
+--     rival: whether what arrived has the same G, M and B and a quorum
+--     memberDecides: rule 5
+--     fits: whether what arrived fits a joining node
+--     enterOn: a joining node enters on a vote if it is the one value that fits
+--     joinerDecides: rule 6
 use mathlib.Core.Bool.{Bool, true, false, not, _&&_, _||_, cond}
 use mathlib.Core.Option.{Option, none, some}
 use Prim.Native.Nat.{ℕ}

@@ -1,4 +1,4 @@
-// What the rules of one cycle speak of: a cluster, a vote, and the faults of a cycle. The rules themselves are definitions, in specs/.
+// Rules 1 to 6 of one cycle, faults and the reference group, as definitions with their laws and the worked examples; and the types that they speak of.
 use state::Group;
 
 // What is fixed for a cluster: how many nodes it has (N).
