@@ -10,6 +10,7 @@ use lib.ListN.{length, take, drop, getD}
 use Rattle.sets.specs.Sets.{has, _∖_}
 use Rattle.sets.proofs.Booleans.{and-l, ltb-true}
 use Rattle.sets.proofs.Membership.{has-diff}
+use Rattle.rules.specs.declared.Config.{Config}
 use Rattle.rules.specs.declared.Vote.{Vote}
 use Rattle.rules.specs.OneCycle.{Ballots, memberDecides, joinerDecides}
 use Rattle.rules.specs.Ballots.{voteAt, ballotsOf}
@@ -34,7 +35,10 @@ no-vote : (n p count channel : ℕ) → readVote n p count channel [] ≡ vote.R
 unfolding readVote faultOf wrongLength
 no-vote n p count channel = refl
 
-module _ (n count members : ℕ) (numbers sets bases views : List ℕ) (few : n ≤ 64) (counted : count < 64) where
+module _ (C : Config) (count members : ℕ) (numbers sets bases views : List ℕ) (few : C .nodes ≤ 64) (counted : count < 64) where
+  abbrev n : ℕ
+  n = C .nodes
+
   -- what stands on a channel
   abbrev pub cast : ℕ → List ℕ
   cast channel = channelOf n (votePut numbers sets bases views members count channel)
@@ -100,26 +104,26 @@ module _ (n count members : ℕ) (numbers sets bases views : List ℕ) (few : n 
         each p =
             ap (λ (o : Option Vote). cond (ltb p n) o none) (ap received (both-copies p) ∙ got (has p reach) (voteAt numbers sets bases views p)) ∙ below p (has p reach) refl
 
-    pub decided-read : (w : Roles) (q : ℕ) → decidedRead numbers sets bases views n count w reach (cast 0) (cast 1) q ≡ decidedAt numbers sets bases views n w reach q
+    pub decided-read : (w : Roles) (q : ℕ) → decidedRead numbers sets bases views C count w reach (cast 0) (cast 1) q ≡ decidedAt numbers sets bases views C w reach q
     unfolding decidedRead decidedAt
     decided-read w q =
         ap (λ (b : Ballots).
-        cond (has q (w .members)) (memberDecides (record { nodes = n }) q (voteAt numbers sets bases views q) b) (cond (has q (w .joining)) (joinerDecides (record { nodes = n }) q b) (outAt w q)))
+        cond (has q (w .members)) (memberDecides C q (voteAt numbers sets bases views q) b) (cond (has q (w .joining)) (joinerDecides C q b) (outAt w q)))
         ballots-read
 
 -- the same from the values that the code has on its way: the channels a and b, and the nodes whose votes go out
-pub states-read : (n count lost sent : ℕ) (w : Roles) (numbers sets bases views missed a b : List ℕ) (r : States) → n ≤ 64 → count < 64
-    → ((p : ℕ) → has p (w .members) ≡ true → (p < n) × (getD numbers p 0 < 2 ^ 32) × (formedVote n p (voteAt numbers sets bases views p) ≡ true))
-    → a ≡ channelOf n (votePut numbers sets bases views (w .members) count 0) → b ≡ channelOf n (votePut numbers sets bases views (w .members) count 1) → sent ≡ w .members ∖ lost
-    → ((q : ℕ) → q < n → stateAt r q ≡ decidedRead numbers sets bases views n count w (sent ∖ getD missed q 0) a b q)
-    → (q : ℕ) → q < n → stateAt r q ≡ decidedAt numbers sets bases views n w (w .members ∖ lost ∖ getD missed q 0) q
-states-read n count lost sent w numbers sets bases views missed a b r few counted formed ea eb es made q h =
-    made q h ∙ ap₂ (λ (x y : List ℕ). decidedRead numbers sets bases views n count w (sent ∖ getD missed q 0) x y q) ea eb
+pub states-read : (C : Config) (count lost sent : ℕ) (w : Roles) (numbers sets bases views missed a b : List ℕ) (r : States) → C .nodes ≤ 64 → count < 64
+    → ((p : ℕ) → has p (w .members) ≡ true → (p < C .nodes) × (getD numbers p 0 < 2 ^ 32) × (formedVote (C .nodes) p (voteAt numbers sets bases views p) ≡ true))
+    → a ≡ channelOf (C .nodes) (votePut numbers sets bases views (w .members) count 0) → b ≡ channelOf (C .nodes) (votePut numbers sets bases views (w .members) count 1) → sent ≡ w .members ∖ lost
+    → ((q : ℕ) → q < C .nodes → stateAt r q ≡ decidedRead numbers sets bases views C count w (sent ∖ getD missed q 0) a b q)
+    → (q : ℕ) → q < C .nodes → stateAt r q ≡ decidedAt numbers sets bases views C w (w .members ∖ lost ∖ getD missed q 0) q
+states-read C count lost sent w numbers sets bases views missed a b r few counted formed ea eb es made q h =
+    made q h ∙ ap₂ (λ (x y : List ℕ). decidedRead numbers sets bases views C count w (sent ∖ getD missed q 0) x y q) ea eb
     ∙ ap
     (λ (x : ℕ).
-    decidedRead numbers sets bases views n count w (x ∖ getD missed q 0) (channelOf n (votePut numbers sets bases views (w .members) count 0)) (channelOf n (votePut numbers sets bases views (w .members) count 1)) q)
+    decidedRead numbers sets bases views C count w (x ∖ getD missed q 0) (channelOf (C .nodes) (votePut numbers sets bases views (w .members) count 0)) (channelOf (C .nodes) (votePut numbers sets bases views (w .members) count 1)) q)
     es
-    ∙ decided-read n count (w .members) numbers sets bases views few counted formed (w .members ∖ lost ∖ getD missed q 0) within w q
+    ∙ decided-read C count (w .members) numbers sets bases views few counted formed (w .members ∖ lost ∖ getD missed q 0) within w q
   where
     within : (p : ℕ) → has p (w .members ∖ lost ∖ getD missed q 0) ≡ true → has p (w .members) ≡ true
     within p e =

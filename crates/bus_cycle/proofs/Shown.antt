@@ -20,7 +20,7 @@ use Rattle.cluster_states.specs.declared.Roles.{Roles}
 use Rattle.cluster_states.specs.declared.States.{States}
 use Rattle.cluster_states.specs.States.{rolesOf, stateAt, rowOf}
 use Rattle.cluster_states.specs.Decided.{rolesAfter, viewAt}
-use Rattle.cluster_states.proofs.Whole.{after}
+use Rattle.cluster_states.proofs.Whole.{roles}
 use Rattle.bus_channels.specs.Channels.{channelOf, heartbeatPut, votePut}
 use Rattle.bus_units.proofs.Shown.{beats-length, ballots-length}
 use Rattle.bus_cycle.proofs.Slots.{heartbeats-shown, votes-shown}
@@ -29,8 +29,11 @@ row-formed : (n : ℕ) (s : States) → ((q : ℕ) → q < n → formedState q n
 unfolding rowOf
 row-formed n s w q l = ap (formedState q n) (get-tabulate n q (stateAt s) stopped l) ∙ w q l
 
-module _ (n count : ℕ) (s : States) (f : Faults) (views frames : List ℕ) (few : n ≤ 64) (counted : count < 64) (sized : length frames ≡ framesLength)
-    (formed : (q : ℕ) → q < n → formedState q n (stateAt s q) ≡ true) where
+module _ (C : Config) (count : ℕ) (s : States) (f : Faults) (views frames : List ℕ) (few : C .nodes ≤ 64) (counted : count < 64) (sized : length frames ≡ framesLength)
+    (formed : (q : ℕ) → q < C .nodes → formedState q (C .nodes) (stateAt s q) ≡ true) where
+  abbrev n : ℕ
+  n = C .nodes
+
   abbrev beats : Roles → ℕ → List ℕ
   beats w channel = channelOf n (heartbeatPut w count channel)
 
@@ -41,36 +44,34 @@ module _ (n count : ℕ) (s : States) (f : Faults) (views frames : List ℕ) (fe
   Seen w = (p : ℕ) → p < n → getD views p 0 ≡ viewAt n (s .sets) (w .members ∖ f .«heartbeat_lost») (w .joining ∖ f .«heartbeat_lost») (f .«heartbeat_missed») p
 
   -- where the masks are those after rule 1
-  module _ (seen : Seen (after n s f)) where
-    abbrev C : Config
-    C = record { nodes = n }
-
+  module _ (seen : Seen (roles C s f)) where
     abbrev row : Row
     row = rowOf n s
 
-    votes-are : (channel : ℕ) → ballots (after n s f) channel ≡ votesShown C count f row channel
-    votes-are channel = votes-shown n s f count channel few counted (row-formed n s formed) views seen
+    votes-are : (channel : ℕ) → ballots (roles C s f) channel ≡ votesShown C count f row channel
+    votes-are channel = votes-shown C s f count channel few counted (row-formed n s formed) views seen
 
-    filled : withPart 6912 (ballots (after n s f) 1) (withPart 4608 (ballots (after n s f) 0) (withPart 2304 (beats (after n s f) 1) (withPart 0 (beats (after n s f) 0) frames)))
+    filled : withPart 6912 (ballots (roles C s f) 1) (withPart 4608 (ballots (roles C s f) 0) (withPart 2304 (beats (roles C s f) 1) (withPart 0 (beats (roles C s f) 0) frames)))
         ≡ framesShown C count f row
     unfolding framesShown
     filled =
-        ap₂ (λ (x y : List ℕ). withPart 6912 y (withPart 4608 x (withPart 2304 (beats (after n s f) 1) (withPart 0 (beats (after n s f) 0) frames)))) (votes-are 0) (votes-are 1)
-        ∙ ap₂ (λ (x y : List ℕ). withPart 6912 (votesShown C count f row 1) (withPart 4608 (votesShown C count f row 0) (withPart 2304 y (withPart 0 x frames)))) (heartbeats-shown n s f count 0 few) (heartbeats-shown n s f count 1 few)
-        ∙ four-parts (heartbeatsShown C count f row 0) (heartbeatsShown C count f row 1) (votesShown C count f row 0) (votesShown C count f row 1) frames 2304
-        (beats-length C count f row 0) (beats-length C count f row 1) (ballots-length C count f row 0) (ballots-length C count f row 1) sized
+        ap₂ (λ (x y : List ℕ). withPart 6912 y (withPart 4608 x (withPart 2304 (beats (roles C s f) 1) (withPart 0 (beats (roles C s f) 0) frames)))) (votes-are 0) (votes-are 1)
+        ∙ ap₂ (λ (x y : List ℕ). withPart 6912 (votesShown C count f row 1) (withPart 4608 (votesShown C count f row 0) (withPart 2304 y (withPart 0 x frames)))) (heartbeats-shown C s f count 0 few) (heartbeats-shown C s f count 1 few)
+        ∙ four-parts (heartbeatsShown C count f row 0) (heartbeatsShown C count f row 1) (votesShown C count f row 0) (votesShown C count f row 1) frames 2304 4608 6912
+        (beats-length C count f row 0) (omega (arith, beats-length C count f row 1)) (omega (arith, ballots-length C count f row 0))
+        (omega (arith, ballots-length C count f row 1, sized))
 
   -- from the values that the code has on its way: the masks w after rule 1, and the lent frames after each phase
   pub cycle-shown : (w : Roles) (h z : List ℕ) → w ≡ rolesAfter n (rolesOf s) (f .stop) (f .start) → Seen w
       → h ≡ withPart 2304 (beats w 1) (withPart 0 (beats w 0) frames) → z ≡ withPart 6912 (ballots w 1) (withPart 4608 (ballots w 0) h)
-      → z ≡ framesShown (record { nodes = n }) count f (rowOf n s)
+      → z ≡ framesShown C count f (rowOf n s)
   cycle-shown w h z e seen eh ez =
       ez ∙ ap (λ (x : List ℕ). withPart 6912 (ballots w 1) (withPart 4608 (ballots w 0) x)) eh
       ∙ ap (λ (x : Roles). withPart 6912 (ballots x 1) (withPart 4608 (ballots x 0) (withPart 2304 (beats x 1) (withPart 0 (beats x 0) frames)))) e
       ∙ filled (subst Seen e seen)
 
-  beats-sized : (channel : ℕ) → length (beats (after n s f) channel) ≡ 2304
-  beats-sized channel = ap (λ (x : List ℕ). length x) (heartbeats-shown n s f count channel few) ∙ beats-length (record { nodes = n }) count f (rowOf n s) channel
+  beats-sized : (channel : ℕ) → length (beats (roles C s f) channel) ≡ 2304
+  beats-sized channel = ap (λ (x : List ℕ). length x) (heartbeats-shown C s f count channel few) ∙ beats-length C count f (rowOf n s) channel
 
   -- the lent frames keep their length
   pub still-sized : (w : Roles) (h : List ℕ) → w ≡ rolesAfter n (rolesOf s) (f .stop) (f .start) → h ≡ withPart 2304 (beats w 1) (withPart 0 (beats w 0) frames) → length h ≡ framesLength

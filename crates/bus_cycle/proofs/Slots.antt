@@ -8,6 +8,7 @@ use native.Mathlib.Nat.{zero-add, suc-add, add-zero, add-suc}
 use native.Mathlib.Omega.{arith}
 use lib.ListN.{length, take, drop, replicate, getD, length-replicate}
 use lib.Seq.{take-at, drop-at, drop-append-add}
+use Rattle.parts.specs.Parts.{withPart}
 use Rattle.sets.specs.Sets.{has, _∖_}
 use Rattle.state.specs.declared.State.{State}
 use Rattle.state.specs.declared.State.the-variants.{Out, Joining, Member}
@@ -30,7 +31,7 @@ use Rattle.cluster_states.specs.declared.Roles.{Roles}
 use Rattle.cluster_states.specs.declared.States.{States}
 use Rattle.cluster_states.specs.States.{groupAt, rowOf}
 use Rattle.cluster_states.specs.Decided.{viewAt}
-use Rattle.cluster_states.proofs.Whole.{after, byRole, after-at, sends-member, sends-join, own-vote}
+use Rattle.cluster_states.proofs.Whole.{roles, byRole, after-at, sends-member, sends-join, own-vote}
 use Rattle.bus_channels.specs.Channels.{withFrame, withSent, channelOf, heartbeatPut, votePut}
 
 -- ---- lists of one value
@@ -49,13 +50,13 @@ drop-replicate k m h =
 -- one more frame, at the end of the slots that are filled
 put-next : (s x : List ℕ) (n m : ℕ) → length s ≡ 36 * n → length x ≤ 36 → 36 ≤ m
     → withFrame n x (s ++ replicate m 0) ≡ (s ++ (x ++ replicate (36 - length x) 0)) ++ replicate (m - 36) 0
-unfolding withFrame
+unfolding withPart
 put-next s x n m l k h =
     let a : take (36 * n) (s ++ replicate m 0) ≡ s = take-at s (replicate m 0) (36 * n) l in
     let b : drop (36 * n + length x) (s ++ replicate m 0) ≡ replicate (m - length x) 0 =
     ap (λ (j : ℕ). drop (j + length x) (s ++ replicate m 0)) (sym l) ∙ drop-append-add s (replicate m 0) (length x) ∙ drop-replicate (length x) m (omega arith) in
     let c : m - length x ≡ (36 - length x) + (m - 36) = omega arith in
-    ap₂ (λ (u v : List ℕ). u ++ x ++ v) a (b ∙ ap (λ (j : ℕ). replicate {A = ℕ} j 0) c ∙ replicate-add (36 - length x) (m - 36))
+    ap₂ (λ (u v : List ℕ). u ++ (x ++ v)) a (b ∙ ap (λ (j : ℕ). replicate {A = ℕ} j 0) c ∙ replicate-add (36 - length x) (m - 36))
     ∙ simp append-assoc
 
 channel-slots : (n : ℕ) (sent : ℕ → Option (List ℕ)) → n ≤ 64 → Short n sent → channelOf n sent ≡ inSlots n sent ++ replicate (36 * (64 - n)) 0
@@ -104,18 +105,18 @@ past-out : (n : ℕ) (f : Faults) (row : Row) (q : ℕ) → n ≤ q → at (rule
 unfolding ruleOne
 past-out n f row q l = get-tabulate-out n q (λ x. stopAndStart (has x (f .stop)) (has x (f .start)) (at row x)) stopped l
 
-module _ (n : ℕ) (s : States) (f : Faults) (count channel : ℕ) (few : n ≤ 64) where
-  abbrev C : Config
-  C = record { nodes = n }
+module _ (C : Config) (s : States) (f : Faults) (count channel : ℕ) (few : C .nodes ≤ 64) where
+  abbrev n : ℕ
+  n = C .nodes
 
   abbrev r : Row
   r = ruleOne n f (rowOf n s)
 
   abbrev w : Roles
-  w = after n s f
+  w = roles C s f
 
   heartbeat-put : (q : ℕ) → q < n → heartbeatPut w count channel q ≡ heartbeatSent 0 0 count q (at r q) channel
-  heartbeat-put q l = sym (go (at r q) ∙ ap₂ (λ (m j : Bool). cond m (some (heartbeatFrame q 0 0 0 count channel)) (cond j (some (heartbeatFrame q 1 0 0 count channel)) none)) (sends-member n s f q l) (sends-join n s f q l))
+  heartbeat-put q l = sym (go (at r q) ∙ ap₂ (λ (m j : Bool). cond m (some (heartbeatFrame q 0 0 0 count channel)) (cond j (some (heartbeatFrame q 1 0 0 count channel)) none)) (sends-member C s f q l) (sends-join C s f q l))
     where
       go : (t : State) → heartbeatSent 0 0 count q t channel ≡ cond (sendsMember t) (some (heartbeatFrame q 0 0 0 count channel)) (cond (sendsJoin t) (some (heartbeatFrame q 1 0 0 count channel)) none)
       go (Out z) = refl
@@ -138,9 +139,9 @@ module _ (n : ℕ) (s : States) (f : Faults) (count channel : ℕ) (few : n ≤ 
 
     vote-put : (q : ℕ) → q < n → votePut (s .numbers) (s .sets) (s .bases) views (w .members) count channel q ≡ voteSent n count (bus .heartbeats) q (at r q) channel
     vote-put q l =
-        sym (ap (λ (t : State). voteSent n count (bus .heartbeats) q t channel) (after-at n s f q l)
+        sym (ap (λ (t : State). voteSent n count (bus .heartbeats) q t channel) (after-at C s f q l)
         ∙ go (has q (w .members)) (has q (w .joining)) (has q (w .«no_quorum»)) (has q (w .outvoted))
-        ∙ ap (λ (v : Vote). cond (has q (w .members)) (some (voteFrame q v count channel)) none) (vote-is C count bus f r carried q (groupAt s q) l ∙ own-vote n s f views seen q l))
+        ∙ ap (λ (v : Vote). cond (has q (w .members)) (some (voteFrame q v count channel)) none) (vote-is C count bus f r carried q (groupAt s q) l ∙ own-vote C s f views seen q l))
       where
         go : (m j u v : Bool) → voteSent n count (bus .heartbeats) q (byRole m j u v (groupAt s q)) channel ≡ cond m (some (voteFrame q (unitVote n count (bus .heartbeats) q (groupAt s q)) count channel)) none
         go true j u v = refl

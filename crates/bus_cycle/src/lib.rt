@@ -16,13 +16,14 @@ ghost use Rattle.bus_units.specs.Run.{framesShown, framesLength};
 ghost use Rattle.bus_channels.specs.Channels.{channelOf, votePut, ballotsRead, decidedRead};
 use cluster_states::Roles;
 use cluster_states::States;
+use rules::Config;
 use rules::Faults;
 use rules::Vote;
 use state::State;
 
 // Rule 5, on the votes that the member q reads.
 fn member_decides(
-    n: usize,
+    config: Config,
     count: u32,
     reach: u64,
     a: &[u8],
@@ -30,17 +31,17 @@ fn member_decides(
     own: Vote,
     q: usize,
 ) -> State
-    requires { ⌜ (n ≤ 64) × (q < n) ⌝ }
+    requires { ⌜ (config .nodes ≤ 64) × (q < config .nodes) ⌝ }
     requires { ⌜ (length (now a) ≡ 2304) × (length (now b) ≡ 2304) ⌝ }
-    ensures { λ r. ⌜ r ≡ memberDecides (record { nodes = n }) q own (ballotsRead n count reach (now (a .entry)) (now (b .entry))) ⌝ }
+    ensures { λ r. ⌜ r ≡ memberDecides config q own (ballotsRead (config .nodes) count reach (now (a .entry)) (now (b .entry))) ⌝ }
 {
-    let arrived = bus_votes::arrive(n, count, reach, a, b);
+    let arrived = bus_votes::arrive(config.nodes, count, reach, a, b);
     let numbers = arrived.numbers;
     let sets = arrived.sets;
     let bases = arrived.bases;
     let views = arrived.views;
     let after = rule_member::member_decides(
-        n,
+        config,
         q,
         own,
         &numbers,
@@ -53,23 +54,31 @@ fn member_decides(
 }
 
 // Rule 6, on the votes that the joining node q reads.
-fn joiner_decides(n: usize, count: u32, reach: u64, a: &[u8], b: &[u8], q: usize) -> State
-    requires { ⌜ (n ≤ 64) × (q < n) ⌝ }
+fn joiner_decides(config: Config, count: u32, reach: u64, a: &[u8], b: &[u8], q: usize) -> State
+    requires { ⌜ (config .nodes ≤ 64) × (q < config .nodes) ⌝ }
     requires { ⌜ (length (now a) ≡ 2304) × (length (now b) ≡ 2304) ⌝ }
-    ensures { λ r. ⌜ r ≡ joinerDecides (record { nodes = n }) q (ballotsRead n count reach (now (a .entry)) (now (b .entry))) ⌝ }
+    ensures { λ r. ⌜ r ≡ joinerDecides config q (ballotsRead (config .nodes) count reach (now (a .entry)) (now (b .entry))) ⌝ }
 {
-    let arrived = bus_votes::arrive(n, count, reach, a, b);
+    let arrived = bus_votes::arrive(config.nodes, count, reach, a, b);
     let numbers = arrived.numbers;
     let sets = arrived.sets;
     let bases = arrived.bases;
     let views = arrived.views;
-    let after = rule_joiner::joiner_decides(n, q, &numbers, &sets, &bases, &views, arrived.present);
+    let after = rule_joiner::joiner_decides(
+        config,
+        q,
+        &numbers,
+        &sets,
+        &bases,
+        &views,
+        arrived.present,
+    );
     after
 }
 
 // What node q decides on what it reads. A node that is out reads nothing.
 fn decide(
-    n: usize,
+    config: Config,
     count: u32,
     w: Roles,
     reach: u64,
@@ -81,15 +90,15 @@ fn decide(
     b: &[u8],
     q: usize,
 ) -> State
-    requires { ⌜ (n ≤ 64) × (q < n) ⌝ }
+    requires { ⌜ (config .nodes ≤ 64) × (q < config .nodes) ⌝ }
     requires { ⌜ (length (now a) ≡ 2304) × (length (now b) ≡ 2304) ⌝ }
-    ensures { λ r. ⌜ r ≡ decidedRead (now (numbers .entry)) (now (sets .entry)) (now (bases .entry)) (now (views .entry)) n count w reach (now (a .entry)) (now (b .entry)) q ⌝ }
+    ensures { λ r. ⌜ r ≡ decidedRead (now (numbers .entry)) (now (sets .entry)) (now (bases .entry)) (now (views .entry)) config count w reach (now (a .entry)) (now (b .entry)) q ⌝ }
 {
     let own = rule_steps::vote_at(numbers, sets, bases, views, q);
     if sets::contains(w.members, q) {
-        member_decides(n, count, reach, a, b, own, q)
+        member_decides(config, count, reach, a, b, own, q)
     } else if sets::contains(w.joining, q) {
-        joiner_decides(n, count, reach, a, b, q)
+        joiner_decides(config, count, reach, a, b, q)
     } else {
         cluster_states::out_at(w, q)
     }
@@ -97,7 +106,7 @@ fn decide(
 
 // Rules 5 and 6 of all nodes.
 fn decisions(
-    n: usize,
+    config: Config,
     count: u32,
     w: Roles,
     sent: u64,
@@ -109,9 +118,9 @@ fn decisions(
     a: &[u8],
     b: &[u8],
 ) -> States
-    requires { ⌜ n ≤ 64 ⌝ }
+    requires { ⌜ config .nodes ≤ 64 ⌝ }
     requires { ⌜ (length (now a) ≡ 2304) × (length (now b) ≡ 2304) ⌝ }
-    ensures { λ r. ⌜ ((q : ℕ) → q < n → stateAt r q ≡ decidedRead (now (numbers .entry)) (now (sets .entry)) (now (bases .entry)) (now (views .entry)) n count w (sent ∖ getD (now (missed .entry)) q 0) (now (a .entry)) (now (b .entry)) q) ⌝ }
+    ensures { λ r. ⌜ ((q : ℕ) → q < config .nodes → stateAt r q ≡ decidedRead (now (numbers .entry)) (now (sets .entry)) (now (bases .entry)) (now (views .entry)) config count w (sent ∖ getD (now (missed .entry)) q 0) (now (a .entry)) (now (b .entry)) q) ⌝ }
 {
     let mut next = Roles {
         members: 0,
@@ -123,9 +132,9 @@ fn decisions(
     let mut new_sets = [0u64; 64];
     let mut new_bases = [0u64; 64];
     let mut q: usize = 0;
-    while q < n {
-        let reach = sets::difference(sent, missed[q]);
-        let d = decide(n, count, w, reach, numbers, sets, bases, views, a, b, q);
+    while q < config.nodes {
+        let came = sets::difference(sent, missed[q]);
+        let d = decide(config, count, w, came, numbers, sets, bases, views, a, b, q);
         let g = cluster_states::held_by(d);
         next = cluster_states::with_state(next, q, d);
         new_numbers[q] = g.number;
@@ -146,7 +155,7 @@ fn decisions(
 
 // Rules 4 to 6: all votes go out on both channels, and each node reads what reaches it.
 fn vote_phase(
-    n: usize,
+    config: Config,
     count: u32,
     w: Roles,
     lost: u64,
@@ -157,19 +166,37 @@ fn vote_phase(
     views: &[u64; 64],
     frames: &mut [u8],
 ) -> States
-    requires { ⌜ (n ≤ 64) × (count < 64) ⌝ }
+    requires { ⌜ (config .nodes ≤ 64) × (count < 64) ⌝ }
     requires { ⌜ length (now frames) ≡ framesLength ⌝ }
-    requires { ⌜ ((p : ℕ) → has p (w .members) ≡ true → (p < n) × (getD (now numbers) p 0 < 2 ^ 32) × (formedVote n p (voteAt (now numbers) (now sets) (now bases) (now views) p) ≡ true)) ⌝ }
-    ensures { λ r. ⌜ ((q : ℕ) → q < n → stateAt r q ≡ decidedAt (now (numbers .entry)) (now (sets .entry)) (now (bases .entry)) (now (views .entry)) n w (w .members ∖ lost ∖ getD (now (missed .entry)) q 0) q) ⌝ }
-    ensures { λ _. ⌜ now (frames .exit) ≡ withPart 6912 (channelOf n (votePut (now (numbers .entry)) (now (sets .entry)) (now (bases .entry)) (now (views .entry)) (w .members) count 1)) (withPart 4608 (channelOf n (votePut (now (numbers .entry)) (now (sets .entry)) (now (bases .entry)) (now (views .entry)) (w .members) count 0)) (now (frames .entry))) ⌝ }
+    requires { ⌜ ((p : ℕ) → has p (w .members) ≡ true → (p < config .nodes) × (getD (now numbers) p 0 < 2 ^ 32) × (formedVote (config .nodes) p (voteAt (now numbers) (now sets) (now bases) (now views) p) ≡ true)) ⌝ }
+    ensures { λ r. ⌜ ((q : ℕ) → q < config .nodes → stateAt r q ≡ decidedAt (now (numbers .entry)) (now (sets .entry)) (now (bases .entry)) (now (views .entry)) config w (w .members ∖ lost ∖ getD (now (missed .entry)) q 0) q) ⌝ }
+    ensures { λ _. ⌜ now (frames .exit) ≡ withPart 6912 (channelOf (config .nodes) (votePut (now (numbers .entry)) (now (sets .entry)) (now (bases .entry)) (now (views .entry)) (w .members) count 1)) (withPart 4608 (channelOf (config .nodes) (votePut (now (numbers .entry)) (now (sets .entry)) (now (bases .entry)) (now (views .entry)) (w .members) count 0)) (now (frames .entry))) ⌝ }
 {
-    let a = bus_votes::votes(n, numbers, sets, bases, views, w.members, count, 0);
-    let b = bus_votes::votes(n, numbers, sets, bases, views, w.members, count, 1);
+    let a = bus_votes::votes(
+        config.nodes,
+        numbers,
+        sets,
+        bases,
+        views,
+        w.members,
+        count,
+        0,
+    );
+    let b = bus_votes::votes(
+        config.nodes,
+        numbers,
+        sets,
+        bases,
+        views,
+        w.members,
+        count,
+        1,
+    );
     parts::put(frames, 4608, &a);
     parts::put(frames, 6912, &b);
     let sent = sets::difference(w.members, lost);
     let after = decisions(
-        n,
+        config,
         count,
         w,
         sent,
@@ -184,16 +211,16 @@ fn vote_phase(
     after
 }
 
-// One cycle under the faults f; `count` is its cycle count. `frames` shows its frames afterwards.
-pub fn cycle(n: usize, count: u32, s: States, f: Faults, frames: &mut [u8]) -> States
-    requires { ⌜ (n ≤ 64) × (count < 64) ⌝ }
+// One cycle under the faults f; `count` is its cycle count. `frames` shows its frames afterwards. Free: what the row after it does not show.
+pub fn cycle(config: Config, count: u32, s: States, f: Faults, frames: &mut [u8]) -> States
+    requires { ⌜ (config .nodes ≤ 64) × (count < 64) ⌝ }
     requires { ⌜ length (now frames) ≡ framesLength ⌝ }
-    requires { ⌜ ((q : ℕ) → q < n → formedState q n (stateAt s q) ≡ true) ⌝ }
-    ensures { λ r. ⌜ rowOf n r ≡ theCycle (record { nodes = n }) f (rowOf n s) ⌝ }
-    ensures { λ _. ⌜ now (frames .exit) ≡ framesShown (record { nodes = n }) count f (rowOf n s) ⌝ }
+    requires { ⌜ ((q : ℕ) → q < config .nodes → formedState q (config .nodes) (stateAt s q) ≡ true) ⌝ }
+    ensures { λ r. ⌜ rowOf (config .nodes) r ≡ theCycle config f (rowOf (config .nodes) s) ⌝ }
+    ensures { λ _. ⌜ now (frames .exit) ≡ framesShown config count f (rowOf (config .nodes) s) ⌝ }
 {
     let w = cluster_states::rule_one(
-        n,
+        config.nodes,
         Roles {
             members: s.members,
             joining: s.joining,
@@ -209,7 +236,7 @@ pub fn cycle(n: usize, count: u32, s: States, f: Faults, frames: &mut [u8]) -> S
     let unheard = f.heartbeat_missed;
     let missed = f.vote_missed;
     let views = bus_channels::heartbeat_phase(
-        n,
+        config.nodes,
         count,
         w,
         f.heartbeat_lost,
@@ -218,7 +245,7 @@ pub fn cycle(n: usize, count: u32, s: States, f: Faults, frames: &mut [u8]) -> S
         frames,
     );
     let after = vote_phase(
-        n,
+        config,
         count,
         w,
         f.vote_lost,

@@ -18,7 +18,7 @@ framed-run-is-plain C n row [] few w = refl
 framed-run-is-plain C n row (c ∷ cs) few w =
     let e = framed-is-plain C (cycleCount n) c row few (mod-lt (n - 1) (lit< tt)) w in
     ap (λ (r : Row). r ∷ framedRows C (suc n) r cs) e
-    ∙ ap (λ (rs : List Row). cycle C c row ∷ rs) (framed-run-is-plain C (suc n) (cycle C c row) cs few (cycle-formed (C .nodes) c row w))
+    ∙ ap (λ (rs : List Row). cycle C c row ∷ rs) (framed-run-is-plain C (suc n) (cycle C c row) cs few (cycle-formed C c row w))
 
 -- the last of the rows that the rules give is the row after all cycles
 pub last-plain : (C : Config) (k : Cluster) (cs : List Faults) → lastRow (k .row) (plainRows C (k .row) cs) ≡ after C k cs .row

@@ -106,7 +106,7 @@ fn vote_in(r: VoteReceived) -> Vote
     }
 }
 
-// What arrives at a unit of the votes of all nodes.
+// What arrives at a unit of the votes of all nodes. Free: what stands in the slots of votes that did not arrive.
 pub fn arrive(n: usize, count: u32, reach: u64, a: &[u8], b: &[u8]) -> Arrived
     requires { ⌜ n ≤ 64 ⌝ }
     requires { ⌜ (length (now a) ≡ 2304) × (length (now b) ≡ 2304) ⌝ }

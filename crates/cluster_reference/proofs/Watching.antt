@@ -20,7 +20,7 @@ use Rattle.rules.specs.declared.Vote.{Vote}
 use Rattle.rules.specs.declared.Config.{Config}
 use Rattle.rules.specs.OneCycle.{Ballots, stopped, sendsMember, sendsJoin, wins, newGroup, withOwn, rival, memberDecides}
 use Rattle.rules.specs.Faults.{Row, at, heartbeatsMissed, votesMissed, missesOther, disturbed, ruleOne, ownVote, votes, arrivedAt, decides, decisions, cycle}
-use Rattle.rules.specs.Reference.{Cluster, steady, keepsWith, keeps, referenceAfter, step}
+use Rattle.rules.specs.Reference.{Cluster, steady, keepsWith, keeps, referenceAfter, step, haltedIn, enteredIn}
 use Rattle.rules.proofs.Rows.{get-tabulate}
 use Rattle.rules.proofs.Counting.{quorum-node}
 use Rattle.cluster_states.specs.declared.Roles.{Roles}
@@ -29,7 +29,7 @@ use Rattle.cluster_states.specs.States.{rolesOf, groupAt, stateAt, rowOf}
 use Rattle.cluster_states.specs.Decided.{rolesAfter}
 use Rattle.cluster_states.proofs.Whole.{member-role, members-high, joining-high, sends-member, sends-join}
 use Rattle.cluster_watched.specs.declared.Watch.{Watch}
-use Rattle.cluster_watched.specs.Watched.{referenceOf, clusterOf, missesAt, haltedIn, enteredIn}
+use Rattle.cluster_watched.specs.Watched.{referenceOf, clusterOf, missesAt}
 
 -- ---- the nodes that a cycle disturbs
 
@@ -111,14 +111,14 @@ group-role false false true v g = refl
 group-role false false false true g = refl
 group-role false false false false g = refl
 
-module _ (n : ℕ) (s : States) (w : Watch) (f : Faults) where
-  abbrev config : Config
-  config = record { nodes = n }
+module _ (C : Config) (s : States) (w : Watch) (f : Faults) where
+  abbrev n : ℕ
+  n = C .nodes
 
   abbrev watched : Cluster
   watched = clusterOf n s w
 
-  pub steady-are : (d u : ℕ) → d ≡ those n (disturbed f) → u ≡ below n (w .group .set ∖ d ∖ w .lately) → u ≡ steady config watched f (w .group)
+  pub steady-are : (d u : ℕ) → d ≡ those n (disturbed f) → u ≡ below n (w .group .set ∖ d ∖ w .lately) → u ≡ steady C watched f (w .group)
   unfolding steady
   steady-are d u e k = k ∙ set-ext (λ q. has-below q n (w .group .set ∖ d ∖ w .lately) ∙ go q (ltb q n) refl ∙ sym (has-those q n test))
     where
@@ -131,12 +131,12 @@ module _ (n : ℕ) (s : States) (w : Watch) (f : Faults) where
           ∙ ap (λ (x : Bool). x && not (has q (w .lately))) (has-diff q (w .group .set) d ∙ ap (λ (x : Bool). has q (w .group .set) && not x) (ap (has q) e ∙ those-in q n (disturbed f) (ltb-lt h)))
       go q false h = refl
 
-  module _ (u : ℕ) (kept : Bool) (are : u ≡ steady config watched f (w .group)) (e : kept ≡ (w .defined && quorum u (w .group .base))) where
-    pub kept-is : kept ≡ keeps config watched f
+  module _ (u : ℕ) (kept : Bool) (are : u ≡ steady C watched f (w .group)) (e : kept ≡ (w .defined && quorum u (w .group .base))) where
+    pub kept-is : kept ≡ keeps C watched f
     unfolding keeps
     kept-is = e ∙ go (w .defined)
       where
-        go : (b : Bool) → (b && quorum u (w .group .base)) ≡ keepsWith config watched f (cond b (some (w .group)) none)
+        go : (b : Bool) → (b && quorum u (w .group .base)) ≡ keepsWith C watched f (cond b (some (w .group)) none)
         go true = ap (λ (x : ℕ). quorum x (w .group .base)) are
         go false = refl
 
@@ -154,26 +154,26 @@ module _ (n : ℕ) (s : States) (w : Watch) (f : Faults) where
             subst (λ (m : ℕ). m < 64) (sym (l ∙ ap (λ (b : Bool). cond b (lowest 64 (λ q. has q u)) 0) k)) (i .0)
         go false k = let zero : first ≡ 0 = l ∙ ap (λ (b : Bool). cond b (lowest 64 (λ q. has q u)) 0) k in omega arith
 
-    module _ (small : n ≤ 64) (next : States) (first : ℕ) (defined : Bool) (same : rowOf n next ≡ cycle config f (rowOf n s)) (low : first ≡ cond kept (lowest 64 (λ q. has q u)) 0)
+    module _ (small : n ≤ 64) (next : States) (first : ℕ) (defined : Bool) (same : rowOf n next ≡ cycle C f (rowOf n s)) (low : first ≡ cond kept (lowest 64 (λ q. has q u)) 0)
         (e' : defined ≡ (kept && has first (next .members))) where
       -- the group of the lowest steady node
-      held : (q : ℕ) → q < n → groupOf (at (cycle config f (rowOf n s)) q) ≡ cond (has q (next .members)) (some (groupAt next q)) none
+      held : (q : ℕ) → q < n → groupOf (at (cycle C f (rowOf n s)) q) ≡ cond (has q (next .members)) (some (groupAt next q)) none
       unfolding rowOf stateAt
       held q h =
           ap (λ (r : Row). groupOf (at r q)) (sym same) ∙ ap groupOf (get-tabulate n q (stateAt next) stopped h)
           ∙ group-role (has q (next .members)) (has q (next .joining)) (has q (next .«no_quorum»)) (has q (next .outvoted)) (groupAt next q)
 
-      reference-is : cond defined (some (groupAt next first)) none ≡ referenceAfter config watched f (cycle config f (rowOf n s)) (referenceOf w)
+      reference-is : cond defined (some (groupAt next first)) none ≡ referenceAfter C watched f (cycle C f (rowOf n s)) (referenceOf w)
       unfolding steady
       reference-is = ap (λ (b : Bool). cond b (some (groupAt next first)) none) e' ∙ go (w .defined) (quorum u (w .group .base)) refl e
         where
           U : ℕ
-          U = steady config watched f (w .group)
+          U = steady C watched f (w .group)
 
           go : (b c : Bool) → quorum u (w .group .base) ≡ c → kept ≡ (b && c)
-              → _≡_ {A = Option Group} (cond (kept && has first (next .members)) (some (groupAt next first)) none) (referenceAfter config watched f (cycle config f (rowOf n s)) (cond b (some (w .group)) none))
+              → _≡_ {A = Option Group} (cond (kept && has first (next .members)) (some (groupAt next first)) none) (referenceAfter C watched f (cycle C f (rowOf n s)) (cond b (some (w .group)) none))
           go false c h k = rw k
-          go true false h k = rw k (sym (ap (λ (x : ℕ). cond (quorum x (w .group .base)) (groupOf (at (cycle config f (rowOf n s)) (lowest n (λ q. has q U)))) none) (sym are) ∙ rw h))
+          go true false h k = rw k (sym (ap (λ (x : ℕ). cond (quorum x (w .group .base)) (groupOf (at (cycle C f (rowOf n s)) (lowest n (λ q. has q U)))) none) (sym are) ∙ rw h))
           go true true h k =
               let x = quorum-node u (w .group .base) h in
               let y = of-those (x .0) n (λ q. has q (w .group .set) && not (disturbed f q) && not (has q (w .lately))) (ap (has (x .0)) (sym are) ∙ x .1) in
@@ -181,12 +181,12 @@ module _ (n : ℕ) (s : States) (w : Watch) (f : Faults) where
               let z : lowest n (λ q. has q u) ≡ first = sym (lowest-more n 64 (x .0) (λ q. has q u) small (y .0) (x .1)) ∙ sym (low ∙ ap (λ (b : Bool). cond b (lowest 64 (λ q. has q u)) 0) k) in
               ap (λ (b : Bool). cond (b && has first (next .members)) (some (groupAt next first)) none) k
               ∙ sym (held first (subst (λ (m : ℕ). m < n) z (i .0)))
-              ∙ ap (λ (m : ℕ). groupOf (at (cycle config f (rowOf n s)) m)) (sym z ∙ ap (λ (m : ℕ). lowest n (λ q. has q m)) are)
-              ∙ sym (ap (λ (m : ℕ). cond (quorum m (w .group .base)) (groupOf (at (cycle config f (rowOf n s)) (lowest n (λ q. has q U)))) none) (sym are) ∙ rw h)
+              ∙ ap (λ (m : ℕ). groupOf (at (cycle C f (rowOf n s)) m)) (sym z ∙ ap (λ (m : ℕ). lowest n (λ q. has q m)) are)
+              ∙ sym (ap (λ (m : ℕ). cond (quorum m (w .group .base)) (groupOf (at (cycle C f (rowOf n s)) (lowest n (λ q. has q U)))) none) (sym are) ∙ rw h)
 
       -- the cluster after the cycle
       pub stepped : (d : ℕ) → d ≡ those n (disturbed f)
-          → clusterOf n next (record { defined = defined; group = groupAt next first; lately = d }) ≡ step config watched f
+          → clusterOf n next (record { defined = defined; group = groupAt next first; lately = d }) ≡ step C watched f
       unfolding step
       stepped d k = λ i. record { row = same i; reference = reference-is i; lately = k i }
 
@@ -209,45 +209,45 @@ stays-or-halts C c r q (Out k) b = refl
 stays-or-halts C c r q Joining b = refl
 stays-or-halts C c r q (Member g) b = member-halts C q (ownVote (C .nodes) c r q g) b
 
-module _ (n : ℕ) (s : States) (f : Faults) (before : Roles) (next : States) (ruled : before ≡ rolesAfter n (rolesOf s) (f .stop) (f .start))
-    (same : rowOf n next ≡ cycle (record { nodes = n }) f (rowOf n s)) where
-  member-next : (q : ℕ) → q < n → sendsMember (at (cycle (record { nodes = n }) f (rowOf n s)) q) ≡ has q (next .members)
+module _ (C : Config) (s : States) (f : Faults) (before : Roles) (next : States) (ruled : before ≡ rolesAfter (C .nodes) (rolesOf s) (f .stop) (f .start))
+    (same : rowOf (C .nodes) next ≡ cycle C f (rowOf (C .nodes) s)) where
+  member-next : (q : ℕ) → q < C .nodes → sendsMember (at (cycle C f (rowOf (C .nodes) s)) q) ≡ has q (next .members)
   unfolding rowOf stateAt
   member-next q h =
-      ap (λ (r : Row). sendsMember (at r q)) (sym same) ∙ ap sendsMember (get-tabulate n q (stateAt next) stopped h)
+      ap (λ (r : Row). sendsMember (at r q)) (sym same) ∙ ap sendsMember (get-tabulate (C .nodes) q (stateAt next) stopped h)
       ∙ member-role (has q (next .members)) (has q (next .joining)) (has q (next .«no_quorum»)) (has q (next .outvoted)) (groupAt next q)
 
-  gone : (q : ℕ) → q < n → (sendsMember (at (ruleOne n f (rowOf n s)) q) && halted (at (cycle (record { nodes = n }) f (rowOf n s)) q)) ≡ (sendsMember (at (ruleOne n f (rowOf n s)) q) && not (sendsMember (at (cycle (record { nodes = n }) f (rowOf n s)) q)))
+  gone : (q : ℕ) → q < C .nodes → (sendsMember (at (ruleOne (C .nodes) f (rowOf (C .nodes) s)) q) && halted (at (cycle C f (rowOf (C .nodes) s)) q)) ≡ (sendsMember (at (ruleOne (C .nodes) f (rowOf (C .nodes) s)) q) && not (sendsMember (at (cycle C f (rowOf (C .nodes) s)) q)))
   unfolding cycle decisions
-  gone q h = rw (get-tabulate n q (λ p. decides (record { nodes = n }) f r p (at r p) (arrivedAt f (votes (record { nodes = n }) f r) p)) stopped h) (stays-or-halts (record { nodes = n }) f r q (at r q) (arrivedAt f (votes (record { nodes = n }) f r) q))
+  gone q h = rw (get-tabulate (C .nodes) q (λ p. decides C f r p (at r p) (arrivedAt f (votes C f r) p)) stopped h) (stays-or-halts C f r q (at r q) (arrivedAt f (votes C f r) q))
     where
       r : Row
-      r = ruleOne n f (rowOf n s)
+      r = ruleOne (C .nodes) f (rowOf (C .nodes) s)
 
-  pub halted-are : (m : ℕ) → m ≡ before .members ∖ next .members → m ≡ haltedIn (record { nodes = n }) f (rowOf n s)
+  pub halted-are : (m : ℕ) → m ≡ before .members ∖ next .members → m ≡ haltedIn C f (rowOf (C .nodes) s)
   unfolding haltedIn
-  halted-are m e = e ∙ ap (λ (x : Roles). x .members ∖ next .members) ruled ∙ set-ext (λ q. has-diff q M (next .members) ∙ go q (ltb q n) refl ∙ sym (has-those q n test))
+  halted-are m e = e ∙ ap (λ (x : Roles). x .members ∖ next .members) ruled ∙ set-ext (λ q. has-diff q M (next .members) ∙ go q (ltb q (C .nodes)) refl ∙ sym (has-those q (C .nodes) test))
     where
       M : ℕ
-      M = rolesAfter n (rolesOf s) (f .stop) (f .start) .members
+      M = rolesAfter (C .nodes) (rolesOf s) (f .stop) (f .start) .members
 
       test : ℕ → Bool
-      test q = sendsMember (at (ruleOne n f (rowOf n s)) q) && halted (at (cycle (record { nodes = n }) f (rowOf n s)) q)
+      test q = sendsMember (at (ruleOne (C .nodes) f (rowOf (C .nodes) s)) q) && halted (at (cycle C f (rowOf (C .nodes) s)) q)
 
-      go : (q : ℕ) (a : Bool) → ltb q n ≡ a → (has q M && not (has q (next .members))) ≡ (a && test q)
-      go q true h = sym (gone q (ltb-lt h) ∙ ap₂ (λ (x y : Bool). x && not y) (sends-member n s f q (ltb-lt h)) (member-next q (ltb-lt h)))
-      go q false h = ap (λ (x : Bool). x && not (has q (next .members))) (members-high n s f q h)
+      go : (q : ℕ) (a : Bool) → ltb q (C .nodes) ≡ a → (has q M && not (has q (next .members))) ≡ (a && test q)
+      go q true h = sym (gone q (ltb-lt h) ∙ ap₂ (λ (x y : Bool). x && not y) (sends-member C s f q (ltb-lt h)) (member-next q (ltb-lt h)))
+      go q false h = ap (λ (x : Bool). x && not (has q (next .members))) (members-high C s f q h)
 
-  pub entered-are : (m : ℕ) → m ≡ before .joining ∩ next .members → m ≡ enteredIn (record { nodes = n }) f (rowOf n s)
+  pub entered-are : (m : ℕ) → m ≡ before .joining ∩ next .members → m ≡ enteredIn C f (rowOf (C .nodes) s)
   unfolding enteredIn
-  entered-are m e = e ∙ ap (λ (x : Roles). x .joining ∩ next .members) ruled ∙ set-ext (λ q. has-inter q J (next .members) ∙ go q (ltb q n) refl ∙ sym (has-those q n test))
+  entered-are m e = e ∙ ap (λ (x : Roles). x .joining ∩ next .members) ruled ∙ set-ext (λ q. has-inter q J (next .members) ∙ go q (ltb q (C .nodes)) refl ∙ sym (has-those q (C .nodes) test))
     where
       J : ℕ
-      J = rolesAfter n (rolesOf s) (f .stop) (f .start) .joining
+      J = rolesAfter (C .nodes) (rolesOf s) (f .stop) (f .start) .joining
 
       test : ℕ → Bool
-      test q = sendsJoin (at (ruleOne n f (rowOf n s)) q) && sendsMember (at (cycle (record { nodes = n }) f (rowOf n s)) q)
+      test q = sendsJoin (at (ruleOne (C .nodes) f (rowOf (C .nodes) s)) q) && sendsMember (at (cycle C f (rowOf (C .nodes) s)) q)
 
-      go : (q : ℕ) (a : Bool) → ltb q n ≡ a → (has q J && has q (next .members)) ≡ (a && test q)
-      go q true h = sym (ap₂ (λ (x y : Bool). x && y) (sends-join n s f q (ltb-lt h)) (member-next q (ltb-lt h)))
-      go q false h = ap (λ (x : Bool). x && has q (next .members)) (joining-high n s f q h)
+      go : (q : ℕ) (a : Bool) → ltb q (C .nodes) ≡ a → (has q J && has q (next .members)) ≡ (a && test q)
+      go q true h = sym (ap₂ (λ (x y : Bool). x && y) (sends-join C s f q (ltb-lt h)) (member-next q (ltb-lt h)))
+      go q false h = ap (λ (x : Bool). x && has q (next .members)) (joining-high C s f q h)

@@ -110,42 +110,42 @@ reached n m lost missed sends e high = set-ext (λ x. has-those x n (λ p. sends
     go x true h = ap (λ (y : Bool). y && (not (has x lost) && not (has x missed))) (e x (ltb-lt h)) ∙ assoc (has x m) (not (has x lost)) (not (has x missed))
     go x false h = sym (ap (λ (y : Bool). (y && not (has x lost)) && not (has x missed)) (high x h))
 
-module _ (n : ℕ) (s : States) (f : Faults) where
+module _ (C : Config) (s : States) (f : Faults) where
+  abbrev n : ℕ
+  n = C .nodes
+
   -- the row and the masks after rule 1
   abbrev pub row : Row
   row = ruleOne n f (rowOf n s)
 
-  abbrev pub after : Roles
-  after = rolesAfter n (rolesOf s) (f .stop) (f .start)
-
-  abbrev pub config : Config
-  config = record { nodes = n }
+  abbrev pub roles : Roles
+  roles = rolesAfter n (rolesOf s) (f .stop) (f .start)
 
   -- a state of that row
   abbrev pub stateAfter : ℕ → State
-  stateAfter q = byRole (has q (after .members)) (has q (after .joining)) (has q (after .«no_quorum»)) (has q (after .outvoted)) (groupAt s q)
+  stateAfter q = byRole (has q (roles .members)) (has q (roles .joining)) (has q (roles .«no_quorum»)) (has q (roles .outvoted)) (groupAt s q)
 
-  members-after : (q : ℕ) → q < n → has q (after .members) ≡ (has q (s .members) && not (has q (f .stop)))
+  members-after : (q : ℕ) → q < n → has q (roles .members) ≡ (has q (s .members) && not (has q (f .stop)))
   unfolding rolesAfter
   members-after q h = has-below q n (s .members ∖ f .stop) ∙ ap₂ (λ (x y : Bool). x && y) (ltb-true h) (has-diff q (s .members) (f .stop))
 
-  joining-after : (q : ℕ) → q < n → has q (after .joining) ≡ ((has q (f .start) || (has q (s .joining) && not (has q (f .stop)))) && not (has q (after .members)))
+  joining-after : (q : ℕ) → q < n → has q (roles .joining) ≡ ((has q (f .start) || (has q (s .joining) && not (has q (f .stop)))) && not (has q (roles .members)))
   unfolding rolesAfter
   joining-after q h =
       has-below q n ((f .start ∪ (s .joining ∖ f .stop)) ∖ below n (s .members ∖ f .stop)) ∙ ap (λ (x : Bool). x && has q ((f .start ∪ (s .joining ∖ f .stop)) ∖ below n (s .members ∖ f .stop))) (ltb-true h)
       ∙ has-diff q (f .start ∪ (s .joining ∖ f .stop)) (below n (s .members ∖ f .stop))
       ∙ ap (λ (x : Bool). x && not (has q (below n (s .members ∖ f .stop)))) (has-union q (f .start) (s .joining ∖ f .stop) ∙ ap (λ (x : Bool). has q (f .start) || x) (has-diff q (s .joining) (f .stop)))
 
-  pub members-high : (q : ℕ) → ltb q n ≡ false → has q (after .members) ≡ false
+  pub members-high : (q : ℕ) → ltb q n ≡ false → has q (roles .members) ≡ false
   unfolding rolesAfter
   members-high q h = has-below q n (s .members ∖ f .stop) ∙ ap (λ (x : Bool). x && has q (s .members ∖ f .stop)) h
 
-  pub joining-high : (q : ℕ) → ltb q n ≡ false → has q (after .joining) ≡ false
+  pub joining-high : (q : ℕ) → ltb q n ≡ false → has q (roles .joining) ≡ false
   unfolding rolesAfter
   joining-high q h =
       has-below q n ((f .start ∪ (s .joining ∖ f .stop)) ∖ below n (s .members ∖ f .stop)) ∙ ap (λ (x : Bool). x && has q ((f .start ∪ (s .joining ∖ f .stop)) ∖ below n (s .members ∖ f .stop))) h
 
-  out-after : (q : ℕ) → (has q (after .«no_quorum») ≡ (has q (s .«no_quorum») && not (has q (f .stop)))) × (has q (after .outvoted) ≡ (has q (s .outvoted) && not (has q (f .stop))))
+  out-after : (q : ℕ) → (has q (roles .«no_quorum») ≡ (has q (s .«no_quorum») && not (has q (f .stop)))) × (has q (roles .outvoted) ≡ (has q (s .outvoted) && not (has q (f .stop))))
   unfolding rolesAfter
   out-after q = (has-diff q (s .«no_quorum») (f .stop), has-diff q (s .outvoted) (f .stop))
 
@@ -158,44 +158,44 @@ module _ (n : ℕ) (s : States) (f : Faults) where
       ∙ rule-roles (has q (f .stop)) (has q (f .start)) (has q (s .members)) (has q (s .joining)) (has q (s .«no_quorum»)) (has q (s .outvoted)) (groupAt s q)
       ∙ sym (rw (joining-after q h, members-after q h, out-after q .0, out-after q .1))
 
-  pub sends-member : (q : ℕ) → q < n → sendsMember (at row q) ≡ has q (after .members)
-  sends-member q h = ap sendsMember (after-at q h) ∙ member-role (has q (after .members)) (has q (after .joining)) (has q (after .«no_quorum»)) (has q (after .outvoted)) (groupAt s q)
+  pub sends-member : (q : ℕ) → q < n → sendsMember (at row q) ≡ has q (roles .members)
+  sends-member q h = ap sendsMember (after-at q h) ∙ member-role (has q (roles .members)) (has q (roles .joining)) (has q (roles .«no_quorum»)) (has q (roles .outvoted)) (groupAt s q)
 
-  pub sends-join : (q : ℕ) → q < n → sendsJoin (at row q) ≡ has q (after .joining)
+  pub sends-join : (q : ℕ) → q < n → sendsJoin (at row q) ≡ has q (roles .joining)
   sends-join q h =
-      ap sendsJoin (after-at q h) ∙ ap (λ (x : Bool). sendsJoin (byRole (has q (after .members)) x (has q (after .«no_quorum»)) (has q (after .outvoted)) (groupAt s q))) (joining-after q h)
-      ∙ join-role (has q (after .members)) (has q (f .start) || (has q (s .joining) && not (has q (f .stop)))) (has q (after .«no_quorum»)) (has q (after .outvoted)) (groupAt s q) ∙ sym (joining-after q h)
+      ap sendsJoin (after-at q h) ∙ ap (λ (x : Bool). sendsJoin (byRole (has q (roles .members)) x (has q (roles .«no_quorum»)) (has q (roles .outvoted)) (groupAt s q))) (joining-after q h)
+      ∙ join-role (has q (roles .members)) (has q (f .start) || (has q (s .joining) && not (has q (f .stop)))) (has q (roles .«no_quorum»)) (has q (roles .outvoted)) (groupAt s q) ∙ sym (joining-after q h)
 
   module _ (views : List ℕ)
-      (seen : (p : ℕ) → p < n → getD views p 0 ≡ viewAt n (s .sets) (after .members ∖ f .«heartbeat_lost») (after .joining ∖ f .«heartbeat_lost») (f .«heartbeat_missed») p) where
+      (seen : (p : ℕ) → p < n → getD views p 0 ≡ viewAt n (s .sets) (roles .members ∖ f .«heartbeat_lost») (roles .joining ∖ f .«heartbeat_lost») (f .«heartbeat_missed») p) where
     pub own-vote : (q : ℕ) → q < n → ownVote n f row q (groupAt s q) ≡ voteAt (s .numbers) (s .sets) (s .bases) views q
     unfolding ownVote heard
     own-vote q h =
         ap (λ (x : ℕ). record { group = groupAt s q; view = x })
         (ap₂ (viewOf n q (getD (s .sets) q 0))
-        (reached n (after .members) (f .«heartbeat_lost») (heartbeatsMissed f q) (λ p. sendsMember (at row p)) sends-member members-high)
-        (reached n (after .joining) (f .«heartbeat_lost») (heartbeatsMissed f q) (λ p. sendsJoin (at row p)) sends-join joining-high)
+        (reached n (roles .members) (f .«heartbeat_lost») (heartbeatsMissed f q) (λ p. sendsMember (at row p)) sends-member members-high)
+        (reached n (roles .joining) (f .«heartbeat_lost») (heartbeatsMissed f q) (λ p. sendsJoin (at row p)) sends-join joining-high)
         ∙ sym (seen q h))
 
-    sent : (p : ℕ) → getD (votes config f row) p none ≡ ballotsOf (s .numbers) (s .sets) (s .bases) views (after .members) p
+    sent : (p : ℕ) → getD (votes C f row) p none ≡ ballotsOf (s .numbers) (s .sets) (s .bases) views (roles .members) p
     unfolding votes ballotsOf
     sent p = go (ltb p n) refl
       where
-        go : (a : Bool) → ltb p n ≡ a → getD (votes config f row) p none ≡ ballotsOf (s .numbers) (s .sets) (s .bases) views (after .members) p
+        go : (a : Bool) → ltb p n ≡ a → getD (votes C f row) p none ≡ ballotsOf (s .numbers) (s .sets) (s .bases) views (roles .members) p
         go true h =
             let l : p < n = ltb-lt h in
-            get-tabulate n p (λ q. voteOf config f row q (at row q)) none l ∙ ap (voteOf config f row p) (after-at p l)
-            ∙ vote-role config f row p (has p (after .members)) (has p (after .joining)) (has p (after .«no_quorum»)) (has p (after .outvoted)) (groupAt s p)
-            ∙ ap (λ (v : Vote). cond (has p (after .members)) (some v) none) (own-vote p l)
+            get-tabulate n p (λ q. voteOf C f row q (at row q)) none l ∙ ap (voteOf C f row p) (after-at p l)
+            ∙ vote-role C f row p (has p (roles .members)) (has p (roles .joining)) (has p (roles .«no_quorum»)) (has p (roles .outvoted)) (groupAt s p)
+            ∙ ap (λ (v : Vote). cond (has p (roles .members)) (some v) none) (own-vote p l)
         go false h =
-            get-tabulate-out n p (λ q. voteOf config f row q (at row q)) none (ltb-le h)
+            get-tabulate-out n p (λ q. voteOf C f row q (at row q)) none (ltb-le h)
             ∙ sym (ap (λ (x : Bool). cond x (some (voteAt (s .numbers) (s .sets) (s .bases) views p)) none) (members-high p h))
 
     -- what arrives at q
     abbrev pub presentAt : ℕ → ℕ
-    presentAt q = after .members ∖ f .«vote_lost» ∖ getD (f .«vote_missed») q 0
+    presentAt q = roles .members ∖ f .«vote_lost» ∖ getD (f .«vote_missed») q 0
 
-    arrived : (q : ℕ) → arrivedAt f (votes config f row) q ≡ ballotsOf (s .numbers) (s .sets) (s .bases) views (presentAt q)
+    arrived : (q : ℕ) → arrivedAt f (votes C f row) q ≡ ballotsOf (s .numbers) (s .sets) (s .bases) views (presentAt q)
     unfolding reaches ballotsOf
     arrived q = λ i p. each p i
       where
@@ -207,45 +207,45 @@ module _ (n : ℕ) (s : States) (f : Faults) where
         cases false false true v = refl
         cases false false false v = refl
 
-        each : (p : ℕ) → arrivedAt f (votes config f row) q p ≡ ballotsOf (s .numbers) (s .sets) (s .bases) views (presentAt q) p
+        each : (p : ℕ) → arrivedAt f (votes C f row) q p ≡ ballotsOf (s .numbers) (s .sets) (s .bases) views (presentAt q) p
         each p =
             ap (arriveIf (not (has p (f .«vote_lost»)) && not (has p (votesMissed f q)))) (sent p)
-            ∙ cases (has p (after .members)) (has p (f .«vote_lost»)) (has p (votesMissed f q)) (voteAt (s .numbers) (s .sets) (s .bases) views p)
+            ∙ cases (has p (roles .members)) (has p (f .«vote_lost»)) (has p (votesMissed f q)) (voteAt (s .numbers) (s .sets) (s .bases) views p)
             ∙ ap (λ (x : Bool). cond x (some (voteAt (s .numbers) (s .sets) (s .bases) views p)) none)
-            (sym (has-diff p (after .members ∖ f .«vote_lost») (votesMissed f q) ∙ ap (λ (x : Bool). x && not (has p (votesMissed f q))) (has-diff p (after .members) (f .«vote_lost»))))
+            (sym (has-diff p (roles .members ∖ f .«vote_lost») (votesMissed f q) ∙ ap (λ (x : Bool). x && not (has p (votesMissed f q))) (has-diff p (roles .members) (f .«vote_lost»))))
 
-    decided : (q : ℕ) → q < n → decides config f row q (at row q) (arrivedAt f (votes config f row) q) ≡ decidedAt (s .numbers) (s .sets) (s .bases) views n after (presentAt q) q
+    decided : (q : ℕ) → q < n → decides C f row q (at row q) (arrivedAt f (votes C f row) q) ≡ decidedAt (s .numbers) (s .sets) (s .bases) views C roles (presentAt q) q
     unfolding decidedAt
     decided q h =
-        ap₂ (decides config f row q) (after-at q h) (arrived q)
-        ∙ decides-role config f row q (has q (after .members)) (has q (after .joining)) (has q (after .«no_quorum»)) (has q (after .outvoted)) (groupAt s q) (ballotsOf (s .numbers) (s .sets) (s .bases) views (presentAt q))
+        ap₂ (decides C f row q) (after-at q h) (arrived q)
+        ∙ decides-role C f row q (has q (roles .members)) (has q (roles .joining)) (has q (roles .«no_quorum»)) (has q (roles .outvoted)) (groupAt s q) (ballotsOf (s .numbers) (s .sets) (s .bases) views (presentAt q))
         ∙ ap (λ (v : Vote).
-        cond (has q (after .members)) (memberDecides config q v (ballotsOf (s .numbers) (s .sets) (s .bases) views (presentAt q)))
-        (cond (has q (after .joining)) (joinerDecides config q (ballotsOf (s .numbers) (s .sets) (s .bases) views (presentAt q))) (outAt after q)))
+        cond (has q (roles .members)) (memberDecides C q v (ballotsOf (s .numbers) (s .sets) (s .bases) views (presentAt q)))
+        (cond (has q (roles .joining)) (joinerDecides C q (ballotsOf (s .numbers) (s .sets) (s .bases) views (presentAt q))) (outAt roles q)))
         (own-vote q h)
 
-    pub whole : (r : States) → ((q : ℕ) → q < n → stateAt r q ≡ decidedAt (s .numbers) (s .sets) (s .bases) views n after (presentAt q) q) → rowOf n r ≡ cycle config f (rowOf n s)
+    pub whole : (r : States) → ((q : ℕ) → q < n → stateAt r q ≡ decidedAt (s .numbers) (s .sets) (s .bases) views C roles (presentAt q) q) → rowOf n r ≡ cycle C f (rowOf n s)
     unfolding rowOf cycle decisions
-    whole r e = tabulate-ext n (stateAt r) (λ q. decides config f row q (at row q) (arrivedAt f (votes config f row) q)) (λ q h. e q h ∙ sym (decided q h))
+    whole r e = tabulate-ext n (stateAt r) (λ q. decides C f row q (at row q) (arrivedAt f (votes C f row) q)) (λ q h. e q h ∙ sym (decided q h))
 
 -- the masks w after rule 1 hold nodes alone
-pub members-below : (n : ℕ) (s : States) (f : Faults) (w : Roles) → w ≡ after n s f → (p : ℕ) → has p (w .members) ≡ true → p < n
-members-below n s f w e q h = go (ltb q n) refl
+pub members-below : (C : Config) (s : States) (f : Faults) (w : Roles) → w ≡ roles C s f → (p : ℕ) → has p (w .members) ≡ true → p < C .nodes
+members-below C s f w e q h = go (ltb q (C .nodes)) refl
   where
-    go : (b : Bool) → ltb q n ≡ b → q < n
+    go : (b : Bool) → ltb q (C .nodes) ≡ b → q < C .nodes
     go true l = ltb-lt l
-    go false l = absurd (false≢true (sym (members-high n s f q l) ∙ ap (λ (x : Roles). has q (x .members)) (sym e) ∙ h))
+    go false l = absurd (false≢true (sym (members-high C s f q l) ∙ ap (λ (x : Roles). has q (x .members)) (sym e) ∙ h))
 
 -- the same from the values that the code has on its way: the masks w after rule 1, the heartbeats and the votes that go out
-pub run-cycle : (n : ℕ) (s : States) (f : Faults) (w : Roles) (h0 h1 t : ℕ) (views : List ℕ) (r : States)
-    → w ≡ rolesAfter n (rolesOf s) (f .stop) (f .start) → h0 ≡ w .members ∖ f .«heartbeat_lost» → h1 ≡ w .joining ∖ f .«heartbeat_lost» → t ≡ w .members ∖ f .«vote_lost»
-    → ((p : ℕ) → p < n → getD views p 0 ≡ viewAt n (s .sets) h0 h1 (f .«heartbeat_missed») p)
-    → ((q : ℕ) → q < n → stateAt r q ≡ decidedAt (s .numbers) (s .sets) (s .bases) views n w (t ∖ getD (f .«vote_missed») q 0) q)
-    → rowOf n r ≡ cycle (record { nodes = n }) f (rowOf n s)
-run-cycle n s f w h0 h1 t views r e e0 e1 et seen made =
-    whole n s f views
+pub run-cycle : (C : Config) (s : States) (f : Faults) (w : Roles) (h0 h1 t : ℕ) (views : List ℕ) (r : States)
+    → w ≡ rolesAfter (C .nodes) (rolesOf s) (f .stop) (f .start) → h0 ≡ w .members ∖ f .«heartbeat_lost» → h1 ≡ w .joining ∖ f .«heartbeat_lost» → t ≡ w .members ∖ f .«vote_lost»
+    → ((p : ℕ) → p < C .nodes → getD views p 0 ≡ viewAt (C .nodes) (s .sets) h0 h1 (f .«heartbeat_missed») p)
+    → ((q : ℕ) → q < C .nodes → stateAt r q ≡ decidedAt (s .numbers) (s .sets) (s .bases) views C w (t ∖ getD (f .«vote_missed») q 0) q)
+    → rowOf (C .nodes) r ≡ cycle C f (rowOf (C .nodes) s)
+run-cycle C s f w h0 h1 t views r e e0 e1 et seen made =
+    whole C s f views
     (λ p h. seen p h
-    ∙ ap₂ (λ (x y : ℕ). viewAt n (s .sets) x y (f .«heartbeat_missed») p) (e0 ∙ ap (λ (x : Roles). x .members ∖ f .«heartbeat_lost») e) (e1 ∙ ap (λ (x : Roles). x .joining ∖ f .«heartbeat_lost») e))
+    ∙ ap₂ (λ (x y : ℕ). viewAt (C .nodes) (s .sets) x y (f .«heartbeat_missed») p) (e0 ∙ ap (λ (x : Roles). x .members ∖ f .«heartbeat_lost») e) (e1 ∙ ap (λ (x : Roles). x .joining ∖ f .«heartbeat_lost») e))
     r
     (λ q h. made q h
-    ∙ ap₂ (λ (x : Roles) (y : ℕ). decidedAt (s .numbers) (s .sets) (s .bases) views n x (y ∖ getD (f .«vote_missed») q 0) q) e (et ∙ ap (λ (x : Roles). x .members ∖ f .«vote_lost») e))
+    ∙ ap₂ (λ (x : Roles) (y : ℕ). decidedAt (s .numbers) (s .sets) (s .bases) views C x (y ∖ getD (f .«vote_missed») q 0) q) e (et ∙ ap (λ (x : Roles). x .members ∖ f .«vote_lost») e))

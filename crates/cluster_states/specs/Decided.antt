@@ -9,6 +9,7 @@ use Rattle.state.specs.declared.Reason.the-variants.{Stopped, NoQuorum, Outvote
 use Rattle.state.specs.declared.Group.{Group}
 use Rattle.state.specs.declared.State.{State}
 use Rattle.state.specs.declared.State.the-variants.{Out, Joining, Member}
+use Rattle.rules.specs.declared.Config.{Config}
 use Rattle.rules.specs.OneCycle.{sendsMember, sendsJoin, viewOf, memberDecides, joinerDecides}
 use Rattle.rules.specs.Ballots.{voteAt, ballotsOf}
 use Rattle.cluster_states.specs.declared.Roles.{Roles}
@@ -34,10 +35,10 @@ abbrev pub outAt : Roles → ℕ → State
 outAt w q = cond (has q (w .«no_quorum»)) (Out NoQuorum) (cond (has q (w .outvoted)) (Out Outvoted) (Out Stopped))
 
 -- what node q decides on the votes in the slots `present`
-unfoldable pub decidedAt : List ℕ → List ℕ → List ℕ → List ℕ → ℕ → Roles → ℕ → ℕ → State
-decidedAt numbers sets bases views n w present q =
-    cond (has q (w .members)) (memberDecides (record { nodes = n }) q (voteAt numbers sets bases views q) (ballotsOf numbers sets bases views present))
-    (cond (has q (w .joining)) (joinerDecides (record { nodes = n }) q (ballotsOf numbers sets bases views present))
+unfoldable pub decidedAt : List ℕ → List ℕ → List ℕ → List ℕ → Config → Roles → ℕ → ℕ → State
+decidedAt numbers sets bases views C w present q =
+    cond (has q (w .members)) (memberDecides C q (voteAt numbers sets bases views q) (ballotsOf numbers sets bases views present))
+    (cond (has q (w .joining)) (joinerDecides C q (ballotsOf numbers sets bases views present))
     (outAt w q))
 
 -- the group that a state holds, zeros if it holds none; and whether it is out for want of a quorum, or outvoted

@@ -9,7 +9,8 @@ use state::Reason;
 use state::State;
 
 // The states of all nodes: who is a member, who is joining, who is out for want of a quorum or outvoted (the others are out, stopped), and the group that
-// each member holds. Masks and arrays, so that a cycle works on all nodes at once.
+// each member holds. Masks and arrays, so that a cycle works on all nodes at once. Contracts speak of the row that they stand for (`rowOf`). What it does
+// not show is free, and no row after it depends on that: mask bits of nodes from N on and of nodes in a mask named before, groups of nodes that are no members.
 pub struct States {
     pub members: u64,
     pub joining: u64,
@@ -20,7 +21,7 @@ pub struct States {
     pub bases: [u64; 64],
 }
 
-// All nodes at the beginning.
+// All nodes at the beginning. Free: what their row does not show.
 pub fn begin(n: usize, founding: u64) -> States
     requires { ⌜ n ≤ 64 ⌝ }
     ensures { λ r. ⌜ rowOf n r ≡ theFounding n 0 founding ⌝ }

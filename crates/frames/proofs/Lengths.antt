@@ -3,9 +3,7 @@ use mathlib.Core.Path.{_≡_, refl, ap, _∙_}
 use mathlib.Core.List.{List, [], _∷_, _++_}
 use Prim.Native.Nat.{ℕ, _+_, _*_, _^_}
 use lib.ListN.{length, length-append}
-use Rattle.bigendian.specs.BigEndian.{bytesOf}
 use Rattle.bigendian.proofs.Laws.{length-bytes}
-use Rattle.crc.specs.Crc.{frameCheck}
 use Rattle.rules.specs.declared.Vote.{Vote}
 use Rattle.frames.specs.Written.{header, frame, heartbeatFrame, votePayload, voteFrame}
 
@@ -15,7 +13,7 @@ length-header sync startup number words cycle = length-bytes 5 _
 
 pub length-frame : (start : ℕ) (s : List ℕ) → length (frame start s) ≡ length s + 3
 unfolding frame
-length-frame start s = length-append s (bytesOf 3 (frameCheck start s)) ∙ ap (λ (k : ℕ). length s + k) (length-bytes 3 (frameCheck start s))
+length-frame start s = length-append s _ ∙ ap (λ (k : ℕ). length s + k) (length-bytes 3 _)
 
 -- a frame with its header and a payload of k bytes
 pub length-with : (start sync startup number words cycle k : ℕ) (payload : List ℕ) → length payload ≡ k

@@ -40,7 +40,7 @@ module _ (start : ℕ) (s : List ℕ) where
 
   front : take (length (frame start s) - 3) (frame start s) ≡ s
   unfolding frame
-  front = take-at s (bytesOf 3 (frameCheck start s)) (length (frame start s) - 3) (sym place)
+  front = take-at s _ (length (frame start s) - 3) (sym place)
 
   at-end : start < 2 ^ 24 → numberAt (frame start s) (length (frame start s) - 3) 3 ≡ frameCheck start s
   unfolding frame

@@ -1,5 +1,22 @@
 -- Paper 01, "Frames" and refusals 5 to 10: heartbeat and vote frames as they are read, and the two-channel rule.
 -- Assumes nothing.
+--     faultCode: the number of a frame's refusal, 5 to 10
+--     field: k bits of the header
+--     reservedOf, preambleOf, nullOf, syncOf, startupOf: its five indicator bits
+--     numberOf, wordsOf, checkOf, cycleOf: its frame number, payload length in words, header check and cycle count
+--     wrongLength, wrongHeader, wrongFrame: whether refusal 5, 6, 7 holds
+--     isNull: whether it is a null frame (8)
+--     isDue: whether number, length, cycle count and reserved bits are those that are due (9)
+--     heartbeatIndicators, voteIndicators: whether sync and startup are as they may be (9)
+--     faultOf: the first refusal of 5 to 9 that holds
+--     heartbeatContent: what the payload of a heartbeat says, or refusal 10
+--     heartbeatUnless: the same, unless the frame is refused
+--     readHeartbeat: the heartbeat of node q from one copy
+--     payloadVote: the vote in a payload
+--     voteContent: it, if it is well formed, or refusal 10
+--     voteUnless: the same, unless the frame is refused
+--     readVote: the vote of node q from one copy
+--     receiveHeartbeat, receiveVote: what two copies give
 use mathlib.Core.Bool.{Bool, not, _&&_, _||_, cond}
 use mathlib.Core.List.{List}
 use mathlib.Core.Option.{Option, none, some}

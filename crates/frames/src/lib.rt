@@ -1,4 +1,4 @@
-// What reading a frame can find. How frames are laid out and read are definitions, in specs/.
+// Heartbeat and vote frames: how they are laid out and read, as definitions with their laws, and what reading one can find.
 use rules::Vote;
 
 // Why a frame is refused, in the order looked at.

@@ -1,1 +1,1 @@
-// How refusals are stated; no code.
+// How the refusals of a call are stated; no code.

@@ -19,7 +19,7 @@ use Rattle.cluster_states.specs.declared.States.{States}
 use Rattle.cluster_states.specs.States.{rolesOf, stateAt, rowOf}
 use Rattle.cluster_states.proofs.Deciding.{Holds, holds-none, holds-next, holds-state}
 use Rattle.row.specs.declared.Gathered.{Gathered}
-use Rattle.row.specs.Row.{statesOf, nodesOf, inPlace, inOrder}
+use Rattle.row.specs.Row.{statesIn, nodesOf, inPlace, inOrder}
 use Rattle.row.specs.Gathered.{withNode, nothingOf, pushOf, gathered, nodeOf, each}
 use Rattle.row.proofs.Lists.{one-on}
 
@@ -38,17 +38,17 @@ unfolding tabulate
 entries [] = refl
 entries (d ∷ row) = ap (λ (r : Row). d ∷ r) (entries row)
 
-states-tabulate : (n : ℕ) (f : ℕ → Node) → statesOf (tabulate n f) ≡ tabulate n (λ q. f q .state)
-unfolding statesOf tabulate
+states-tabulate : (n : ℕ) (f : ℕ → Node) → statesIn (tabulate n f) ≡ tabulate n (λ q. f q .state)
+unfolding statesIn tabulate
 states-tabulate zero f = refl
 states-tabulate (suc n) f = ap (λ (r : Row). f 0 .state ∷ r) (states-tabulate n (λ q. f (suc q)))
 
-length-states : (xs : List Node) → length (statesOf xs) ≡ length xs
-unfolding statesOf
+length-states : (xs : List Node) → length (statesIn xs) ≡ length xs
+unfolding statesIn
 length-states [] = refl
 length-states (x ∷ xs) = ap suc (length-states xs)
 
-pub states-nodes : (n : ℕ) (row : Row) → length row ≡ n → statesOf (nodesOf n row) ≡ row
+pub states-nodes : (n : ℕ) (row : Row) → length row ≡ n → statesIn (nodesOf n row) ≡ row
 unfolding nodesOf
 states-nodes n row e = states-tabulate n (λ q. node n q (at row q)) ∙ ap (λ (k : ℕ). tabulate k (at row)) (sym e) ∙ entries row
 
@@ -93,20 +93,20 @@ in-order n row h =
     order-made n 0 n (λ q. node n q (at row q))
     (λ q l. subst (λ (p : ℕ). inPlace n p (node n q (at row q)) ≡ true) (sym (zero-add q)) (in-place n q (at row q) (h q l)))
 
-nodes-from : (n q : ℕ) (xs : List Node) → inOrder n q xs ≡ true → tabulate (length xs) (λ i. node n (q + i) (at (statesOf xs) i)) ≡ xs
-unfolding inOrder statesOf tabulate
+nodes-from : (n q : ℕ) (xs : List Node) → inOrder n q xs ≡ true → tabulate (length xs) (λ i. node n (q + i) (at (statesIn xs) i)) ≡ xs
+unfolding inOrder statesIn tabulate
 nodes-from n q [] h = refl
 nodes-from n q (x ∷ xs) h =
     ap₂ (λ (y : Node) (ys : List Node). y ∷ ys)
     (ap (λ (p : ℕ). node n p (x .state)) (add-zero q) ∙ placed n q x (and-l (inPlace n q x) (inOrder n (suc q) xs) h))
-    (tabulate-ext (length xs) (λ i. node n (q + suc i) (at (statesOf xs) i)) (λ i. node n (suc q + i) (at (statesOf xs) i)) (λ i l. ap (λ (p : ℕ). node n p (at (statesOf xs) i)) (one-on q i))
+    (tabulate-ext (length xs) (λ i. node n (q + suc i) (at (statesIn xs) i)) (λ i. node n (suc q + i) (at (statesIn xs) i)) (λ i l. ap (λ (p : ℕ). node n p (at (statesIn xs) i)) (one-on q i))
     ∙ nodes-from n (suc q) xs (and-r (inPlace n q x) (inOrder n (suc q) xs) h))
 
-pub nodes-states : (n : ℕ) (xs : List Node) → length xs ≡ n → inOrder n 0 xs ≡ true → nodesOf n (statesOf xs) ≡ xs
+pub nodes-states : (n : ℕ) (xs : List Node) → length xs ≡ n → inOrder n 0 xs ≡ true → nodesOf n (statesIn xs) ≡ xs
 unfolding nodesOf
 nodes-states n xs e h =
-    tabulate-ext n (λ q. node n q (at (statesOf xs) q)) (λ q. node n (0 + q) (at (statesOf xs) q)) (λ q l. ap (λ (p : ℕ). node n p (at (statesOf xs) q)) (sym (zero-add q)))
-    ∙ ap (λ (k : ℕ). tabulate k (λ q. node n (0 + q) (at (statesOf xs) q))) (sym e) ∙ nodes-from n 0 xs h
+    tabulate-ext n (λ q. node n q (at (statesIn xs) q)) (λ q. node n (0 + q) (at (statesIn xs) q)) (λ q l. ap (λ (p : ℕ). node n p (at (statesIn xs) q)) (sym (zero-add q)))
+    ∙ ap (λ (k : ℕ). tabulate k (λ q. node n (0 + q) (at (statesIn xs) q))) (sym e) ∙ nodes-from n 0 xs h
 
 -- ---- what is gathered
 pub push-in : (n : ℕ) (g : Gathered) (q : ℕ) (x : Node) → q < 64 → pushOf n g q x ≡ record { states = withNode (g .states) q (x .state); good = g .good && inPlace n q x }
@@ -141,9 +141,9 @@ has-next : (D : ℕ → State) (q : ℕ) (s : States) (d : State) → q < 64 →
 unfolding withNode
 has-next D q s d l h e = holds-next D q (rolesOf s) (rolesOf (withNode s q d)) (s .numbers) (s .sets) (s .bases) d _ l h e refl refl
 
-has-from : (D : ℕ → State) (n : ℕ) (g : Gathered) (q : ℕ) (xs : List Node) → q + length xs ≤ 64 → ((i : ℕ) → i < length xs → at (statesOf xs) i ≡ D (q + i))
+has-from : (D : ℕ → State) (n : ℕ) (g : Gathered) (q : ℕ) (xs : List Node) → q + length xs ≤ 64 → ((i : ℕ) → i < length xs → at (statesIn xs) i ≡ D (q + i))
     → Has D q (g .states) → Has D (q + length xs) (gathered n g q xs .states)
-unfolding gathered statesOf
+unfolding gathered statesIn
 has-from D n g q [] l e h = subst (λ (k : ℕ). Has D k (g .states)) (sym (add-zero q)) h
 has-from D n g q (x ∷ xs) l e h =
     subst (λ (k : ℕ). Has D k (gathered n (pushOf n g q x) (suc q) xs .states)) (sym (one-on q (length xs)))
@@ -165,17 +165,17 @@ has-nothing D = holds-none D _ _ _ long long long
     long : length (replicate {A = ℕ} 64 0) ≡ 64
     long = length-replicate {A = ℕ} 64 0
 
-pub gathered-states : (n : ℕ) (xs : List Node) → length xs ≤ 64 → rowOf (length xs) (gathered n nothingOf 0 xs .states) ≡ statesOf xs
+pub gathered-states : (n : ℕ) (xs : List Node) → length xs ≤ 64 → rowOf (length xs) (gathered n nothingOf 0 xs .states) ≡ statesIn xs
 unfolding rowOf
 gathered-states n xs l =
-    tabulate-ext (length xs) (stateAt s) (at (statesOf xs)) (holds-state (at (statesOf xs)) (length xs) (0 + length xs) (rolesOf s) (s .numbers) (s .sets) (s .bases) held (zero-add (length xs)))
-    ∙ ap (λ (k : ℕ). tabulate k (at (statesOf xs))) (sym (length-states xs)) ∙ entries (statesOf xs)
+    tabulate-ext (length xs) (stateAt s) (at (statesIn xs)) (holds-state (at (statesIn xs)) (length xs) (0 + length xs) (rolesOf s) (s .numbers) (s .sets) (s .bases) held (zero-add (length xs)))
+    ∙ ap (λ (k : ℕ). tabulate k (at (statesIn xs))) (sym (length-states xs)) ∙ entries (statesIn xs)
   where
     s : States
     s = gathered n nothingOf 0 xs .states
 
-    held : Has (at (statesOf xs)) (0 + length xs) s
-    held = has-from (at (statesOf xs)) n nothingOf 0 xs (omega arith) (λ i k. ap (at (statesOf xs)) (sym (zero-add i))) (has-nothing (at (statesOf xs)))
+    held : Has (at (statesIn xs)) (0 + length xs) s
+    held = has-from (at (statesIn xs)) n nothingOf 0 xs (omega arith) (λ i k. ap (at (statesIn xs)) (sym (zero-add i))) (has-nothing (at (statesIn xs)))
 
 -- ---- what is scattered
 each-from : (n : ℕ) (s : States) (q : ℕ) (xs : List Node) → q + length xs ≤ 64 → each (nodeOf n s) q xs ≡ tabulate (length xs) (λ i. node n (q + i) (stateAt s (q + i)))

@@ -9,9 +9,9 @@ use Rattle.state.specs.State.{formed}
 use Rattle.rules.specs.Faults.{Row, at, tabulate}
 
 -- the states of the entries
-unfoldable pub statesOf : List Node → Row
-statesOf [] = []
-statesOf (x ∷ xs) = x .state ∷ statesOf xs
+unfoldable pub statesIn : List Node → Row
+statesIn [] = []
+statesIn (x ∷ xs) = x .state ∷ statesIn xs
 
 -- the entries of a cluster of n nodes in the given states
 unfoldable pub nodesOf : ℕ → Row → List Node

@@ -23,28 +23,38 @@ use Rattle.row_calls.specs.Calls.{rowStatus, cycleStatus, runStatus, fra
 abbrev pub Counted : ℕ → Type 0
 Counted k = (2 ≤ k) × (k ≤ 64)
 
-fitting : (k n : ℕ) → Counted n → not (eqb k n) ≡ false → Counted k
-fitting k n c e = subst Counted (sym (eqb-true k n (not-f (eqb k n) e))) c
+-- a row of so many entries is one of n nodes
+pub record Fits (n len : ℕ) : Type 0 where
+  pub count : Counted n
+  pub entries : len ≡ n
 
-row-counted : (n : ℕ) (nodes : List Node) (s : List ℕ) → rowStatus n nodes s ≡ 0 → Counted (length nodes)
+pub row-fits : (n len : ℕ) (ordered : Bool) (s : List ℕ) → rowStatus n len ordered s ≡ 0 → Fits n len
 unfolding rowStatus
-row-counted n nodes s e =
-    let other = not (eqb (length nodes) n) in
+row-fits n len ordered s e =
+    let other = not (eqb len n) in
     let long = ltb (cycleLength s) (length s) in
-    let last = when (not (inOrder n 0 nodes)) 4 ∷ [] in
+    let last = when (not ordered) 4 ∷ [] in
     let a = none (ltb n 2 || ltb 64 n) 1 (when (other || long) 3 ∷ last) refl e in
     let b = none (other || long) 3 last refl (a .1) in
-    fitting (length nodes) n
-    (ltb-false n 2 (or-f-l (ltb n 2) (ltb 64 n) (a .0)), ltb-false 64 n (or-f-r (ltb n 2) (ltb 64 n) (a .0)))
-    (or-f-l other long (b .0))
+    record {
+      count = (ltb-false n 2 (or-f-l (ltb n 2) (ltb 64 n) (a .0)), ltb-false 64 n (or-f-r (ltb n 2) (ltb 64 n) (a .0)));
+      entries = eqb-true len n (not-f (eqb len n) (or-f-l other long (b .0)));
+    }
 
-cycle-counted : (n : ℕ) (nodes : List Node) (s : List ℕ) → cycleStatus n nodes s ≡ 0 → Counted (length nodes)
+-- a cycle is accepted only on a row that is
+pub cycle-fits : (n : ℕ) (nodes : List Node) (s : List ℕ) → cycleStatus n nodes s ≡ 0 → Fits n (length nodes)
 unfolding cycleStatus
-cycle-counted n nodes s = go (eqb (rowStatus n nodes s) 0) refl
+cycle-fits n nodes s e = row-fits n (length nodes) (inOrder n 0 nodes) s (go (rowStatus n (length nodes) (inOrder n 0 nodes) s) e)
   where
-    go : (b : Bool) → eqb (rowStatus n nodes s) 0 ≡ b → cond b (cycleRefusal n 1 s) (rowStatus n nodes s) ≡ 0 → Counted (length nodes)
-    go true f e = row-counted n nodes s (eqb-true (rowStatus n nodes s) 0 f)
-    go false f e = row-counted n nodes s e
+    go : (row : ℕ) → cond (eqb row 0) (cycleRefusal n 1 s) row ≡ 0 → row ≡ 0
+    go row e = by (eqb row 0) refl e
+      where
+        by : (b : Bool) → eqb row 0 ≡ b → cond b (cycleRefusal n 1 s) row ≡ 0 → row ≡ 0
+        by true f e = eqb-true row 0 f
+        by false f e = e
+
+fitting : (n len : ℕ) → Fits n len → Counted len
+fitting n len f = subst Counted (sym (f .entries)) (f .count)
 
 table-counted : (entries : ℕ) (s : List ℕ) → tableOf true entries s .cycles .refusal ≡ 0 → Counted entries
 unfolding tableOf
@@ -54,7 +64,10 @@ table-counted entries s = go (eqb r 0) refl
     r = startRefusal true entries s
 
     begun : r ≡ 0 → Counted entries
-    begun e = let b = begins true entries s e in fitting entries (countAt s) (b .least, b .most) (b .row)
+    begun e =
+        let b = begins true entries s e in
+        fitting (countAt s) entries
+        (record { count = (b .least, b .most); entries = eqb-true entries (countAt s) (not-f (eqb entries (countAt s)) (b .row)) })
 
     go : (b : Bool) → eqb r 0 ≡ b → cond b (cyclesIn (length s) (countAt s) 1 (drop 12 s)) (record { whole = []; refusal = r }) .refusal ≡ 0
         → Counted entries
@@ -73,6 +86,6 @@ framed-fits entries room s = go (eqb room framesLength) refl
 
 pub counted : (t : Task) (n : ℕ) (nodes : List Node) (room : ℕ) (s : List ℕ) → callStatus t n nodes room s ≡ 0 → Counted (length nodes)
 unfolding runStatus
-counted Cycle n nodes room s e = cycle-counted n nodes s e
+counted Cycle n nodes room s e = fitting n (length nodes) (cycle-fits n nodes s e)
 counted Run n nodes room s e = table-counted (length nodes) s e
 counted FramedRun n nodes room s e = table-counted (length nodes) s (framed-fits (length nodes) room s e .1)

@@ -11,6 +11,7 @@ use borrow.Author.Tests.{eqb-true, eqb-false, ne-eqb}
 use Rattle.refusal.specs.Refusal.{first, unless}
 use Rattle.state.specs.declared.Node.{Node}
 use Rattle.rules.specs.declared.Faults.{Faults}
+use Rattle.rules.specs.OneCycle.{ofNodes}
 use Rattle.rules.specs.Faults.{Row}
 use Rattle.rules.specs.Reference.{beginning}
 use Rattle.theorem_formed.proofs.Formed.{FormedRow, founding-formed}
@@ -20,7 +21,7 @@ use Rattle.table.specs.Records.{isKind, beyond, wrongRow, countAt, foundingAt, 
 use Rattle.table.specs.Table.{Cycles, Table, tableOf}
 use Rattle.table.proofs.Laws.{begins, table-refused}
 use Rattle.row.specs.Row.{nodesOf}
-use Rattle.row_calls.specs.Calls.{clusterOf, runStatus, ranTo, runLeft, framedStatus, rowBegun, framedThrough, plainThrough, framedTo, framedLeft, FramedAsPlain}
+use Rattle.row_calls.specs.Calls.{runStatus, ranTo, runLeft, framedStatus, rowBegun, framedThrough, plainThrough, framedTo, framedLeft, FramedAsPlain}
 use Rattle.row_calls.proofs.Counts.{framed-fits}
 
 pub begun-table : (lent : Bool) (entries : ℕ) (s : List ℕ) → tableOf lent entries s .cycles .refusal ≡ 0 → startRefusal lent entries s ≡ 0
@@ -39,14 +40,14 @@ through-plain entries s = go (eqb (startRefusal true entries s) 0) refl
     t : Table
     t = tableOf true entries s
 
-    none : (row : Row) (cs : List Faults) → cs ≡ [] → framedRows (clusterOf (t .nodes)) 1 row cs ≡ plainRows (clusterOf (t .nodes)) row cs
-    none row cs e = ap (framedRows (clusterOf (t .nodes)) 1 row) e ∙ sym (ap (plainRows (clusterOf (t .nodes)) row) e)
+    none : (row : Row) (cs : List Faults) → cs ≡ [] → framedRows (ofNodes (t .nodes)) 1 row cs ≡ plainRows (ofNodes (t .nodes)) row cs
+    none row cs e = ap (framedRows (ofNodes (t .nodes)) 1 row) e ∙ sym (ap (plainRows (ofNodes (t .nodes)) row) e)
 
     begun : startRefusal true entries s ≡ 0 → FormedRow (t .nodes) (rowBegun t)
     begun e = founding-formed (countAt s) 0 (foundingAt s) (pow-pos 32) (begins true entries s e .founding)
 
     few : startRefusal true entries s ≡ 0 → framedThrough t ≡ plainThrough t
-    few e = framed-run-is-plain (clusterOf (t .nodes)) 1 (rowBegun t) (t .cycles .whole) (begins true entries s e .most) (begun e)
+    few e = framed-run-is-plain (ofNodes (t .nodes)) 1 (rowBegun t) (t .cycles .whole) (begins true entries s e .most) (begun e)
 
     go : (b : Bool) → eqb (startRefusal true entries s) 0 ≡ b → framedThrough t ≡ plainThrough t
     go true e = few (eqb-true (startRefusal true entries s) 0 e)
@@ -59,7 +60,7 @@ framed-status nodes s = refl
 framed-to : (entries : ℕ) (s : List ℕ) → framedTo (tableOf true entries s) ≡ ranTo (tableOf true entries s)
 framed-to entries s =
     let t = tableOf true entries s in
-    ap (nodesOf (t .nodes)) (ap (lastRow (rowBegun t)) (through-plain entries s) ∙ last-plain (clusterOf (t .nodes)) (beginning (clusterOf (t .nodes)) 0 (t .founding)) (t .cycles .whole))
+    ap (nodesOf (t .nodes)) (ap (lastRow (rowBegun t)) (through-plain entries s) ∙ last-plain (ofNodes (t .nodes)) (beginning (ofNodes (t .nodes)) 0 (t .founding)) (t .cycles .whole))
 
 pub framed-as-plain : (nodes : List Node) (s : List ℕ) → FramedAsPlain nodes s
 unfolding framedLeft runLeft

@@ -1,81 +1,62 @@
 -- Demand 3 over lists of calls on one row. Assumes nothing.
 use mathlib.Core.Path.{_≡_, refl, sym, ap, ap₂, _∙_, subst}
 use mathlib.Core.Logic.{_≢_}
-use mathlib.Core.Bool.{Bool, true, false, not, _||_, cond}
+use mathlib.Core.Bool.{Bool, true, false}
 use mathlib.Core.List.{List, [], _∷_, _++_}
 use Prim.Native.Nat.{ℕ}
-use lib.Dec.{eqb, ltb}
+use lib.Dec.{eqb}
 use lib.ListN.{length}
 use borrow.Author.Tests.{eqb-false}
-use Rattle.refusal.specs.Refusal.{when}
-use Rattle.refusal.proofs.Laws.{none, unless-done, unless-refused}
+use Rattle.refusal.proofs.Laws.{unless-done, unless-refused}
 use Rattle.sets.specs.Sets.{below}
-use Rattle.sets.proofs.Booleans.{eqb-true, or-f-l, not-f}
+use Rattle.sets.proofs.Booleans.{eqb-true, not-f}
 use Rattle.state.specs.declared.Node.{Node}
 use Rattle.rules.specs.declared.Faults.{Faults}
+use Rattle.rules.specs.OneCycle.{ofNodes}
 use Rattle.rules.specs.Faults.{Row, cycle}
 use Rattle.rules.specs.Reference.{Cluster, beginning, step, after}
 use Rattle.theorem_agreement.proofs.Histories.{after-append, demand3}
-use Rattle.table.specs.Records.{countAt, foundingAt, cycleLength, cycleRefusal, faultsAt}
+use Rattle.table.specs.Records.{countAt, foundingAt, faultsAt}
 use Rattle.table.specs.Table.{tableOf}
 use Rattle.table.proofs.Laws.{begins}
-use Rattle.row.specs.Row.{statesOf, nodesOf, inOrder}
+use Rattle.row.specs.Row.{statesIn, nodesOf}
 use Rattle.row.proofs.Meaning.{states-nodes, length-nodes}
 use Rattle.theorem_formed.proofs.Formed.{length-founding, length-after}
 use Rattle.row_calls.specs.declared.Task.{Task}
 use Rattle.row_calls.specs.declared.Task.the-variants.{Cycle, Run, FramedRun}
-use Rattle.row_calls.specs.Calls.{clusterOf, rowStatus, cycleStatus, cycleLeft, runStatus, ranTo, runLeft, framedStatus, framedLeft, callStatus, callLeft}
-use Rattle.row_calls.proofs.Counts.{framed-fits}
+use Rattle.row_calls.specs.Calls.{cycleStatus, cycleLeft, runStatus, ranTo, runLeft, framedStatus, framedLeft, callStatus, callLeft}
+use Rattle.row_calls.proofs.Counts.{cycle-fits, framed-fits}
 use Rattle.row_calls.proofs.Framed.{begun-table, framed-left}
-use Rattle.row_calls.specs.Histories.{Call, status, left, History, tabled, accepted, historyOf, rowAfter, historyAfter, ruled, Stands, Begun, at-beginning, by-a-run, OverCalls}
+use Rattle.row_calls.specs.Histories.{Call, status, left, History, tabled, accepted, historyOf, nodesAfter, historyAfter, ruled, Stands, Begun, at-beginning, by-a-run, OverCalls}
 
 -- ---- a row that stands: as many entries as nodes, and the states that the rules give
 
 pub stands-length : (n : ℕ) (nodes : List Node) (h : History) → Stands n nodes h → length nodes ≡ n
 stands-length n nodes h w = ap (λ (x : List Node). length x) (w .holds) ∙ length-nodes n (ruled n h)
 
-pub stands-states : (n : ℕ) (nodes : List Node) (h : History) → Stands n nodes h → statesOf nodes ≡ ruled n h
+pub stands-states : (n : ℕ) (nodes : List Node) (h : History) → Stands n nodes h → statesIn nodes ≡ ruled n h
 unfolding beginning
 stands-states n nodes h w =
-    ap statesOf (w .holds)
-    ∙ states-nodes n (ruled n h) (length-after n (beginning (clusterOf n) 0 (h .founding)) (h .cycles) (length-founding n 0 (h .founding)))
+    ap statesIn (w .holds)
+    ∙ states-nodes n (ruled n h) (length-after (ofNodes n) (beginning (ofNodes n) 0 (h .founding)) (h .cycles) (length-founding n 0 (h .founding)))
 
 -- one more cycle
 ruled-next : (n F : ℕ) (cs : List Faults) (c : Faults)
-    → ruled n (record { founding = F; cycles = cs ++ (c ∷ []) }) ≡ cycle (clusterOf n) c (ruled n (record { founding = F; cycles = cs }))
+    → ruled n (record { founding = F; cycles = cs ++ (c ∷ []) }) ≡ cycle (ofNodes n) c (ruled n (record { founding = F; cycles = cs }))
 unfolding after step
-ruled-next n F cs c = ap (λ (k : Cluster). k .row) (after-append (clusterOf n) (beginning (clusterOf n) 0 F) cs (c ∷ []))
+ruled-next n F cs c = ap (λ (k : Cluster). k .row) (after-append (ofNodes n) (beginning (ofNodes n) 0 F) cs (c ∷ []))
 
 -- ---- an accepted single cycle
-
-row-fits : (n : ℕ) (nodes : List Node) (s : List ℕ) → rowStatus n nodes s ≡ 0 → length nodes ≡ n
-unfolding rowStatus
-row-fits n nodes s e =
-    let count = ltb n 2 || ltb 64 n in
-    let other = not (eqb (length nodes) n) in
-    let long = ltb (cycleLength s) (length s) in
-    let order = not (inOrder n 0 nodes) in
-    let rest = none count 1 (when (other || long) 3 ∷ when order 4 ∷ []) refl e .1 in
-    eqb-true (not-f (eqb (length nodes) n) (or-f-l other long (none (other || long) 3 (when order 4 ∷ []) refl rest .0)))
-
--- a cycle is accepted only on a row that is
-row-accepted : (n : ℕ) (nodes : List Node) (s : List ℕ) → cycleStatus n nodes s ≡ 0 → rowStatus n nodes s ≡ 0
-unfolding cycleStatus
-row-accepted n nodes s e = go (eqb (rowStatus n nodes s) 0) refl e
-  where
-    go : (b : Bool) → eqb (rowStatus n nodes s) 0 ≡ b → cond b (cycleRefusal n 1 s) (rowStatus n nodes s) ≡ 0 → rowStatus n nodes s ≡ 0
-    go true f e = eqb-true f
-    go false f e = e
 
 cycle-stands : (n m : ℕ) (nodes : List Node) (h : History) (s : List ℕ) → Stands n nodes h → cycleStatus m nodes s ≡ 0
     → Stands n (cycleLeft m nodes s) (record { founding = h .founding; cycles = h .cycles ++ (faultsAt s ∷ []) })
 unfolding cycleLeft
 cycle-stands n m nodes h s w e =
-    let same : m ≡ n = sym (row-fits m nodes s (row-accepted m nodes s e)) ∙ stands-length n nodes h w in
+    let same : m ≡ n = sym (cycle-fits m nodes s e .entries) ∙ stands-length n nodes h w in
     record {
       holds =
-          unless-done (cycleStatus m nodes s) (nodesOf m (cycle (clusterOf m) (faultsAt s) (statesOf nodes))) _ e
-          ∙ ap₂ (λ (k : ℕ) (r : Row). nodesOf k (cycle (clusterOf k) (faultsAt s) r)) same (stands-states n nodes h w)
+          unless-done (cycleStatus m nodes s) (nodesOf m (cycle (ofNodes m) (faultsAt s) (statesIn nodes))) _ e
+          ∙ ap₂ (λ (k : ℕ) (r : Row). nodesOf k (cycle (ofNodes k) (faultsAt s) r)) same (stands-states n nodes h w)
           ∙ ap (nodesOf n) (sym (ruled-next n (h .founding) (h .cycles) (faultsAt s)));
       founders = w .founders;
     }
@@ -146,14 +127,14 @@ first-run n FramedRun m nodes room h s l d e = framed-stands n nodes room s l e
 -- ---- a list of calls
 
 pub stands-after : (n : ℕ) (cs : List Call) (nodes : List Node) (h : History) → Stands n nodes h
-    → Stands n (rowAfter cs nodes) (historyAfter cs nodes h)
-unfolding rowAfter historyAfter
+    → Stands n (nodesAfter cs nodes) (historyAfter cs nodes h)
+unfolding nodesAfter historyAfter
 stands-after n [] nodes h w = w
 stands-after n (c ∷ cs) nodes h w = stands-after n cs (left c nodes) (historyOf c nodes h) (call-stands n c nodes h w)
 
 pub begun-stands : (n : ℕ) (cs : List Call) (nodes : List Node) (h : History) → Begun n nodes h cs
-    → Stands n (rowAfter cs nodes) (historyAfter cs nodes h)
-unfolding rowAfter historyAfter
+    → Stands n (nodesAfter cs nodes) (historyAfter cs nodes h)
+unfolding nodesAfter historyAfter
 begun-stands n cs nodes h (at-beginning w e) = stands-after n cs nodes h w
 begun-stands n (c ∷ cs) nodes h (by-a-run l d e) =
     stands-after n cs (left c nodes) (historyOf c nodes h)
@@ -161,4 +142,4 @@ begun-stands n (c ∷ cs) nodes h (by-a-run l d e) =
     (first-run n (c .task) (c .count) nodes (c .room) h (c .bytes) l d e))
 
 pub over-calls : (n : ℕ) → OverCalls n
-over-calls n nodes h cs b = record { stands = begun-stands n cs nodes h b; claims = demand3 (clusterOf n) 0 (historyAfter cs nodes h .founding) }
+over-calls n nodes h cs b = record { stands = begun-stands n cs nodes h b; claims = demand3 (ofNodes n) 0 (historyAfter cs nodes h .founding) }

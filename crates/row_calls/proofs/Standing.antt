@@ -12,6 +12,7 @@ use Rattle.sets.proofs.Booleans.{and-i, or-f-l, or-f-r, not-e, not-f}
 use Rattle.state.specs.declared.State.{State}
 use Rattle.state.specs.declared.Node.{Node}
 use Rattle.state.specs.State.{formedPlace, formedState, formed}
+use Rattle.rules.specs.OneCycle.{ofNodes}
 use Rattle.rules.specs.Faults.{at}
 use Rattle.rules.specs.Reference.{beginning}
 use Rattle.table.specs.Records.{isKind, beyond, wrongRow, countAt, foundingAt, startRefusal, cycleLength, wrongCycle, cycleRefusal, faultsAt}
@@ -21,7 +22,7 @@ use Rattle.row.proofs.Meaning.{in-order}
 use Rattle.theorem_formed.proofs.Formed.{founding-formed, after-formed}
 use Rattle.row_calls.specs.declared.Task.{Task}
 use Rattle.row_calls.specs.declared.Task.the-variants.{Cycle, Run, FramedRun}
-use Rattle.row_calls.specs.Calls.{clusterOf, rowStatus, cycleStatus, runStatus, framedEntries, framedStatus, callStatus}
+use Rattle.row_calls.specs.Calls.{rowStatus, cycleStatus, runStatus, framedEntries, framedStatus, callStatus}
 use Rattle.row_calls.specs.Histories.{Call, status, History, ruled, Stands}
 use Rattle.row_calls.proofs.OverCalls.{stands-length}
 
@@ -39,7 +40,7 @@ stands-in-order n nodes h w least most =
     ap (inOrder n 0) (w .holds)
     ∙ in-order n (ruled n h)
     (λ q l. placed n q (at (ruled n h) q) least most l
-    (after-formed n (beginning (clusterOf n) 0 (h .founding)) (h .cycles) (founding-formed n 0 (h .founding) (pow-pos 32) (w .founders)) q l))
+    (after-formed (ofNodes n) (beginning (ofNodes n) 0 (h .founding)) (h .cycles) (founding-formed n 0 (h .founding) (pow-pos 32) (w .founders)) q l))
 
 -- ---- refusals of records and tables are none of 4
 
@@ -106,7 +107,7 @@ table-not-4 entries s e = go (eqb (startRefusal true entries s) 0) e
 
 -- ---- a call on a row that stands
 
-row-not-4 : (n m : ℕ) (nodes : List Node) (h : History) (s : List ℕ) → Stands n nodes h → rowStatus m nodes s ≡ 4 → ⊥
+row-not-4 : (n m : ℕ) (nodes : List Node) (h : History) (s : List ℕ) → Stands n nodes h → rowStatus m (length nodes) (inOrder m 0 nodes) s ≡ 4 → ⊥
 unfolding rowStatus first
 row-not-4 n m nodes h s w e =
     go (ltb m 2 || ltb 64 m) refl (not (eqb (length nodes) m) || ltb (cycleLength s) (length s)) refl (not (inOrder m 0 nodes)) refl e
@@ -128,9 +129,9 @@ row-not-4 n m nodes h s w e =
 
 cycle-not-4 : (n m : ℕ) (nodes : List Node) (h : History) (s : List ℕ) → Stands n nodes h → cycleStatus m nodes s ≡ 4 → ⊥
 unfolding cycleStatus
-cycle-not-4 n m nodes h s w e = go (eqb (rowStatus m nodes s) 0) e
+cycle-not-4 n m nodes h s w e = go (eqb (rowStatus m (length nodes) (inOrder m 0 nodes) s) 0) e
   where
-    go : (good : Bool) → cond good (cycleRefusal m 1 s) (rowStatus m nodes s) ≡ 4 → ⊥
+    go : (good : Bool) → cond good (cycleRefusal m 1 s) (rowStatus m (length nodes) (inOrder m 0 nodes) s) ≡ 4 → ⊥
     go true e = record-not-4 m 1 s e
     go false e = row-not-4 n m nodes h s w e
 

@@ -10,6 +10,7 @@ use Rattle.refusal.specs.Refusal.{unless}
 use Rattle.sets.specs.Sets.{below}
 use Rattle.state.specs.declared.Node.{Node}
 use Rattle.rules.specs.declared.Faults.{Faults}
+use Rattle.rules.specs.OneCycle.{ofNodes}
 use Rattle.rules.specs.Faults.{Row}
 use Rattle.theorem_agreement.specs.Demand3.{Demand3, clusterAfter}
 use Rattle.table.specs.Records.{faultsAt}
@@ -17,7 +18,7 @@ use Rattle.table.specs.Table.{Table, tableOf}
 use Rattle.row.specs.Row.{nodesOf}
 use Rattle.row_calls.specs.declared.Task.{Task}
 use Rattle.row_calls.specs.declared.Task.the-variants.{Cycle, Run, FramedRun}
-use Rattle.row_calls.specs.Calls.{clusterOf, callStatus, callLeft}
+use Rattle.row_calls.specs.Calls.{callStatus, callLeft}
 
 -- a call: what it is to do, N where it is given as a number, how many bytes are lent for frames, and the record or table
 pub record Call : Type 0 where
@@ -52,9 +53,9 @@ abbrev pub historyOf : Call → List Node → History → History
 historyOf c nodes h = unless (status c nodes) (accepted (c .task) (c .bytes) nodes h) h
 
 -- "each call gets it as the last one left it, and nobody else writes it meanwhile"
-unfoldable pub rowAfter : List Call → List Node → List Node
-rowAfter [] nodes = nodes
-rowAfter (c ∷ cs) nodes = rowAfter cs (left c nodes)
+unfoldable pub nodesAfter : List Call → List Node → List Node
+nodesAfter [] nodes = nodes
+nodesAfter (c ∷ cs) nodes = nodesAfter cs (left c nodes)
 
 unfoldable pub historyAfter : List Call → List Node → History → History
 historyAfter [] nodes h = h
@@ -62,7 +63,7 @@ historyAfter (c ∷ cs) nodes h = historyAfter cs (left c nodes) (historyOf c no
 
 -- "the states that the rules give from that beginning through those cycles"
 abbrev pub ruled : ℕ → History → Row
-ruled n h = clusterAfter (clusterOf n) 0 (h .founding) (h .cycles) .row
+ruled n h = clusterAfter (ofNodes n) 0 (h .founding) (h .cycles) .row
 
 -- "the row holds" them; n is the number of its entries
 pub record Stands (n : ℕ) (nodes : List Node) (h : History) : Type 0 where
@@ -78,8 +79,8 @@ pub data Begun (n : ℕ) (nodes : List Node) (h : History) : List Call → Type 
 -- those inside a run too": Demand3 is about the cluster after every list of cycles, and so after the history's first cycle, its first two, and all of them.
 pub record Promised (n : ℕ) (nodes : List Node) (h : History) : Type 0 where
   pub stands : Stands n nodes h
-  pub claims : Demand3 (clusterOf n) 0 (h .founding)
+  pub claims : Demand3 (ofNodes n) 0 (h .founding)
 
 -- Demand 3, "one claim about the whole list", on a row of n entries: lists are of any length, so it is said after each call of a list.
 abbrev pub OverCalls : ℕ → Type 0
-OverCalls n = (nodes : List Node) (h : History) (cs : List Call) → Begun n nodes h cs → Promised n (rowAfter cs nodes) (historyAfter cs nodes h)
+OverCalls n = (nodes : List Node) (h : History) (cs : List Call) → Begun n nodes h cs → Promised n (nodesAfter cs nodes) (historyAfter cs nodes h)

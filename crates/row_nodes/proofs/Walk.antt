@@ -79,6 +79,6 @@ later (exit n) = skip
 later return = skip
 later (call f xs d) = skip
 
-abbrev pub after : ℕ → Body → Body
-after zero b = b
-after (suc k) b = after k (later b)
+abbrev pub codeFrom : ℕ → Body → Body
+codeFrom zero b = b
+codeFrom (suc k) b = codeFrom k (later b)

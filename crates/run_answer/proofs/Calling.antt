@@ -10,10 +10,11 @@ use borrow.Author.Tests.{eqb-true, eqb-false, eq-eqb, ne-eqb, ltb-false, lt-ltb,
 use Rattle.sets.specs.Sets.{below}
 use Rattle.sets.proofs.Booleans.{or-f-l, or-f-r, not-f}
 use Rattle.refusal.specs.Refusal.{when, first}
-use Rattle.refusal.proofs.Laws.{none, unless-done, unless-refused}
+use Rattle.refusal.proofs.Laws.{unless-done, unless-refused}
 use Rattle.state.specs.declared.Node.{Node}
 use Rattle.state.specs.State.{formedState}
 use Rattle.rules.specs.declared.Faults.{Faults}
+use Rattle.rules.specs.OneCycle.{ofNodes}
 use Rattle.rules.specs.Faults.{Row, founding, cycle}
 use Rattle.rules.specs.Reference.{beginning, after}
 use Rattle.bus_units.specs.Run.{framesLength, framesAfter}
@@ -25,61 +26,46 @@ use Rattle.cluster_states.specs.declared.States.{States}
 use Rattle.cluster_states.specs.States.{stateAt, rowOf}
 use Rattle.theorem_formed.proofs.Formed.{FormedRow, founding-formed}
 use Rattle.row.specs.declared.Gathered.{Gathered}
-use Rattle.row.specs.Row.{statesOf, nodesOf, inOrder}
+use Rattle.row.specs.Row.{statesIn, nodesOf, inOrder}
 use Rattle.row.proofs.Meaning.{gathered-states, gathered-good}
 use Rattle.row_calls.specs.declared.Task.{Task}
 use Rattle.row_calls.specs.declared.Task.the-variants.{Run, FramedRun}
-use Rattle.row_calls.specs.Calls.{clusterOf, rowStatus, cycleStatus, cycleLeft, runStatus, ranTo, runLeft, framedEntries, framedStatus, framesLeft, callStatus, callLeft, callFrames}
-use Rattle.row_calls.proofs.Counts.{framed-fits}
+use Rattle.row_calls.specs.Calls.{rowStatus, cycleStatus, cycleLeft, runStatus, ranTo, runLeft, framedEntries, framedStatus, framesLeft, callStatus, callLeft, callFrames}
+use Rattle.row_calls.proofs.Counts.{row-fits, framed-fits}
 use Rattle.row_calls.proofs.Framed.{framed-left}
 use Rattle.run_turns.specs.After.{rowAfter}
-use Rattle.run_answer.specs.Answered.{countByte, GatheredFrom, rowRefusal, lentEntries, Leaves}
+use Rattle.run_answer.specs.Answered.{countByte, GatheredFrom, lentEntries, Leaves, AsLent}
 use Rattle.run_turns.proofs.Ran.{after-row, states-formed}
 
 -- ---- the row of a single cycle
 
 -- its refusals, by the way on which they are looked at
 module _ (n len : ℕ) (good : Bool) (s : List ℕ) where
-  pub too-few : n < 2 → 1 ≡ rowRefusal n len good s
-  unfolding rowRefusal first
+  pub too-few : n < 2 → 1 ≡ rowStatus n len good s
+  unfolding rowStatus first
   too-few l = simp (lt-ltb n 2 l)
 
-  pub too-many : 2 ≤ n → 64 < n → 1 ≡ rowRefusal n len good s
-  unfolding rowRefusal first
+  pub too-many : 2 ≤ n → 64 < n → 1 ≡ rowStatus n len good s
+  unfolding rowStatus first
   too-many l h = simp (le-ltb n 2 l, lt-ltb 64 n h)
 
   module _ (least : 2 ≤ n) (most : n ≤ 64) where
-    pub other-row : (len ≡ n → ⊥) → 3 ≡ rowRefusal n len good s
-    unfolding rowRefusal first
+    pub other-row : (len ≡ n → ⊥) → 3 ≡ rowStatus n len good s
+    unfolding rowStatus first
     other-row e = simp (le-ltb n 2 least, le-ltb 64 n most, ne-eqb len n e)
 
     module _ (e : len ≡ n) (longer : Bool) (kl : longer ≡ ltb (cycleLength s) (length s)) where
-      pub longer-record : longer ≡ true → 3 ≡ rowRefusal n len good s
-      unfolding rowRefusal first
+      pub longer-record : longer ≡ true → 3 ≡ rowStatus n len good s
+      unfolding rowStatus first
       longer-record h = simp (le-ltb n 2 least, le-ltb 64 n most, eq-eqb len n e, sym kl ∙ h)
 
-      pub by-order : longer ≡ false → (x : ℕ) → x ≡ cond good 0 4 → x ≡ rowRefusal n len good s
-      unfolding rowRefusal first
+      pub by-order : longer ≡ false → (x : ℕ) → x ≡ cond good 0 4 → x ≡ rowStatus n len good s
+      unfolding rowStatus first
       by-order h x kx = kx ∙ go good ∙ simp (le-ltb n 2 least, le-ltb 64 n most, eq-eqb len n e, sym kl ∙ h)
         where
           go : (b : Bool) → _≡_ {A = ℕ} (cond b 0 4) (cond (not b) 4 0)
           go true = refl
           go false = refl
-
-pub record Fits (n len : ℕ) : Type 0 where
-  pub most : n ≤ 64
-  pub entries : len ≡ n
-
-pub fits : (n len : ℕ) (good : Bool) (s : List ℕ) → rowRefusal n len good s ≡ 0 → Fits n len
-unfolding rowRefusal
-fits n len good s e =
-    let longer = ltb (cycleLength s) (length s) in
-    let a = none (ltb n 2 || ltb 64 n) 1 (when (not (eqb len n) || longer) 3 ∷ when (not good) 4 ∷ []) refl e in
-    let b = none (not (eqb len n) || longer) 3 (when (not good) 4 ∷ []) refl (a .1) in
-    record {
-      most = ltb-false 64 n (or-f-r (ltb n 2) (ltb 64 n) (a .0));
-      entries = eqb-true len n (not-f (eqb len n) (or-f-l (not (eqb len n)) longer (b .0)));
-    }
 
 byte : (n : ℕ) → n ≤ 64 → countByte n ≡ n
 unfolding countByte
@@ -100,47 +86,51 @@ module _ (n len : ℕ) (g : Gathered) (nodes : List Node) (s : List ℕ) (h : Ga
       ∙ gathered-good (countByte n) nodes (subst (λ (k : ℕ). k ≤ 64) (sym (h .0 ∙ e)) l)
       ∙ ap (λ (k : ℕ). inOrder k 0 nodes) (byte n l)
 
-  row-is : rowRefusal n len (g .good) s ≡ rowStatus n nodes s
-  unfolding rowStatus rowRefusal
+  -- what the row itself gives
+  abbrev onRow : ℕ
+  onRow = rowStatus n (length nodes) (inOrder n 0 nodes) s
+
+  row-is : rowStatus n len (g .good) s ≡ onRow
+  unfolding rowStatus
   row-is =
       let longer = ltb (cycleLength s) (length s) in
       third (ltb n 2 || ltb 64 n) (not (eqb len n) || longer) (g .good) (inOrder n 0 nodes)
       (λ a b. good-is (ltb-false 64 n (or-f-r (ltb n 2) (ltb 64 n) a)) (eqb-true len n (not-f (eqb len n) (or-f-l (not (eqb len n)) longer b))))
-      ∙ ap (λ (k : ℕ). rowRefusal n k (inOrder n 0 nodes) s) (sym (h .0))
+      ∙ ap (λ (k : ℕ). rowStatus n k (inOrder n 0 nodes) s) (sym (h .0))
 
-  states-are : n ≤ 64 → len ≡ n → rowOf n (g .states) ≡ statesOf nodes
+  states-are : n ≤ 64 → len ≡ n → rowOf n (g .states) ≡ statesIn nodes
   states-are l e =
       let all : length nodes ≡ n = h .0 ∙ e in
       ap₂ (λ (k : ℕ) (x : Gathered). rowOf k (x .states)) (sym all) (h .1)
       ∙ gathered-states (countByte n) nodes (subst (λ (k : ℕ). k ≤ 64) (sym all) l)
 
   -- where x is the refusal of the row
-  module _ (x : ℕ) (kx : x ≡ rowRefusal n len (g .good) s) where
+  module _ (x : ℕ) (kx : x ≡ rowStatus n len (g .good) s) where
     pub row-refused : (x ≡ 0 → ⊥) → x ≡ cycleStatus n nodes s
     unfolding cycleStatus
     row-refused z =
-        let same : x ≡ rowStatus n nodes s = kx ∙ row-is in
-        same ∙ sym (ap (λ (b : Bool). cond b (cycleRefusal n 1 s) (rowStatus n nodes s)) (ne-eqb (rowStatus n nodes s) 0 (λ e. z (same ∙ e))))
+        let same : x ≡ onRow = kx ∙ row-is in
+        same ∙ sym (ap (λ (b : Bool). cond b (cycleRefusal n 1 s) onRow) (ne-eqb onRow 0 (λ e. z (same ∙ e))))
 
     -- and r that of the record
     module _ (z : x ≡ 0) (r : ℕ) (kr : r ≡ cycleRefusal n 1 s) where
       pub record-is : r ≡ cycleStatus n nodes s
       unfolding cycleStatus
       record-is =
-          let row : rowStatus n nodes s ≡ 0 = sym (kx ∙ row-is) ∙ z in
-          kr ∙ sym (ap (λ (b : Bool). cond b (cycleRefusal n 1 s) (rowStatus n nodes s)) (eq-eqb (rowStatus n nodes s) 0 row))
+          let row : onRow ≡ 0 = sym (kx ∙ row-is) ∙ z in
+          kr ∙ sym (ap (λ (b : Bool). cond b (cycleRefusal n 1 s) onRow) (eq-eqb onRow 0 row))
 
-      pub cycle-leaves : r ≡ 0 → (f : Faults) (after : States) → f ≡ faultsAt s → rowOf n after ≡ cycle (clusterOf n) f (rowOf n (g .states))
+      pub cycle-leaves : r ≡ 0 → (f : Faults) (after : States) → f ≡ faultsAt s → rowOf n after ≡ cycle (ofNodes n) f (rowOf n (g .states))
           → Leaves n after len (cycleLeft n nodes s)
       unfolding cycleLeft
       cycle-leaves zr f after kf ka =
-          let t = fits n len (g .good) s (sym kx ∙ z) in
-          let turned : rowOf n after ≡ cycle (clusterOf n) (faultsAt s) (statesOf nodes) =
-          ka ∙ ap₂ (λ (c : Faults) (row : Row). cycle (clusterOf n) c row) kf (states-are (t .most) (t .entries)) in (
+          let t = row-fits n len (g .good) s (sym kx ∙ z) in
+          let turned : rowOf n after ≡ cycle (ofNodes n) (faultsAt s) (statesIn nodes) =
+          ka ∙ ap₂ (λ (c : Faults) (row : Row). cycle (ofNodes n) c row) kf (states-are (t .count .1) (t .entries)) in (
             sym (t .entries),
-            t .most,
+            t .count .1,
             ap (nodesOf n) turned
-                ∙ sym (unless-done (cycleStatus n nodes s) (nodesOf n (cycle (clusterOf n) (faultsAt s) (statesOf nodes))) nodes (sym record-is ∙ zr)),
+                ∙ sym (unless-done (cycleStatus n nodes s) (nodesOf n (cycle (ofNodes n) (faultsAt s) (statesIn nodes))) nodes (sym record-is ∙ zr)),
           )
 
 -- ---- a table, by what is lent for frames
@@ -187,27 +177,27 @@ module _ (len : ℕ) (s : List ℕ) (z : tableOf true len s .cycles .refusal ≡
       pub begun-formed : (q : ℕ) → q < n → formedState q n (stateAt start q) ≡ true
       begun-formed = states-formed n start (subst (FormedRow n) (sym ks) (founding-formed n 0 F (pow-pos 32) (ap₂ below kn kf ∙ begun .founding ∙ sym kf)))
 
-      pub run-leaves : (states : States) → rowOf n states ≡ rowAfter (clusterOf n) (rowOf n start) (from n 1 (left s 12) 0 .whole)
+      pub run-leaves : (states : States) → rowOf n states ≡ rowAfter (ofNodes n) (rowOf n start) (from n 1 (left s 12) 0 .whole)
           → Leaves n states len (ranTo (tableOf true len s))
       unfolding tableOf beginning
       run-leaves states e = (
         sym (eqb-true len n (not-f (eqb len n) (ap (λ (k : ℕ). not (eqb len k)) kn ∙ begun .row))),
         count-most,
-        ap (nodesOf n) (e ∙ ap (λ (row : Row). rowAfter (clusterOf n) row (from n 1 (left s 12) 0 .whole)) ks)
-            ∙ ap₂ (λ (k G : ℕ). nodesOf k (rowAfter (clusterOf k) (founding k 0 G) (from n 1 (left s 12) 0 .whole))) kn kf
-            ∙ ap (λ (c : Cycles). nodesOf (countAt s) (rowAfter (clusterOf (countAt s)) (founding (countAt s) 0 (foundingAt s)) (c .whole))) (sym all)
-            ∙ ap (nodesOf (countAt s)) (sym (after-row (clusterOf (countAt s)) (beginning (clusterOf (countAt s)) 0 (foundingAt s)) (tableOf true len s .cycles .whole))),
+        ap (nodesOf n) (e ∙ ap (λ (row : Row). rowAfter (ofNodes n) row (from n 1 (left s 12) 0 .whole)) ks)
+            ∙ ap₂ (λ (k G : ℕ). nodesOf k (rowAfter (ofNodes k) (founding k 0 G) (from n 1 (left s 12) 0 .whole))) kn kf
+            ∙ ap (λ (c : Cycles). nodesOf (countAt s) (rowAfter (ofNodes (countAt s)) (founding (countAt s) 0 (foundingAt s)) (c .whole))) (sym all)
+            ∙ ap (nodesOf (countAt s)) (sym (after-row (ofNodes (countAt s)) (beginning (ofNodes (countAt s)) 0 (foundingAt s)) (tableOf true len s .cycles .whole))),
       )
 
       -- and the frames of its last cycle
       pub run-shown : (framed : Bool) (frames : List ℕ) → (framed ≡ true → length frames ≡ framesLength)
-          → cond framed (framesAfter (clusterOf n) 1 (rowOf n start) (from n 1 (left s 12) 0 .whole) frames) frames ≡ cond framed (framesLeft len s frames) frames
+          → cond framed (framesAfter (ofNodes n) 1 (rowOf n start) (from n 1 (left s 12) 0 .whole) frames) frames ≡ cond framed (framesLeft len s frames) frames
       unfolding tableOf beginning framesLeft framedStatus
       run-shown true frames sized =
           let room : framedEntries (length frames) len ≡ len = ap (λ (b : Bool). cond b len 0) (eq-eqb (length frames) framesLength (sized refl)) in
-          ap (λ (row : Row). framesAfter (clusterOf n) 1 row (from n 1 (left s 12) 0 .whole) frames) ks
-          ∙ ap₂ (λ (k G : ℕ). framesAfter (clusterOf k) 1 (founding k 0 G) (from n 1 (left s 12) 0 .whole) frames) kn kf
-          ∙ ap (λ (c : Cycles). framesAfter (clusterOf (countAt s)) 1 (founding (countAt s) 0 (foundingAt s)) (c .whole) frames) (sym all)
+          ap (λ (row : Row). framesAfter (ofNodes n) 1 row (from n 1 (left s 12) 0 .whole) frames) ks
+          ∙ ap₂ (λ (k G : ℕ). framesAfter (ofNodes k) 1 (founding k 0 G) (from n 1 (left s 12) 0 .whole) frames) kn kf
+          ∙ ap (λ (c : Cycles). framesAfter (ofNodes (countAt s)) 1 (founding (countAt s) 0 (foundingAt s)) (c .whole) frames) (sym all)
           ∙ sym (unless-done (tableOf true (framedEntries (length frames) len) s .cycles .refusal) _ frames (ap (λ (k : ℕ). tableOf true k s .cycles .refusal) room ∙ z))
       run-shown false frames sized = refl
 
@@ -217,7 +207,7 @@ module _ (len : ℕ) (s : List ℕ) (z : tableOf true len s .cycles .refusal ≡
 abbrev pub Answers : Task → ℕ → ℕ → Gathered → List ℕ → List ℕ → ℕ → ℕ → States → List ℕ → Type 0
 Answers t n len g s frames status m states shown =
     ((nodes : List Node) → GatheredFrom n g len nodes → status ≡ callStatus t n nodes (length frames) s)
-    × (((nodes : List Node) → GatheredFrom n g len nodes → status ≡ 0 → Leaves m states len (callLeft t n nodes (length frames) s)) × (shown ≡ callFrames t len s frames))
+    × (((nodes : List Node) → GatheredFrom n g len nodes → status ≡ 0 → Leaves m states len (callLeft t n nodes (length frames) s)) × ((shown ≡ callFrames t len s frames) × AsLent status m states (g .states)))
 
 pub same-task : (t u : Task) (n len : ℕ) (g : Gathered) (s frames : List ℕ) (status m : ℕ) (states : States) (shown : List ℕ) → t ≡ u
     → Answers u n len g s frames status m states shown → Answers t n len g s frames status m states shown
@@ -255,11 +245,11 @@ run-frames false len s frames = refl
 
 pub run-answers : (framed : Bool) (n len : ℕ) (g : Gathered) (s frames : List ℕ) (status m : ℕ) (states : States) (shown : List ℕ)
     → status ≡ tableOf true (lentEntries framed (length frames) len) s .cycles .refusal → (status ≡ 0 → Leaves m states len (ranTo (tableOf true len s)))
-    → shown ≡ cond framed (framesLeft len s frames) frames → Answers (runTask framed) n len g s frames status m states shown
-run-answers framed n len g s frames status m states shown e l f = (
+    → shown ≡ cond framed (framesLeft len s frames) frames → AsLent status m states (g .states) → Answers (runTask framed) n len g s frames status m states shown
+run-answers framed n len g s frames status m states shown e l f k = (
   λ nodes h. ran-status n len g s nodes h framed (length frames) status e,
   (
     λ nodes h z. run-left n len g s nodes h framed (length frames) m states (sym (ran-status n len g s nodes h framed (length frames) status e) ∙ z) (l z),
-    f ∙ run-frames framed len s frames,
+    (f ∙ run-frames framed len s frames, k),
   ),
 )

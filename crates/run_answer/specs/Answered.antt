@@ -1,14 +1,13 @@
 -- How a call on a row is worked out on values.
 -- Assumes nothing.
 use mathlib.Core.Path.{_≡_}
-use mathlib.Core.Bool.{Bool, not, _||_, cond}
-use mathlib.Core.List.{List, [], _∷_}
+use mathlib.Core.Logic.{_≢_}
+use mathlib.Core.Bool.{Bool, cond}
+use mathlib.Core.List.{List}
 use Prim.Native.Nat.{ℕ, _≤_}
-use lib.Dec.{eqb, leb, ltb}
+use lib.Dec.{leb}
 use lib.ListN.{length}
-use Rattle.refusal.specs.Refusal.{when, first}
 use Rattle.state.specs.declared.Node.{Node}
-use Rattle.table.specs.Records.{cycleLength}
 use Rattle.cluster_states.specs.declared.States.{States}
 use Rattle.cluster_states.specs.States.{rowOf}
 use Rattle.row.specs.declared.Gathered.{Gathered}
@@ -24,11 +23,6 @@ countByte n = cond (leb n 64) n 0
 abbrev pub GatheredFrom : ℕ → Gathered → ℕ → List Node → Type 0
 GatheredFrom n g len nodes = (length nodes ≡ len) × (g ≡ gathered (countByte n) nothingOf 0 nodes)
 
--- refusals 1, 3 and 4 of a single cycle, by the number of entries of the row and whether they are in order
-unfoldable pub rowRefusal : ℕ → ℕ → Bool → List ℕ → ℕ
-rowRefusal n len good s =
-    first (when (ltb n 2 || ltb 64 n) 1 ∷ when (not (eqb len n) || ltb (cycleLength s) (length s)) 3 ∷ when (not good) 4 ∷ [])
-
 -- the entries of a row that a run takes: a run through frames, as `framedEntries` says
 unfoldable pub lentEntries : Bool → (room entries : ℕ) → ℕ
 lentEntries framed room entries = cond framed (framedEntries room entries) entries
@@ -36,3 +30,7 @@ lentEntries framed room entries = cond framed (framedEntries room entries) entri
 -- the states s of n nodes are those of a row of so many entries
 abbrev pub Leaves : ℕ → States → ℕ → List Node → Type 0
 Leaves n s len nodes = (n ≡ len) × (n ≤ 64) × (nodesOf n (rowOf n s) ≡ nodes)
+
+-- a refusal names no N, and leaves the states as they came
+abbrev pub AsLent : (status n : ℕ) → (s lent : States) → Type 0
+AsLent status n s lent = status ≢ 0 → (n ≡ 0) × (s ≡ lent)

@@ -11,17 +11,18 @@ ghost use Rattle.bus_units.specs.Run.{framesLength, framesAfter};
 ghost use Rattle.table.specs.Records.{cycleLength};
 ghost use Rattle.table.specs.Table.{cyclesIn, tableOf};
 ghost use Rattle.cluster_states.specs.States.{stateAt, rowOf};
-ghost use Rattle.row_calls.specs.Calls.{cycleStatus, cycleLeft, ranTo, framesLeft, callStatus, callLeft, callFrames};
+ghost use Rattle.row_calls.specs.Calls.{rowStatus, cycleStatus, cycleLeft, ranTo, framesLeft, callStatus, callLeft, callFrames};
 ghost use Rattle.run_turns.specs.After.{rowAfter};
-ghost use Rattle.run_answer.specs.Answered.{countByte, GatheredFrom, rowRefusal, Leaves, lentEntries};
+ghost use Rattle.run_answer.specs.Answered.{countByte, GatheredFrom, Leaves, AsLent, lentEntries};
 use cluster_states::States;
 use row::Gathered;
 use row_calls::Task;
+use rules::Config;
 
 // The bytes of the frames of a cycle: on two channels, heartbeats and votes, 64 slots of 36.
 const FRAMES: usize = 9216;
 
-// What a call answers; where it is not refused, N and the states that it leaves.
+// What a call answers: where it is not refused, N and the states that it leaves; else N 0 and the states as they came.
 pub struct Outcome {
     pub status: u32,
     pub nodes: u8,
@@ -47,7 +48,7 @@ fn is_longer(s: &[u8]) -> bool
 
 // Refusals 1, 3 and 4 of a single cycle.
 fn row_status(n: u32, len: usize, good: bool, s: &[u8]) -> u32
-    ensures { λ r. ⌜ r ≡ rowRefusal n len good (now (s .entry)) ⌝ }
+    ensures { λ r. ⌜ r ≡ rowStatus n len good (now (s .entry)) ⌝ }
 {
     if n < 2 {
         return 1;
@@ -76,22 +77,22 @@ fn lent_entries(framed: bool, room: usize, len: usize) -> usize
 }
 
 // The states after the cycles of accepted records, from those at the start.
-fn run(framed: bool, n: usize, start: States, s: &[u8], frames: &mut [u8]) -> States
-    requires { ⌜ (n ≤ 64) × (cyclesIn (length (now s)) n 1 (now s) .refusal ≡ 0) ⌝ }
+fn run(framed: bool, config: Config, start: States, s: &[u8], frames: &mut [u8]) -> States
+    requires { ⌜ (config .nodes ≤ 64) × (cyclesIn (length (now s)) (config .nodes) 1 (now s) .refusal ≡ 0) ⌝ }
     requires { ⌜ (framed ≡ true → length (now frames) ≡ framesLength) ⌝ }
-    requires { ⌜ ((q : ℕ) → q < n → formedState q n (stateAt start q) ≡ true) ⌝ }
-    ensures { λ r. ⌜ rowOf n r ≡ rowAfter (record { nodes = n }) (rowOf n start) (cyclesIn (length (now (s .entry))) n 1 (now (s .entry)) .whole) ⌝ }
-    ensures { λ _. ⌜ now (frames .exit) ≡ cond framed (framesAfter (record { nodes = n }) 1 (rowOf n start) (cyclesIn (length (now (s .entry))) n 1 (now (s .entry)) .whole) (now (frames .entry))) (now (frames .entry)) ⌝ }
+    requires { ⌜ ((q : ℕ) → q < config .nodes → formedState q (config .nodes) (stateAt start q) ≡ true) ⌝ }
+    ensures { λ r. ⌜ rowOf (config .nodes) r ≡ rowAfter config (rowOf (config .nodes) start) (cyclesIn (length (now (s .entry))) (config .nodes) 1 (now (s .entry)) .whole) ⌝ }
+    ensures { λ _. ⌜ now (frames .exit) ≡ cond framed (framesAfter config 1 (rowOf (config .nodes) start) (cyclesIn (length (now (s .entry))) (config .nodes) 1 (now (s .entry)) .whole) (now (frames .entry))) (now (frames .entry)) ⌝ }
 {
     if framed {
-        run_framed::run_framed(n, start, s, frames)
+        run_framed::run_framed(config, start, s, frames)
     } else {
-        run_plain::run_plain(n, start, s)
+        run_plain::run_plain(config, start, s)
     }
 }
 
 fn refused(status: u32, states: States) -> Outcome
-    ensures { λ r. ⌜ r .status ≡ status ⌝ }
+    ensures { λ r. ⌜ (r .status ≡ status) × (r .nodes ≡ 0) × (r .states ≡ states) ⌝ }
 {
     Outcome {
         status,
@@ -104,19 +105,21 @@ fn refused(status: u32, states: States) -> Outcome
 fn cycle_answer(n: u32, len: usize, g: Gathered, s: &[u8]) -> Outcome
     ensures answered { λ r. ⌜ ((nodes : List Node) → GatheredFrom n g len nodes → r .status ≡ cycleStatus n nodes (now (s .entry))) ⌝ }
     ensures left { λ r. ⌜ ((nodes : List Node) → GatheredFrom n g len nodes → r .status ≡ 0 → Leaves (r .nodes) (r .states) len (cycleLeft n nodes (now (s .entry)))) ⌝ }
+    ensures as_lent { λ r. ⌜ AsLent (r .status) (r .nodes) (r .states) (g .states) ⌝ }
 {
     let status = row_status(n, len, g.good, s);
     if status != 0 {
         return refused(status, g.states);
     }
-    let refusal = table_records::cycle_refusal(n as usize, 1, s);
+    let config = Config { nodes: n as usize };
+    let refusal = table_records::cycle_refusal(config.nodes, 1, s);
     if refusal != 0 {
         return refused(refusal, g.states);
     }
     Outcome {
         status: 0,
         nodes: n as u8,
-        states: cluster_cycle::cycle(n as usize, g.states, table_faults::cycle_faults(s)),
+        states: cluster_cycle::cycle(config, g.states, table_faults::cycle_faults(s)),
     }
 }
 
@@ -125,25 +128,29 @@ fn run_answer(framed: bool, len: usize, lent: States, s: &[u8], frames: &mut [u8
     ensures answered { λ r. ⌜ r .status ≡ tableOf true (lentEntries framed (length (now (frames .entry))) len) (now (s .entry)) .cycles .refusal ⌝ }
     ensures left { λ r. ⌜ (r .status ≡ 0 → Leaves (r .nodes) (r .states) len (ranTo (tableOf true len (now (s .entry))))) ⌝ }
     ensures shown { λ _. ⌜ now (frames .exit) ≡ cond framed (framesLeft len (now (s .entry)) (now (frames .entry))) (now (frames .entry)) ⌝ }
+    ensures as_lent { λ r. ⌜ AsLent (r .status) (r .nodes) (r .states) lent ⌝ }
 {
     let refusal = table_records::table_refusal(true, lent_entries(framed, frames.len(), len), s);
     if refusal != 0 {
         return refused(refusal, lent);
     }
     let n = table_first::start_count(s);
-    let begun = cluster_states::begin(n as usize, table_first::start_founding(s));
+    let nodes = n as usize;
+    let begun = cluster_states::begin(nodes, table_first::start_founding(s));
     Outcome {
         status: 0,
         nodes: n,
-        states: run(framed, n as usize, begun, &s[12..], frames),
+        states: run(framed, Config { nodes }, begun, &s[12..], frames),
     }
 }
 
 // What a call answers on what was gathered of a row of so many entries. `frames` shows those of the last cycle of a run through frames afterwards.
+// Free: what the row left does not show, and the status and what is left where g was gathered from no such row.
 pub fn answer(task: Task, n: u32, len: usize, g: Gathered, s: &[u8], frames: &mut [u8]) -> Outcome
     ensures answered { λ r. ⌜ ((nodes : List Node) → GatheredFrom n g len nodes → r .status ≡ callStatus task n nodes (length (now (frames .entry))) (now (s .entry))) ⌝ }
     ensures left { λ r. ⌜ ((nodes : List Node) → GatheredFrom n g len nodes → r .status ≡ 0 → Leaves (r .nodes) (r .states) len (callLeft task n nodes (length (now (frames .entry))) (now (s .entry)))) ⌝ }
     ensures shown { λ _. ⌜ now (frames .exit) ≡ callFrames task len (now (s .entry)) (now (frames .entry)) ⌝ }
+    ensures as_lent { λ r. ⌜ AsLent (r .status) (r .nodes) (r .states) (g .states) ⌝ }
 {
     match task {
         Task::Cycle => cycle_answer(n, len, g, s),
@@ -152,10 +159,11 @@ pub fn answer(task: Task, n: u32, len: usize, g: Gathered, s: &[u8], frames: &mu
     }
 }
 
-// The same for a caller that keeps no frames.
+// The same for a caller that keeps no frames; the same is free.
 pub fn answer_without_frames(task: Task, n: u32, len: usize, g: Gathered, s: &[u8]) -> Outcome
     ensures answered { λ r. ⌜ ((nodes : List Node) → GatheredFrom n g len nodes → r .status ≡ callStatus task n nodes framesLength (now (s .entry))) ⌝ }
     ensures left { λ r. ⌜ ((nodes : List Node) → GatheredFrom n g len nodes → r .status ≡ 0 → Leaves (r .nodes) (r .states) len (callLeft task n nodes framesLength (now (s .entry)))) ⌝ }
+    ensures as_lent { λ r. ⌜ AsLent (r .status) (r .nodes) (r .states) (g .states) ⌝ }
 {
     let mut frames = [0u8; FRAMES];
     answer(task, n, len, g, s, &mut frames)

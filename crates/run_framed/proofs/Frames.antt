@@ -21,13 +21,10 @@ use Rattle.bus_units.specs.Run.{cycleCount, framesShown, framesLength, framesAf
 use Rattle.bus_units.proofs.Delivered.{framed-is-plain}
 use Rattle.run_turns.proofs.Ran.{Going, going-begun, going-whole, going-next}
 
-abbrev sized : ℕ → Config
-sized n = record { nodes = n }
-
-pub record Showing (n : ℕ) (start : Row) (s before : List ℕ) (states : States) (cursor k : ℕ) (frames : List ℕ) : Type 0 where
-  pub going : Going n start s states cursor k
+pub record Showing (C : Config) (start : Row) (s before : List ℕ) (states : States) (cursor k : ℕ) (frames : List ℕ) : Type 0 where
+  pub going : Going C start s states cursor k
   pub long : length frames ≡ framesLength
-  pub shown : framesAfter (sized n) k (rowOf n states) (from n k s cursor .whole) frames ≡ framesAfter (sized n) 1 start (from n 1 s 0 .whole) before
+  pub shown : framesAfter C k (rowOf (C .nodes) states) (from (C .nodes) k s cursor .whole) frames ≡ framesAfter C 1 start (from (C .nodes) 1 s 0 .whole) before
 
 after-none : (C : Config) (k : ℕ) (row : Row) (frames : List ℕ) → framesAfter C k row [] frames ≡ frames
 unfolding framesAfter
@@ -38,21 +35,23 @@ after-next : (C : Config) (k : ℕ) (row : Row) (c : Faults) (cs : List Faults) 
 unfolding framesAfter
 after-next C k row c cs frames = refl
 
-pub showing-begun : (n : ℕ) (s before : List ℕ) (states : States) → ((q : ℕ) → q < n → formedState q n (stateAt states q) ≡ true) → from n 1 s 0 .refusal ≡ 0 → length before ≡ framesLength
-    → Showing n (rowOf n states) s before states 0 1 before
-showing-begun n s before states w z l = record { going = going-begun n s states w z; long = l; shown = refl }
+pub showing-begun : (C : Config) (s before : List ℕ) (states : States) → ((q : ℕ) → q < C .nodes → formedState q (C .nodes) (stateAt states q) ≡ true) → from (C .nodes) 1 s 0 .refusal ≡ 0
+    → length before ≡ framesLength → Showing C (rowOf (C .nodes) states) s before states 0 1 before
+showing-begun C s before states w z l = record { going = going-begun C s states w z; long = l; shown = refl }
 
-module _ (n : ℕ) (start : Row) (s before : List ℕ) (states : States) (cursor k : ℕ) (frames : List ℕ) (w : Showing n start s before states cursor k frames) where
-  pub showing-done : length s ≤ cursor → frames ≡ framesAfter (sized n) 1 start (from n 1 s 0 .whole) before
+module _ (C : Config) (start : Row) (s before : List ℕ) (states : States) (cursor k : ℕ) (frames : List ℕ) (w : Showing C start s before states cursor k frames) where
+  abbrev n : ℕ
+  n = C .nodes
+
+  pub showing-done : length s ≤ cursor → frames ≡ framesAfter C 1 start (from n 1 s 0 .whole) before
   showing-done l =
-      sym (after-none (sized n) k (rowOf n states) frames)
-      ∙ ap (λ (c : Cycles). framesAfter (sized n) k (rowOf n states) (c .whole) frames) (sym (from-end n k s cursor l)) ∙ w .shown
+      sym (after-none C k (rowOf n states) frames)
+      ∙ ap (λ (c : Cycles). framesAfter C k (rowOf n states) (c .whole) frames) (sym (from-end n k s cursor l)) ∙ w .shown
 
   pub showing-next : n ≤ 64 → cursor < length s → (next : States) (f : Faults) (l count : ℕ) (filled : List ℕ) → count ≡ cycleCount k → f ≡ faultsAt (left s cursor)
-      → rowOf n next ≡ cycle (sized n) f (rowOf n states) → filled ≡ framesShown (sized n) count f (rowOf n states) → l ≡ cycleLength (left s cursor) → length filled ≡ framesLength
-      → Showing n start s before next (cursor + l) (k + 1) filled
+      → rowOf n next ≡ cycle C f (rowOf n states) → filled ≡ framesShown C count f (rowOf n states) → l ≡ cycleLength (left s cursor) → length filled ≡ framesLength
+      → Showing C start s before next (cursor + l) (k + 1) filled
   showing-next few h next f l count filled ec ef en efr el long =
-      let C = sized n in
       let row = rowOf n states in
       let c = faultsAt (left s cursor) in
       let rest = from n (k + 1) s (cursor + l) .whole in
@@ -60,11 +59,11 @@ module _ (n : ℕ) (start : Row) (s before : List ℕ) (states : States) (cursor
       let turn : rowOf n next ≡ framedCycle C (cycleCount k) c row = en ∙ ap (λ (x : Faults). cycle C x row) ef ∙ sym plain in
       let fill : filled ≡ framesShown C (cycleCount k) c row = efr ∙ ap₂ (λ (x : ℕ) (y : Faults). framesShown C x y row) ec ef in
       record {
-        going = going-next n start s states cursor k (w .going) h next f l ef en el;
+        going = going-next C start s states cursor k (w .going) h next f l ef en el;
         long = long;
         shown =
             ap₂ (λ (x : Row) (y : List ℕ). framesAfter C (k + 1) x rest y) turn fill
             ∙ ap (λ (j : ℕ). framesAfter C j (framedCycle C (cycleCount k) c row) rest (framesShown C (cycleCount k) c row)) (add-one k)
             ∙ sym (after-next C k row c rest frames)
-            ∙ ap (λ (cs : List Faults). framesAfter C k row cs frames) (sym (going-whole n start s states cursor k (w .going) h l el)) ∙ w .shown;
+            ∙ ap (λ (cs : List Faults). framesAfter C k row cs frames) (sym (going-whole C start s states cursor k (w .going) h l el)) ∙ w .shown;
       }

@@ -9,6 +9,7 @@ ghost use Rattle.cluster_states.specs.States.{stateAt, rowOf};
 ghost use Rattle.bus_units.specs.Run.{cycleCount, framesLength, framesAfter};
 ghost use Rattle.run_turns.specs.After.{rowAfter};
 use cluster_states::States;
+use rules::Config;
 
 // The cycle count of cycle k of a run, as its frames have it.
 fn cycle_count(k: u64) -> u32
@@ -20,12 +21,13 @@ fn cycle_count(k: u64) -> u32
 }
 
 // A run through frames; the states are copied from cycle to cycle, which costs little beside the frames. `frames` shows those of the last cycle afterwards.
-pub fn run_framed(n: usize, start: States, s: &[u8], frames: &mut [u8]) -> States
-    requires { ⌜ (n ≤ 64) × (cyclesIn (length (now s)) n 1 (now s) .refusal ≡ 0) ⌝ }
+// Free: what the row after it does not show.
+pub fn run_framed(config: Config, start: States, s: &[u8], frames: &mut [u8]) -> States
+    requires { ⌜ (config .nodes ≤ 64) × (cyclesIn (length (now s)) (config .nodes) 1 (now s) .refusal ≡ 0) ⌝ }
     requires { ⌜ length (now frames) ≡ framesLength ⌝ }
-    requires { ⌜ ((q : ℕ) → q < n → formedState q n (stateAt start q) ≡ true) ⌝ }
-    ensures { λ r. ⌜ rowOf n r ≡ rowAfter (record { nodes = n }) (rowOf n start) (cyclesIn (length (now (s .entry))) n 1 (now (s .entry)) .whole) ⌝ }
-    ensures { λ _. ⌜ now (frames .exit) ≡ framesAfter (record { nodes = n }) 1 (rowOf n start) (cyclesIn (length (now (s .entry))) n 1 (now (s .entry)) .whole) (now (frames .entry)) ⌝ }
+    requires { ⌜ ((q : ℕ) → q < config .nodes → formedState q (config .nodes) (stateAt start q) ≡ true) ⌝ }
+    ensures { λ r. ⌜ rowOf (config .nodes) r ≡ rowAfter config (rowOf (config .nodes) start) (cyclesIn (length (now (s .entry))) (config .nodes) 1 (now (s .entry)) .whole) ⌝ }
+    ensures { λ _. ⌜ now (frames .exit) ≡ framesAfter config 1 (rowOf (config .nodes) start) (cyclesIn (length (now (s .entry))) (config .nodes) 1 (now (s .entry)) .whole) (now (frames .entry)) ⌝ }
 {
     let mut states = start;
     let mut cursor: usize = 0;
@@ -33,7 +35,7 @@ pub fn run_framed(n: usize, start: States, s: &[u8], frames: &mut [u8]) -> State
     while cursor < s.len() {
         let rest = &s[cursor..];
         states = bus_cycle::cycle(
-            n,
+            config,
             cycle_count(k),
             states,
             table_faults::cycle_faults(rest),

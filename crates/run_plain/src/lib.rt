@@ -11,11 +11,12 @@ ghost use Rattle.cluster_states.specs.States.{statesOf, stateAt, rowOf};
 ghost use Rattle.run_turns.specs.After.{rowAfter};
 use cluster_states::Roles;
 use cluster_states::States;
+use rules::Config;
 
 // The cycle of a record on the fault table alone: the roles after it, and in place the groups. The arrays for what is missed are zeros before and after it:
 // they are cleared only where the record has entries.
 fn plain_cycle(
-    n: usize,
+    config: Config,
     w: Roles,
     numbers: &mut [u32; 64],
     sets: &mut [u64; 64],
@@ -24,14 +25,14 @@ fn plain_cycle(
     missed: &mut [u64; 64],
     s: &[u8],
 ) -> Roles
-    requires { ⌜ (n ≤ 64) × (36 ≤ length (now s)) × (cycleLength (now s) ≤ length (now s)) ⌝ }
+    requires { ⌜ (config .nodes ≤ 64) × (36 ≤ length (now s)) × (cycleLength (now s) ≤ length (now s)) ⌝ }
     requires { ⌜ (now unheard ≡ replicate 64 0) × (now missed ≡ replicate 64 0) ⌝ }
-    ensures { λ r. ⌜ rowOf n (statesOf r (now (numbers .exit)) (now (sets .exit)) (now (bases .exit))) ≡ theCycle (record { nodes = n }) (faultsAt (now (s .entry))) (rowOf n (statesOf w (now (numbers .entry)) (now (sets .entry)) (now (bases .entry)))) ⌝ }
+    ensures { λ r. ⌜ rowOf (config .nodes) (statesOf r (now (numbers .exit)) (now (sets .exit)) (now (bases .exit))) ≡ theCycle config (faultsAt (now (s .entry))) (rowOf (config .nodes) (statesOf w (now (numbers .entry)) (now (sets .entry)) (now (bases .entry)))) ⌝ }
     ensures { λ _. ⌜ (now (unheard .exit) ≡ replicate 64 0) × (now (missed .exit) ≡ replicate 64 0) ⌝ }
 {
     table_faults::cycle_missed(s, unheard, missed);
     let m = table_faults::marks_at(s);
-    let after = cluster_cycle::advance(n, w, numbers, sets, bases, m, unheard, missed);
+    let after = cluster_cycle::advance(config, w, numbers, sets, bases, m, unheard, missed);
     if s[35] != 0 {
         *unheard = [0u64; 64];
         *missed = [0u64; 64];
@@ -39,11 +40,11 @@ fn plain_cycle(
     after
 }
 
-// A run on the fault table alone, in place: states by value would be copied at every cycle.
-pub fn run_plain(n: usize, start: States, s: &[u8]) -> States
-    requires { ⌜ (n ≤ 64) × (cyclesIn (length (now s)) n 1 (now s) .refusal ≡ 0) ⌝ }
-    requires { ⌜ ((q : ℕ) → q < n → formedState q n (stateAt start q) ≡ true) ⌝ }
-    ensures { λ r. ⌜ rowOf n r ≡ rowAfter (record { nodes = n }) (rowOf n start) (cyclesIn (length (now (s .entry))) n 1 (now (s .entry)) .whole) ⌝ }
+// A run on the fault table alone, in place: states by value would be copied at every cycle. Free: what the row after it does not show.
+pub fn run_plain(config: Config, start: States, s: &[u8]) -> States
+    requires { ⌜ (config .nodes ≤ 64) × (cyclesIn (length (now s)) (config .nodes) 1 (now s) .refusal ≡ 0) ⌝ }
+    requires { ⌜ ((q : ℕ) → q < config .nodes → formedState q (config .nodes) (stateAt start q) ≡ true) ⌝ }
+    ensures { λ r. ⌜ rowOf (config .nodes) r ≡ rowAfter config (rowOf (config .nodes) start) (cyclesIn (length (now (s .entry))) (config .nodes) 1 (now (s .entry)) .whole) ⌝ }
 {
     let mut w = Roles {
         members: start.members,
@@ -60,7 +61,7 @@ pub fn run_plain(n: usize, start: States, s: &[u8]) -> States
     while at < s.len() {
         let rest = &s[at..];
         w = plain_cycle(
-            n,
+            config,
             w,
             &mut numbers,
             &mut sets,

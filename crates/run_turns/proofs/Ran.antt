@@ -23,9 +23,6 @@ use Rattle.cluster_states.specs.States.{stateAt, rowOf}
 use Rattle.theorem_formed.proofs.Formed.{FormedRow, cycle-formed}
 use Rattle.run_turns.specs.After.{rowAfter}
 
-abbrev sized : ℕ → Config
-sized n = record { nodes = n }
-
 -- the row of the rules' own list of cycles
 pub after-row : (C : Config) (k : Cluster) (cs : List Faults) → after C k cs .row ≡ rowAfter C (k .row) cs
 unfolding after step rowAfter
@@ -54,24 +51,27 @@ states-formed n s w q l = ap (formedState q n) (sym (at-row n s q l)) ∙ w q l
 -- ---- the loop
 
 -- at the cursor, where cycle k begins: the records are s, and `states` are those after the cycles passed, from the row at the start
-pub record Going (n : ℕ) (start : Row) (s : List ℕ) (states : States) (cursor k : ℕ) : Type 0 where
+pub record Going (C : Config) (start : Row) (s : List ℕ) (states : States) (cursor k : ℕ) : Type 0 where
   pub inside : cursor ≤ length s
   pub counted : 0 < k
   pub few : k ≤ cursor + 1
-  pub formed : FormedRow n (rowOf n states)
-  pub good : from n k s cursor .refusal ≡ 0
-  pub rest : rowAfter (sized n) (rowOf n states) (from n k s cursor .whole) ≡ rowAfter (sized n) start (from n 1 s 0 .whole)
+  pub formed : FormedRow (C .nodes) (rowOf (C .nodes) states)
+  pub good : from (C .nodes) k s cursor .refusal ≡ 0
+  pub rest : rowAfter C (rowOf (C .nodes) states) (from (C .nodes) k s cursor .whole) ≡ rowAfter C start (from (C .nodes) 1 s 0 .whole)
 
-pub going-begun : (n : ℕ) (s : List ℕ) (states : States) → ((q : ℕ) → q < n → formedState q n (stateAt states q) ≡ true) → from n 1 s 0 .refusal ≡ 0
-    → Going n (rowOf n states) s states 0 1
-going-begun n s states w z =
-    record { inside = omega arith; counted = omega arith; few = omega arith; formed = row-formed n states w; good = z; rest = refl }
+pub going-begun : (C : Config) (s : List ℕ) (states : States) → ((q : ℕ) → q < C .nodes → formedState q (C .nodes) (stateAt states q) ≡ true) → from (C .nodes) 1 s 0 .refusal ≡ 0
+    → Going C (rowOf (C .nodes) states) s states 0 1
+going-begun C s states w z =
+    record { inside = omega arith; counted = omega arith; few = omega arith; formed = row-formed (C .nodes) states w; good = z; rest = refl }
 
-module _ (n : ℕ) (start : Row) (s : List ℕ) (states : States) (cursor k : ℕ) (w : Going n start s states cursor k) where
-  pub going-done : length s ≤ cursor → rowOf n states ≡ rowAfter (sized n) start (from n 1 s 0 .whole)
+module _ (C : Config) (start : Row) (s : List ℕ) (states : States) (cursor k : ℕ) (w : Going C start s states cursor k) where
+  abbrev n : ℕ
+  n = C .nodes
+
+  pub going-done : length s ≤ cursor → rowOf n states ≡ rowAfter C start (from n 1 s 0 .whole)
   going-done l =
-      sym (after-none (sized n) (rowOf n states))
-      ∙ ap (λ (c : Cycles). rowAfter (sized n) (rowOf n states) (c .whole)) (sym (from-end n k s cursor l)) ∙ w .rest
+      sym (after-none C (rowOf n states))
+      ∙ ap (λ (c : Cycles). rowAfter C (rowOf n states) (c .whole)) (sym (from-end n k s cursor l)) ∙ w .rest
 
   -- the record at the cursor is an accepted one
   going-on : cursor < length s → cycleRefusal n k (left s cursor) ≡ 0
@@ -94,25 +94,25 @@ module _ (n : ℕ) (start : Row) (s : List ℕ) (states : States) (cursor k : �
   going-whole h l kl = ap (λ (c : Cycles). c .whole) (from-next n k s cursor (cycleRefusal n k (left s cursor)) refl (going-on h) l kl)
 
   pub going-next : cursor < length s → (next : States) (f : Faults) (l : ℕ) → f ≡ faultsAt (left s cursor)
-      → rowOf n next ≡ cycle (sized n) f (rowOf n states) → l ≡ cycleLength (left s cursor) → Going n start s next (cursor + l) (k + 1)
+      → rowOf n next ≡ cycle C f (rowOf n states) → l ≡ cycleLength (left s cursor) → Going C start s next (cursor + l) (k + 1)
   going-next h next f l kf kn kl =
       let past = going-past h l kl in
       let all = from-next n k s cursor (cycleRefusal n k (left s cursor)) refl (going-on h) l kl in
-      let turn : rowOf n next ≡ cycle (sized n) (faultsAt (left s cursor)) (rowOf n states) = kn ∙ ap (λ (c : Faults). cycle (sized n) c (rowOf n states)) kf in
+      let turn : rowOf n next ≡ cycle C (faultsAt (left s cursor)) (rowOf n states) = kn ∙ ap (λ (c : Faults). cycle C c (rowOf n states)) kf in
       record {
         inside = past .1;
         counted = omega arith;
         few = omega (arith, w .few, past .0);
-        formed = subst (FormedRow n) (sym turn) (cycle-formed n (faultsAt (left s cursor)) (rowOf n states) (w .formed));
+        formed = subst (FormedRow n) (sym turn) (cycle-formed C (faultsAt (left s cursor)) (rowOf n states) (w .formed));
         good = sym (ap (λ (c : Cycles). c .refusal) all) ∙ w .good;
         rest =
-            ap (λ (row : Row). rowAfter (sized n) row (from n (k + 1) s (cursor + l) .whole)) turn
-            ∙ sym (after-next (sized n) (rowOf n states) (faultsAt (left s cursor)) (from n (k + 1) s (cursor + l) .whole))
-            ∙ ap (λ (c : Cycles). rowAfter (sized n) (rowOf n states) (c .whole)) (sym all) ∙ w .rest;
+            ap (λ (row : Row). rowAfter C row (from n (k + 1) s (cursor + l) .whole)) turn
+            ∙ sym (after-next C (rowOf n states) (faultsAt (left s cursor)) (from n (k + 1) s (cursor + l) .whole))
+            ∙ ap (λ (c : Cycles). rowAfter C (rowOf n states) (c .whole)) (sym all) ∙ w .rest;
       }
 
 -- the same where cycles are not counted, with arrays for what is missed
-pub record Passing (n : ℕ) (start : Row) (s : List ℕ) (states : States) (unheard missed : List ℕ) (cursor : ℕ) : Type 0 where
+pub record Passing (C : Config) (start : Row) (s : List ℕ) (states : States) (unheard missed : List ℕ) (cursor : ℕ) : Type 0 where
   pub number : ℕ
-  pub going : Going n start s states cursor number
+  pub going : Going C start s states cursor number
   pub clear : (unheard ≡ replicate 64 0) × (missed ≡ replicate 64 0)

@@ -1,1 +1,1 @@
-// A run's turns: what it keeps from record to record, and the row that it comes to. It holds no code.
+// A run's turns: what it keeps from record to record, and the row that it comes to; no code.

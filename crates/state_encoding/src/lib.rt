@@ -1,4 +1,4 @@
-// A node's 24-byte image.
+// A node's 24-byte image, written.
 ghost use mathlib.Core.Path.{_≡_};
 ghost use Rattle.state.specs.State.{reasonCode};
 ghost use Rattle.state.specs.Image.{layout, imageOf, noGroup};

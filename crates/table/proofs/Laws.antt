@@ -2,7 +2,7 @@
 use mathlib.Core.Path.{_≡_, refl, sym, ap, _∙_}
 use mathlib.Core.Bool.{Bool, true, false, not, _&&_, _||_, cond}
 use mathlib.Core.List.{List, []}
-use Prim.Native.Nat.{ℕ, zero, suc, _+_, _-_, _/_, _%_, _^_, _≤_, _<_}
+use Prim.Native.Nat.{ℕ, zero, suc, _-_, _/_, _%_, _^_, _≤_, _<_}
 use native.Mathlib.Omega.{arith}
 use native.Mathlib.Nat.{zero-mod}
 use lib.Dec.{eqb, ltb}
@@ -159,8 +159,8 @@ bounded n k s h =
       start = t .start;
       heartbeats = t .heartbeats;
       votes = t .votes;
-      heartbeatsMissed = λ q. within-row n (λ p. missedOf s (entriesAt s) p) q (λ p. missed-accepted n k s p h);
-      votesMissed = λ q. within-row n (λ p. missedOf s (entriesAt s) (128 + p)) q (λ p. missed-accepted n k s (128 + p) h);
+      heartbeatsMissed = λ q. within-row n _ q (λ p. missed-accepted n k s _ h);
+      votesMissed = λ q. within-row n _ q (λ p. missed-accepted n k s _ h);
     }
 
 -- ---- the cycles of a table

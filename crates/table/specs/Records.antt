@@ -1,5 +1,23 @@
 -- Paper 01, "Table file" and refusals 11 to 13: the records of a table. `s` is what is left of the file where the record begins.
 -- Assumes nothing.
+--     mark: the two bytes that every record begins with
+--     marked: whether a record begins with them
+--     isKind: whether it is a record of the kind
+--     beyond: whether a mask has a bit at n or above
+--     startLength: the length of the first record
+--     countAt, foundingAt: N and the founding set in it
+--     wrongRow: whether a run is lent a row that is not of N entries
+--     startRefusal: the refusal of the first record, 0 if there is none
+--     entriesAt: the count of entries of a cycle's record
+--     cycleLength: its length, by that count
+--     placeAt, missedAt, receiverAt: the first byte, the mask and the receiver of entry i
+--     goodEntry: whether entry i is within its limits and in order
+--     masksBeyond: whether one of the four masks has a bit at n or above
+--     wrongCycle: whether refusal 13 holds of a cycle's record
+--     cycleRefusal: its refusal, 0 if there is none
+--     missedOf: the mask of the entry with a first byte, 0 if there is none
+--     faultsAt: the faults of the cycle
+--     marksAt: its four masks
 use mathlib.Core.Bool.{Bool, not, _&&_, _||_, cond}
 use mathlib.Core.List.{List, [], _∷_}
 use Prim.Native.Nat.{ℕ, zero, suc, _+_, _-_, _*_, _/_, _%_}

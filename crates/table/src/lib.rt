@@ -1,1 +1,1 @@
-// Table files are definitions, in specs/, and their laws, in proofs/.
+// Table files: what a table is and how it is refused, as definitions with their laws; no code.

@@ -19,6 +19,15 @@ use Rattle.rules.proofs.States.{some-inj}
 use Rattle.theorem_agreement.specs.Demand3.{allKeep, clusterAfter, Kept, Holds, Reference, ReferenceDefined, Demand3}
 use Rattle.theorem_agreement.proofs.Invariant.{Agreed, at-first, next, lately-is, step-agreed, step-stray, EntersOrWaits, step-joins, step-enters, step-stays}
 
+-- ---- the invariant after every history
+
+through : (C : Config) (k : Cluster) (g : Group) (cs : List Faults) → Agreed C k g → allKeep C k cs ≡ true → (h : Group) × Agreed C (after C k cs) h
+unfolding after allKeep
+through C k g [] a e = (g, a)
+through C k g (c ∷ cs) a e =
+    let here = and-l (keeps C k c) (allKeep C (step C k c) cs) e in
+    through C (step C k c) (next C k c g a here) cs (step-agreed C k c g a here) (and-r (keeps C k c) (allKeep C (step C k c) cs) e)
+
 -- ---- a list of cycles and then another
 
 pub after-append : (C : Config) (k : Cluster) (cs ds : List Faults) → after C k (cs ++ ds) ≡ after C (after C k cs) ds
@@ -38,14 +47,7 @@ unfolding allKeep after
 keep-last C k [] ds e = e
 keep-last C k (c ∷ cs) ds e = keep-last C (step C k c) cs ds (and-r (keeps C k c) (allKeep C (step C k c) (cs ++ ds)) e)
 
--- ---- the invariant after every history
-
-through : (C : Config) (k : Cluster) (g : Group) (cs : List Faults) → Agreed C k g → allKeep C k cs ≡ true → (h : Group) × Agreed C (after C k cs) h
-unfolding after allKeep
-through C k g [] a e = (g, a)
-through C k g (c ∷ cs) a e =
-    let here = and-l (keeps C k c) (allKeep C (step C k c) cs) e in
-    through C (step C k c) (next C k c g a here) cs (step-agreed C k c g a here) (and-r (keeps C k c) (allKeep C (step C k c) cs) e)
+-- ---- from the beginning
 
 module _ (C : Config) (G F : ℕ) where
   agreed : (past : List Faults) → Kept C G F past → (g : Group) × Agreed C (clusterAfter C G F past) g

@@ -1,4 +1,4 @@
--- The invariant of agreement, that it holds at the beginning, and that one cycle which keeps the promise keeps it. Assumes nothing.
+-- The invariant of agreement, that it holds at the beginning, and that one cycle which meets the premise keeps it. Assumes nothing.
 use mathlib.Core.Path.{_≡_, refl, sym, ap, _∙_, subst}
 use mathlib.Core.Logic.{_⊎_, inl, inr, _≢_}
 use mathlib.Core.Bool.{Bool, true, false, not, _&&_, cond}
@@ -60,7 +60,7 @@ at-first C G F =
         go true f = some-inj (sym f)
         go false f = absurd (none-some f)
 
--- ---- one cycle that keeps the promise
+-- ---- one cycle that meets the premise
 
 after-rule1 : (N : ℕ) (c : Faults) (row : Row) (q : ℕ) → q < N
     → at (ruleOne N c row) q ≡ stopAndStart (has q (c .stop)) (has q (c .start)) (at row q)
@@ -104,9 +104,9 @@ module _ (C : Config) (k : Cluster) (c : Faults) (g : Group) (a : Agreed C k g) 
   abbrev now : Row
   now = ruleOne (C .nodes) c (k .row)
 
-  promise : quorum U (g .base) ≡ true
+  premise : quorum U (g .base) ≡ true
   unfolding keeps
-  promise = ap (keepsWith C k c) (sym (a .defined)) ∙ kept
+  premise = ap (keepsWith C k c) (sym (a .defined)) ∙ kept
 
   steady-inside : _⊆_ U (g .base)
   steady-inside x u = a .inside x (of-steady C k c g x u .part)
@@ -130,7 +130,7 @@ module _ (C : Config) (k : Cluster) (c : Faults) (g : Group) (a : Agreed C k g) 
 
   overruled : (q : ℕ) (h : Group) → q < C .nodes → groupOf (at now q) ≡ some h → h ≢ g → Overruled C now h
   overruled q h l e d =
-      let o = a .overruled q h l (held q h l e) d U steady-inside promise steady-held in
+      let o = a .overruled q h l (held q h l e) d U steady-inside premise steady-held in
       record { rest = o .rest; inside = o .inside; most = o .most; others = λ x b u f. o .others x b u (held x h b f) }
 
   given : Given C c now g U
@@ -141,7 +141,7 @@ module _ (C : Config) (k : Cluster) (c : Faults) (g : Group) (a : Agreed C k g) 
         part = λ q u. of-steady C k c g q u .part;
         calm = λ q u. undisturbed c q (of-steady C k c g q u .now);
         hold = steady-holds;
-        most = promise;
+        most = premise;
         formed = λ q h l e. a .formed q h l (held q h l e);
         overruled = overruled;
       }
@@ -164,10 +164,10 @@ module _ (C : Config) (k : Cluster) (c : Faults) (g : Group) (a : Agreed C k g) 
   reference-is : step C k c .reference ≡ some next
   unfolding step cycle
   reference-is =
-      let one = quorum-meet U U (g .base) steady-inside steady-inside promise promise in
+      let one = quorum-meet U U (g .base) steady-inside steady-inside premise premise in
       let low = lowest-in (C .nodes) (one .0) (λ q. has q U) (of-steady C k c g (one .0) (one .1) .below) (one .1) in
       ap (referenceAfter C k c (done C c now)) (a .defined)
-      ∙ ap (λ (b : Bool). cond b (groupOf (at (done C c now) (lowest (C .nodes) (λ q. has q U)))) none) promise
+      ∙ ap (λ (b : Bool). cond b (groupOf (at (done C c now) (lowest (C .nodes) (λ q. has q U)))) none) premise
       ∙ its .goes (lowest (C .nodes) (λ q. has q U)) (low .1)
 
   pub step-agreed : Agreed C (step C k c) next

@@ -197,7 +197,7 @@ in-common C c r g q h u e m =
     ∙ or-r (has q (g .set) && has q (sent (C .nodes) c r sendsMember)) (has q (sent (C .nodes) c r sendsJoin) && not (has q (g .set)))
     (and-i (has q (sent (C .nodes) c r sendsJoin)) (not (has q (g .set))) (in-sent (C .nodes) c r sendsJoin q h (ap sendsJoin e) (u .beats)) (not-i (has q (g .set)) m))
 
--- ---- what is known after rule 1 of a cycle that keeps the promise
+-- ---- what is known after rule 1 of a cycle that meets the premise
 
 -- whoever holds h is overruled: some quorum of h's own base holds something else
 pub record Overruled (C : Config) (r : Row) (h : Group) : Type 0 where

@@ -1,4 +1,4 @@
--- What one cycle that keeps the promise gives, from rule 2 on. Assumes nothing.
+-- What one cycle that meets the premise gives, from rule 2 on. Assumes nothing.
 use mathlib.Core.Path.{_≡_, sym, ap, _∙_, subst}
 use mathlib.Core.Logic.{_⊎_, inl, inr, _≢_}
 use mathlib.Core.Bool.{true, false}

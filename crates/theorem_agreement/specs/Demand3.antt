@@ -1,4 +1,4 @@
--- Demand 3 of paper 01 over histories: what is promised of every list of cycles that keeps the fault hypothesis.
+-- Demand 3 of paper 01 over histories: what is promised of every list of cycles that meets the premise.
 -- Assumes nothing.
 use mathlib.Core.Path.{_≡_}
 use mathlib.Core.Logic.{_⊎_, _≢_}
@@ -22,7 +22,7 @@ unfoldable pub allKeep : Config → Cluster → List Faults → Bool
 allKeep C k [] = true
 allKeep C k (c ∷ cs) = keeps C k c && allKeep C (step C k c) cs
 
--- the cluster after the cycles `past`, from the founding set F with group number G; all of them keep the promise
+-- the cluster after the cycles `past`, from the founding set F with group number G; all of them meet the premise
 abbrev pub clusterAfter : Config → ℕ → ℕ → List Faults → Cluster
 clusterAfter C G F past = after C (beginning C G F) past
 
@@ -36,7 +36,7 @@ Holds k q g = groupOf (at (k .row) q) ≡ some g
 abbrev pub Reference : Cluster → Group → Type 0
 Reference k g = k .reference ≡ some g
 
--- the reference group is defined while cycles keep the promise: "From the first cycle that does not, the group of record is undefined for good"
+-- the reference group is defined while cycles meet the premise: "From the first cycle that does not, the group of record is undefined for good"
 abbrev pub ReferenceDefined : Config → ℕ → ℕ → Type 0
 ReferenceDefined C G F = (past : List Faults) → Kept C G F past → (g : Group) × Reference (clusterAfter C G F past) g
 

@@ -10,7 +10,7 @@ use denote.Ref.{now}
 use borrow.Author.Tests.{eqb-true, eqb-false}
 use Rattle.refusal.proofs.Laws.{unless-done, unless-refused}
 use Rattle.state.specs.declared.Node.{Node}
-use Rattle.row_calls.specs.Histories.{Call, status, left, History, historyOf, rowAfter, historyAfter, Stands, Begun, at-beginning, by-a-run, Promised}
+use Rattle.row_calls.specs.Histories.{Call, status, left, History, historyOf, nodesAfter, historyAfter, Stands, Begun, at-beginning, by-a-run, Promised}
 use Rattle.row_calls.proofs.OverCalls.{stands-length, refused-left, stands-after, begun-stands, over-calls}
 use Rattle.row_calls.proofs.Standing.{stands-in-order}
 use Rattle.row_images.specs.Images.{nodesIn, imagesOf}
@@ -81,28 +81,28 @@ nodes-left n h c x l w = go (eqb k 0) refl
 
 -- the calls after one that leaves a row that stands, and a list of them
 nodes-next : (n : ℕ) (h : History) (c : Call) (cs : List Call) (x : List ℕ) → length (nodesIn x) ≡ n → Stands n (left c (nodesIn x)) h
-    → (Stands n (nodesIn (leftIn c x)) h → nodesIn (imagesAfter cs (leftIn c x)) ≡ rowAfter cs (nodesIn (leftIn c x)))
-    → nodesIn (imagesAfter (c ∷ cs) x) ≡ rowAfter (c ∷ cs) (nodesIn x)
-unfolding imagesAfter rowAfter
+    → (Stands n (nodesIn (leftIn c x)) h → nodesIn (imagesAfter cs (leftIn c x)) ≡ nodesAfter cs (nodesIn (leftIn c x)))
+    → nodesIn (imagesAfter (c ∷ cs) x) ≡ nodesAfter (c ∷ cs) (nodesIn x)
+unfolding imagesAfter nodesAfter
 nodes-next n h c cs x l w rest =
     let same = nodes-left n h c x l w in
-    rest (subst (λ (v : List Node). Stands n v h) (sym same) w) ∙ ap (λ (v : List Node). rowAfter cs v) same
+    rest (subst (λ (v : List Node). Stands n v h) (sym same) w) ∙ ap (λ (v : List Node). nodesAfter cs v) same
 
-nodes-after : (n : ℕ) (h : History) (cs : List Call) (x : List ℕ) → Stands n (nodesIn x) h → nodesIn (imagesAfter cs x) ≡ rowAfter cs (nodesIn x)
-unfolding imagesAfter rowAfter historyAfter
+nodes-after : (n : ℕ) (h : History) (cs : List Call) (x : List ℕ) → Stands n (nodesIn x) h → nodesIn (imagesAfter cs x) ≡ nodesAfter cs (nodesIn x)
+unfolding imagesAfter nodesAfter historyAfter
 nodes-after n h [] x w = refl
 nodes-after n h (c ∷ cs) x w =
     nodes-next n (historyOf c (nodesIn x) h) c cs x (stands-length n (nodesIn x) h w) (stands-after n (c ∷ []) (nodesIn x) h w)
     (nodes-after n (historyOf c (nodesIn x) h) cs (leftIn c x))
 
 -- before a first call that is an accepted run the row is any
-begun-nodes : (n : ℕ) (h : History) (cs : List Call) (x : List ℕ) → Begun n (nodesIn x) h cs → nodesIn (imagesAfter cs x) ≡ rowAfter cs (nodesIn x)
-unfolding rowAfter historyAfter
+begun-nodes : (n : ℕ) (h : History) (cs : List Call) (x : List ℕ) → Begun n (nodesIn x) h cs → nodesIn (imagesAfter cs x) ≡ nodesAfter cs (nodesIn x)
+unfolding nodesAfter historyAfter
 begun-nodes n h cs x (at-beginning w e) = nodes-after n h cs x w
 begun-nodes n h (c ∷ cs) x (by-a-run l d e) =
     nodes-next n (historyOf c (nodesIn x) h) c cs x l (begun-stands n (c ∷ []) (nodesIn x) h (by-a-run l d e)) (nodes-after n (historyOf c (nodesIn x) h) cs (leftIn c x))
 
-pub promised : OverImages
-promised n h cs x z b d =
+pub over-images : OverImages
+over-images n h cs x z b d =
     subst (λ (v : List Node). Promised n v (historyAfter cs (nodesIn x) h)) (sym (ap nodesIn (done-images d) ∙ begun-nodes n h cs x b))
     (over-calls n (nodesIn x) h cs b)

@@ -16,7 +16,7 @@ use denote.Triple.Clauses.{Lasts, lasts}
 use Rattle.state.specs.declared.Node.{Node}
 use Rattle.bus_units.specs.Run.{framesLength}
 use Rattle.row_calls.specs.declared.Task.{Task}
-use Rattle.row_calls.specs.Histories.{Call, status, left, rowAfter, historyAfter, Promised}
+use Rattle.row_calls.specs.Histories.{Call, status, left, nodesAfter, historyAfter, Promised}
 use Rattle.row_calls.proofs.OverCalls.{over-calls}
 use Rattle.row_press.proofs.call as call
 use Rattle.row_press.proofs.call.Statement as call-says
@@ -65,10 +65,10 @@ module _ {M : Type 1} (𝓤 : URA M) (H : Heap 𝓤) (A : Atoms 𝓤) (mem : Mem
 
 -- ---- a list of calls
 
-done-rows : {cs : List Call} {x z : List Node} → Done cs x z → z ≡ rowAfter cs x
-unfolding rowAfter
+done-rows : {cs : List Call} {x z : List Node} → Done cs x z → z ≡ nodesAfter cs x
+unfolding nodesAfter
 done-rows none = refl
-done-rows (one-more {c} {cs} {x} {y} {z} r told rest) = done-rows rest ∙ ap (λ (v : List Node). rowAfter cs v) (told .2)
+done-rows (one-more {c} {cs} {x} {y} {z} r told rest) = done-rows rest ∙ ap (λ (v : List Node). nodesAfter cs v) (told .2)
 
-pub promised : OverRows
-promised n h cs x z b d = subst (λ (v : List Node). Promised n v (historyAfter cs x h)) (sym (done-rows d)) (over-calls n x h cs b)
+pub over-rows : OverRows
+over-rows n h cs x z b d = subst (λ (v : List Node). Promised n v (historyAfter cs x h)) (sym (done-rows d)) (over-calls n x h cs b)

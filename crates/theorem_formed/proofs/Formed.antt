@@ -1,4 +1,4 @@
--- Every state that the rules give is well formed, whether the promise is kept or not. Assumes nothing.
+-- Every state that the rules give is well formed, whether the premise is met or not. Assumes nothing.
 use mathlib.Core.Path.{_≡_, refl, sym, ap, _∙_, subst}
 use mathlib.Core.Logic.{_⊎_, inl, inr}
 use mathlib.Core.Bool.{Bool, true, false, not, _&&_, _||_, cond}
@@ -31,9 +31,6 @@ use Rattle.rules.proofs.States.{none-some, some-inj, which, idle, own-group, vo
 
 abbrev pub FormedRow : ℕ → Row → Type 0
 FormedRow n row = (q : ℕ) → q < n → formedState q n (at row q) ≡ true
-
-abbrev sized : ℕ → Config
-sized n = record { nodes = n }
 
 -- ---- the test of a state, as laws of the group that it holds
 
@@ -154,32 +151,38 @@ new-sound n q b v f h = record { number = new-number n b v (f .number); self = h
 
 -- ---- rules 5 and 6
 
-member-sound : (n q : ℕ) (own : Vote) (arrived : Ballots) → q < n → has q (own .group .set) ≡ true → Fair n own
-    → SoundState n q (memberDecides (sized n) q own arrived)
+member-sound : (C : Config) (q : ℕ) (own : Vote) (arrived : Ballots) → q < C .nodes → has q (own .group .set) ≡ true → Fair (C .nodes) own
+    → SoundState (C .nodes) q (memberDecides C q own arrived)
 unfolding memberDecides
-member-sound n q own arrived l m f g e = go (wins n b own) (any n (λ p. rival n b (own .group) (b p))) e
+member-sound C q own arrived l m f g e = go (wins n b own) (any n (λ p. rival n b (own .group) (b p))) e
   where
+    n : ℕ
+    n = C .nodes
+
     b : Ballots
     b = withOwn q own arrived
 
     mine : b q ≡ some own
     mine = ap (λ (x : Bool). cond x (some own) (arrived q)) (eqb-self q)
 
-    go : (won beaten : Bool) → groupOf (cond won (memberOn (sized n) b own) (cond beaten (Out Outvoted) (Out NoQuorum))) ≡ some g → Sound n q g
+    go : (won beaten : Bool) → groupOf (cond won (memberOn C b own) (cond beaten (Out Outvoted) (Out NoQuorum))) ≡ some g → Sound n q g
     go true beaten e = subst (λ (x : Group). Sound n q x) (some-inj e) (new-sound n q b own f (voter-in n b own q (in-voters n b own q l m mine)))
     go false true e = absurd (none-some e)
     go false false e = absurd (none-some e)
 
-joiner-sound : (n q : ℕ) (b : Ballots) → ((p : ℕ) (v : Vote) → b p ≡ some v → Fair n v) → SoundState n q (joinerDecides (sized n) q b)
+joiner-sound : (C : Config) (q : ℕ) (b : Ballots) → ((p : ℕ) (v : Vote) → b p ≡ some v → Fair (C .nodes) v) → SoundState (C .nodes) q (joinerDecides C q b)
 unfolding joinerDecides
-joiner-sound n q b fair g e = go (lowest n (λ p. fits n q b (b p))) (b (lowest n (λ p. fits n q b (b p)))) refl e
+joiner-sound C q b fair g e = go (lowest n (λ p. fits n q b (b p))) (b (lowest n (λ p. fits n q b (b p)))) refl e
   where
-    go : (p : ℕ) (o : Option Vote) → b p ≡ o → groupOf (enterOn (sized n) q b o) ≡ some g → Sound n q g
+    n : ℕ
+    n = C .nodes
+
+    go : (p : ℕ) (o : Option Vote) → b p ≡ o → groupOf (enterOn C q b o) ≡ some g → Sound n q g
     go p none k e = absurd (none-some e)
     go p (some v) k e = turn (fits n q b (some v) && every n (λ x. not (fits n q b (b x)) || is v (b x))) refl e
       where
         turn : (t : Bool) → (fits n q b (some v) && every n (λ x. not (fits n q b (b x)) || is v (b x))) ≡ t
-            → groupOf (cond t (memberOn (sized n) b v) Joining) ≡ some g → Sound n q g
+            → groupOf (cond t (memberOn C b v) Joining) ≡ some g → Sound n q g
         turn true f e =
             let fit = and-l (fits n q b (some v)) (every n (λ x. not (fits n q b (b x)) || is v (b x))) f in
             let new = and-l (has q (v .view) && not (has q (v .group .set))) (wins n b v) fit in
@@ -198,47 +201,50 @@ read-tabulate P zero q f d o i = o
 read-tabulate P (suc n) zero f d o i = i 0 (omega arith)
 read-tabulate P (suc n) (suc q) f d o i = read-tabulate P n q (λ x. f (suc x)) d o (λ x l. i (suc x) (omega arith))
 
-module _ (n : ℕ) (c : Faults) (r : Row) (w : (q : ℕ) → q < n → SoundState n q (at r q)) where
+module _ (C : Config) (c : Faults) (r : Row) (w : (q : ℕ) → q < C .nodes → SoundState (C .nodes) q (at r q)) where
+  abbrev n : ℕ
+  n = C .nodes
+
   abbrev got : ℕ → Ballots
-  got q = arrivedAt c (votes (sized n) c r) q
+  got q = arrivedAt c (votes C c r) q
 
   abbrev FairVote : Option Vote → Type 0
   FairVote o = (v : Vote) → o ≡ some v → Fair n v
 
-  vote-fair : (p : ℕ) → p < n → FairVote (voteOf (sized n) c r p (at r p))
+  vote-fair : (p : ℕ) → p < n → FairVote (voteOf C c r p (at r p))
   vote-fair p l v e =
-      let held = vote-group (sized n) c r p (at r p) v e in
-      subst (Fair n) (some-inj (sym (member-votes (sized n) c r p (at r p) (v .group) held) ∙ e)) (own-fair n c r p (v .group) l (w p l (v .group) held))
+      let held = vote-group C c r p (at r p) v e in
+      subst (Fair n) (some-inj (sym (member-votes C c r p (at r p) (v .group) held) ∙ e)) (own-fair n c r p (v .group) l (w p l (v .group) held))
 
   arrived-fair : (q p : ℕ) → FairVote (got q p)
   unfolding votes
   arrived-fair q p =
-      go (voteReaches c p q) (getD (votes (sized n) c r) p none)
-      (read-tabulate FairVote n p (λ x. voteOf (sized n) c r x (at r x)) none (λ v e. absurd (none-some e)) vote-fair)
+      go (voteReaches c p q) (getD (votes C c r) p none)
+      (read-tabulate FairVote n p (λ x. voteOf C c r x (at r x)) none (λ v e. absurd (none-some e)) vote-fair)
     where
       go : (b : Bool) (o : Option Vote) → FairVote o → FairVote (arriveIf b o)
       go true o f = f
       go false o f = λ v e. absurd (none-some e)
 
-  decides-sound : (q : ℕ) → q < n → SoundState n q (decides (sized n) c r q (at r q) (got q))
+  decides-sound : (q : ℕ) → q < n → SoundState n q (decides C c r q (at r q) (got q))
   decides-sound q l h e = go (which (at r q))
     where
       go : (idle (at r q) ≡ true) ⊎ ((at r q ≡ Joining) ⊎ ((g : Group) × (groupOf (at r q) ≡ some g))) → Sound n q h
-      go (inl i) = absurd (none-some (sym (idle-decides (sized n) c r q (at r q) (got q) i) ∙ e))
+      go (inl i) = absurd (none-some (sym (idle-decides C c r q (at r q) (got q) i) ∙ e))
       go (inr (inl j)) =
-          joiner-sound n q (got q) (arrived-fair q) h (sym (ap (λ (s : State). groupOf (decides (sized n) c r q s (got q))) j) ∙ e)
+          joiner-sound C q (got q) (arrived-fair q) h (sym (ap (λ (s : State). groupOf (decides C c r q s (got q))) j) ∙ e)
       go (inr (inr m)) =
           let g = m .0 in
           let s = w q l g (m .1) in
-          member-sound n q (ownVote n c r q g) (got q) l (ap (λ (x : Group). has q (x .set)) (sym (own-group n c r q g)) ∙ s .self)
+          member-sound C q (ownVote n c r q g) (got q) l (ap (λ (x : Group). has q (x .set)) (sym (own-group n c r q g)) ∙ s .self)
           (own-fair n c r q g l s) h
-          (sym (ap groupOf (vote-decides (sized n) c r q (at r q) (ownVote n c r q g) (got q) (member-votes (sized n) c r q (at r q) g (m .1)))) ∙ e)
+          (sym (ap groupOf (vote-decides C c r q (at r q) (ownVote n c r q g) (got q) (member-votes C c r q (at r q) g (m .1)))) ∙ e)
 
-  decisions-formed : FormedRow n (decisions (sized n) c r (votes (sized n) c r))
+  decisions-formed : FormedRow n (decisions C c r (votes C c r))
   unfolding decisions
   decisions-formed q l =
-      ap (formedState q n) (get-tabulate n q (λ x. decides (sized n) c r x (at r x) (got x)) stopped l)
-      ∙ formed-state n q (decides (sized n) c r q (at r q) (got q)) (decides-sound q l)
+      ap (formedState q n) (get-tabulate n q (λ x. decides C c r x (at r x) (got x)) stopped l)
+      ∙ formed-state n q (decides C c r q (at r q) (got q)) (decides-sound q l)
 
 -- rule 1 keeps what is well formed
 pub stop-start-formed : (stop start : Bool) (n q : ℕ) (s : State) → formedState q n s ≡ true → formedState q n (stopAndStart stop start s) ≡ true
@@ -258,9 +264,11 @@ rule-one-formed n c row w q l =
 
 -- ---- every row of a history
 
-pub cycle-formed : (n : ℕ) (c : Faults) (row : Row) → FormedRow n row → FormedRow n (cycle (record { nodes = n }) c row)
+pub cycle-formed : (C : Config) (c : Faults) (row : Row) → FormedRow (C .nodes) row → FormedRow (C .nodes) (cycle C c row)
 unfolding cycle
-cycle-formed n c row w = decisions-formed n c (ruleOne n c row) (λ q l. sound-state n q (at (ruleOne n c row) q) (rule-one-formed n c row w q l))
+cycle-formed C c row w =
+    let n = C .nodes in
+    decisions-formed C c (ruleOne n c row) (λ q l. sound-state n q (at (ruleOne n c row) q) (rule-one-formed n c row w q l))
 
 pub founding-formed : (n G F : ℕ) → G < 2 ^ 32 → below n F ≡ F → FormedRow n (founding n G F)
 unfolding founding
@@ -270,10 +278,10 @@ founding-formed n G F l b q k = ap (formedState q n) (get-tabulate n q (initial 
     go true h = formed-group n q (foundingGroup G F) (record { number = l; self = h; inside = λ x e. e; bound = bound-of n F b })
     go false h = refl
 
-pub after-formed : (n : ℕ) (k : Cluster) (cs : List Faults) → FormedRow n (k .row) → FormedRow n (after (record { nodes = n }) k cs .row)
+pub after-formed : (C : Config) (k : Cluster) (cs : List Faults) → FormedRow (C .nodes) (k .row) → FormedRow (C .nodes) (after C k cs .row)
 unfolding after step
-after-formed n k [] w = w
-after-formed n k (c ∷ cs) w = after-formed n (step (sized n) k c) cs (cycle-formed n c (k .row) w)
+after-formed C k [] w = w
+after-formed C k (c ∷ cs) w = after-formed C (step C k c) cs (cycle-formed C c (k .row) w)
 
 -- ---- and has an entry for each node
 
@@ -281,13 +289,13 @@ pub length-founding : (n G F : ℕ) → length (founding n G F) ≡ n
 unfolding founding
 length-founding n G F = length-tabulate n (initial G F)
 
-pub length-cycle : (n : ℕ) (c : Faults) (row : Row) → length (cycle (record { nodes = n }) c row) ≡ n
+pub length-cycle : (C : Config) (c : Faults) (row : Row) → length (cycle C c row) ≡ C .nodes
 unfolding cycle decisions
-length-cycle n c row =
-    let r = ruleOne n c row in
-    length-tabulate n (λ q. decides (sized n) c r q (at r q) (arrivedAt c (votes (sized n) c r) q))
+length-cycle C c row =
+    let r = ruleOne (C .nodes) c row in
+    length-tabulate (C .nodes) (λ q. decides C c r q (at r q) (arrivedAt c (votes C c r) q))
 
-pub length-after : (n : ℕ) (k : Cluster) (cs : List Faults) → length (k .row) ≡ n → length (after (record { nodes = n }) k cs .row) ≡ n
+pub length-after : (C : Config) (k : Cluster) (cs : List Faults) → length (k .row) ≡ C .nodes → length (after C k cs .row) ≡ C .nodes
 unfolding after step
-length-after n k [] e = e
-length-after n k (c ∷ cs) e = length-after n (step (sized n) k c) cs (length-cycle n c (k .row))
+length-after C k [] e = e
+length-after C k (c ∷ cs) e = length-after C (step C k c) cs (length-cycle C c (k .row))

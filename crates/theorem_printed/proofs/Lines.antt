@@ -15,15 +15,14 @@ use Rattle.state.specs.State.{groupOf}
 use Rattle.rules.specs.declared.Faults.{Faults}
 use Rattle.rules.specs.declared.Config.{Config}
 use Rattle.rules.specs.Faults.{at, cycle}
-use Rattle.rules.specs.Reference.{Cluster, beginning, steady, keepsWith, keeps, referenceAfter, step, after}
+use Rattle.rules.specs.Reference.{Cluster, beginning, steady, keepsWith, keeps, referenceAfter, step, after, haltedIn, enteredIn}
 use Rattle.theorem_agreement.specs.Demand3.{Kept, Reference, allKeep}
 use Rattle.theorem_agreement.proofs.Histories.{after-append, defined, demand3}
 use Rattle.table.specs.Table.{tableOf}
-use Rattle.cluster_watched.specs.Watched.{haltedIn, enteredIn}
 use Rattle.print_run.specs.Printed.{headerLine, fields, line, lines, refusedLine, reported, printed}
 use Rattle.theorem_printed.specs.Lines.{pressOf, foundersOf, clusterAt, around, OverPrinted}
 
--- ---- a cycle that keeps the promise comes after none that did not
+-- ---- a cycle that meets the premise comes after none that did not
 
 broken-step : (C : Config) (k : Cluster) (c : Faults) → keeps C k c ≡ false → step C k c .reference ≡ none
 unfolding keeps step
@@ -83,7 +82,7 @@ module _ (s : List ℕ) (past : List Faults) (c : Faults) (rest : List Faults) (
   b = clusterAt s past
 
   last : clusterAt s (past ++ (c ∷ [])) ≡ step C b c
-  last = after-append C (beginning C 0 (foundersOf s)) past (c ∷ []) ∙ after-one C b c
+  last = after-append C _ past (c ∷ []) ∙ after-one C b c
 
   printed-around : printed s ≡ around s past c rest (line C (suc (length past)) b c)
   unfolding printed reported

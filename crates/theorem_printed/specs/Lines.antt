@@ -9,10 +9,9 @@ use lib.ListN.{length}
 use Rattle.state.specs.declared.Group.{Group}
 use Rattle.rules.specs.declared.Faults.{Faults}
 use Rattle.rules.specs.declared.Config.{Config}
-use Rattle.rules.specs.Reference.{Cluster, beginning, keeps}
+use Rattle.rules.specs.Reference.{Cluster, beginning, keeps, haltedIn, enteredIn}
 use Rattle.theorem_agreement.specs.Demand3.{Demand3, Kept, Reference, clusterAfter}
 use Rattle.table.specs.Table.{tableOf}
-use Rattle.cluster_watched.specs.Watched.{haltedIn, enteredIn}
 use Rattle.rules.specs.OneCycle.{ofNodes}
 use Rattle.print_run.specs.Printed.{headerLine, fields, lines, refusedLine, printed}
 
@@ -34,7 +33,7 @@ around s past c rest x =
     ++ (lines (pressOf s) 1 (beginning (pressOf s) 0 (foundersOf s)) past
     ++ (x ++ (lines (pressOf s) (suc (suc (length past))) (clusterAt s (past ++ (c ∷ []))) rest ++ refusedLine (tableOf false 0 s .cycles .refusal))))
 
--- Of the cycle c of the table: if it keeps the promise, all before it did, and its line shows number and set of the group of record that demand 3 speaks of.
+-- Of the cycle c of the table: if it meets the premise, all before it did, and its line shows number and set of the group of record that demand 3 speaks of.
 pub record PrintedCycle (s : List ℕ) (past : List Faults) (c : Faults) (rest : List Faults) : Type 0 where
   pub shows : keeps (pressOf s) (clusterAt s past) c ≡ true → (g : Group) × Kept (pressOf s) 0 (foundersOf s) (past ++ (c ∷ []))
       × Reference (clusterAt s (past ++ (c ∷ []))) g

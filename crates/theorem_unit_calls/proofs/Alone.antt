@@ -14,7 +14,7 @@ use Rattle.state.specs.declared.State.{State}
 use Rattle.state.specs.declared.State.the-variants.{Out, Joining, Member}
 use Rattle.state.specs.State.{formedPlace, formedState}
 use Rattle.rules.specs.declared.Vote.{Vote}
-use Rattle.rules.specs.OneCycle.{stopAndStart, sendsMember, viewOf, memberDecides, joinerDecides}
+use Rattle.rules.specs.OneCycle.{ofNodes, stopAndStart, sendsMember, viewOf, memberDecides, joinerDecides}
 use Rattle.rules.proofs.Votes.{view-others}
 use Rattle.theorem_formed.proofs.Formed.{stop-start-formed}
 use Rattle.frames.specs.declared.HeartbeatReceived.{HeartbeatReceived}
@@ -149,14 +149,14 @@ module _ (E : Entries) (told : Within E byDefinition) (n q : ℕ) (place : forme
               go (inr k) = inr (silent n p count (bus .votes p q) (d .buffer) (d .cleared) (k .0) (k .1))
 
       -- the calls of one unit, on any bus, give what the definition of a unit's cycle gives
-      pub unit-alone : z ≡ imageIn n q (unitDecides (record { nodes = n }) count bus q now)
+      pub unit-alone : z ≡ imageIn n q (unitDecides (ofNodes n) count bus q now)
       unit-alone =
           decide-gives n q now place now-formed (d .heard0) (d .heard1) (d .votes) (d .arrived) z
           (subst (λ (y : List ℕ). byDefinition .decide y (d .heard0) (d .heard1) (d .votes) (d .arrived) z) ruled-is
           (told .decide (d .ruled) (d .heard0) (d .heard1) (d .votes) (d .arrived) z (d .decides)))
           ∙ ap (imageIn n q) (go now)
         where
-          go : (t : State) → decision (record { state = now; id = q; nodes = n }) t (d .heard0) (d .heard1) (d .votes) (d .arrived) ≡ unitDecides (record { nodes = n }) count bus q t
+          go : (t : State) → decision (record { state = now; id = q; nodes = n }) t (d .heard0) (d .heard1) (d .votes) (d .arrived) ≡ unitDecides (ofNodes n) count bus q t
           go (Out r) = refl
-          go Joining = ap (joinerDecides (record { nodes = n }) q) ballots-are
-          go (Member g) = ap₂ (memberDecides (record { nodes = n }) q) (own-vote g) ballots-are
+          go Joining = ap (joinerDecides (ofNodes n) q) ballots-are
+          go (Member g) = ap₂ (memberDecides (ofNodes n) q) (own-vote g) ballots-are

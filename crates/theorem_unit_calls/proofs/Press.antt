@@ -20,7 +20,7 @@ use Rattle.state.specs.State.{formedPlace, formedState, initial}
 use Rattle.rules.specs.declared.Vote.{Vote}
 use Rattle.rules.specs.declared.Faults.{Faults}
 use Rattle.rules.specs.declared.Config.{Config}
-use Rattle.rules.specs.OneCycle.{stopped, stopIf, startIf, stopAndStart, sendsMember}
+use Rattle.rules.specs.OneCycle.{ofNodes, stopped, stopIf, startIf, stopAndStart, sendsMember}
 use Rattle.rules.specs.Faults.{Row, at, founding, ruleOne, heartbeatReaches, voteReaches, arriveIf, cycle}
 use Rattle.rules.specs.Reference.{Cluster, beginning, step, after}
 use Rattle.rules.proofs.Rows.{get-tabulate}
@@ -107,7 +107,7 @@ rests-as Sent speaks s o = ((λ channel l y k. absurd (let z : 0 ≡ 1 = k .0 in
 
 module _ (E : Entries) (told : Within E byDefinition) (n : ℕ) (two : 2 ≤ n) (few : n ≤ 64) where
   abbrev pub C : Config
-  C = record { nodes = n }
+  C = ofNodes n
 
   abbrev pub Holds : (ℕ → List ℕ) → Row → Type 0
   Holds x row = (q : ℕ) → q < n → x q ≡ imageIn n q (at row q)
@@ -207,22 +207,22 @@ module _ (E : Entries) (told : Within E byDefinition) (n : ℕ) (two : 2 ≤ n) 
   pressed : (k : Cluster) (cs : List Faults) (x z : ℕ → List ℕ) → FormedRow n (k .row) → Holds x (k .row) → Pressed E n cs x z → Holds z (after C k cs .row)
   unfolding after step
   pressed k [] x z w e no-cycle = e
-  pressed k (c ∷ cs) x z w e (next {y = y} count bus d rest) = pressed (step C k c) cs y z (cycle-formed n c (k .row) w) (cycle-holds count c bus x y (k .row) w e d) rest
+  pressed k (c ∷ cs) x z w e (next {y = y} count bus d rest) = pressed (step C k c) cs y z (cycle-formed C c (k .row) w) (cycle-holds count c bus x y (k .row) w e d) rest
 
   sound-pressed : (k : Cluster) (cs : List Faults) (x z : ℕ → List ℕ) → FormedRow n (k .row) → Holds x (k .row) → SoundPressed E n (k .row) cs x z → Holds z (after C k cs .row)
   unfolding after step
   sound-pressed k [] x z w e no-cycle = e
   sound-pressed k (c ∷ cs) x z w e (next {y = y} count stop start bus d rest) =
-      sound-pressed (step C k c) cs y z (cycle-formed n c (k .row) w) (sound-holds count stop start bus x y (k .row) w e d) rest
+      sound-pressed (step C k c) cs y z (cycle-formed C c (k .row) w) (sound-holds count stop start bus x y (k .row) w e d) rest
 
 -- ---- the theorems
 
 module _ (E : Entries) (told : Within E byDefinition) (n F : ℕ) (cs : List Faults) (x z : ℕ → List ℕ) (begins : Begins E n F x) where
   -- if every unit's image follows the rules from the beginning, all that is promised holds
   promised : ((two : 2 ≤ n) (few : n ≤ 64) → FormedRow n (founding n 0 F) → Holds E told n two few x (founding n 0 F)
-      → Holds E told n two few z (after (record { nodes = n }) (beginning (record { nodes = n }) 0 F) cs .row)) → UnitsPromised n F cs z
+      → Holds E told n two few z (after (ofNodes n) (beginning (ofNodes n) 0 F) cs .row)) → UnitsPromised n F cs z
   unfolding beginning founding
-  promised follow = record { states = λ q l. follow (bound q l .two) (bound q l .few) (founding-formed n 0 F (lit< tt) (bound q l .founders)) first q l; claims = demand3 (record { nodes = n }) 0 F }
+  promised follow = record { states = λ q l. follow (bound q l .two) (bound q l .few) (founding-formed n 0 F (lit< tt) (bound q l .founders)) first q l; claims = demand3 (ofNodes n) 0 F }
     where
       bound : (q : ℕ) → q < n → Bounds n F
       bound q l = bounds E told n F q (x q) (begins q l)
@@ -233,9 +233,9 @@ module _ (E : Entries) (told : Within E byDefinition) (n F : ℕ) (cs : List Fau
 pub over-units : (E : Entries) → Within E byDefinition → OverUnits E
 unfolding beginning
 over-units E told n F cs x z begins press =
-    promised E told n F cs x z begins (λ two few w e. pressed E told n two few (beginning (record { nodes = n }) 0 F) cs x z w e press)
+    promised E told n F cs x z begins (λ two few w e. pressed E told n two few (beginning (ofNodes n) 0 F) cs x z w e press)
 
 pub over-any-bus : (E : Entries) → Within E byDefinition → OverAnyBus E
 unfolding beginning
 over-any-bus E told n F cs x z begins press =
-    promised E told n F cs x z begins (λ two few w e. sound-pressed E told n two few (beginning (record { nodes = n }) 0 F) cs x z w e press)
+    promised E told n F cs x z begins (λ two few w e. sound-pressed E told n two few (beginning (ofNodes n) 0 F) cs x z w e press)

@@ -5,6 +5,7 @@ use mathlib.Core.List.{List, [], _∷_}
 use Prim.Native.Nat.{ℕ, zero, suc, _<_}
 use native.Mathlib.Omega.{arith}
 use Rattle.rules.specs.declared.Faults.{Faults}
+use Rattle.rules.specs.OneCycle.{ofNodes}
 use Rattle.rules.specs.Faults.{Row, heartbeatReaches, voteReaches, cycle}
 use Rattle.bus_units.specs.Units.{Bus}
 use Rattle.bus_units.specs.Carried.{Came, on-both, on-a, on-b, on-none, HeartbeatRefused, VoteRefused}
@@ -40,5 +41,5 @@ pub pressed-sound : (E : Entries) (n : ℕ) (row : Row) (cs : List Faults) (x z 
 pressed-sound E n row [] x z none = ([], none)
 pressed-sound E n row (c ∷ cs) x z (next {y = y} count bus d rest) =
     let e = recordOf n count bus (c .stop) (c .start) row in
-    let more = pressed-sound E n (cycle (record { nodes = n }) e row) cs y z rest in
+    let more = pressed-sound E n (cycle (ofNodes n) e row) cs y z rest in
     (e ∷ more .0, next count (c .stop) (c .start) bus (cycle-sound E n count c bus x y d) (more .1))

@@ -21,7 +21,7 @@ use Rattle.state.specs.Image.{imageOf}
 use Rattle.rules.specs.declared.Vote.{Vote}
 use Rattle.rules.specs.declared.Faults.{Faults}
 use Rattle.rules.specs.declared.Config.{Config}
-use Rattle.rules.specs.OneCycle.{stopped, stopAndStart, sendsMember}
+use Rattle.rules.specs.OneCycle.{ofNodes, stopped, stopAndStart, sendsMember}
 use Rattle.rules.specs.Faults.{Row, at, founding, ruleOne, heartbeatReaches, voteReaches, cycle}
 use Rattle.rules.proofs.Rows.{get-tabulate}
 use Rattle.theorem_formed.proofs.Formed.{FormedRow, stop-start-formed, founding-formed, cycle-formed}
@@ -153,7 +153,7 @@ stands frames Refused sent speaks t empty given k = go (sent 0) (sent 1) t (give
 module _ (n count : ℕ) (two : 2 ≤ n) (few : n ≤ 64) (counted : count < 64) (c : Faults) (row : Row) (formed : FormedRow n row) (buffer : List ℕ)
     (sized : length buffer ≡ 1792) (mask : ℕ) where
   abbrev C : Config
-  C = record { nodes = n }
+  C = ofNodes n
 
   abbrev bus : Bus
   bus = busOf C count c row
@@ -290,8 +290,8 @@ press-there E had n F cs buffer mask two few some-founder founders sized =
     cycles : (cs : List Faults) (k : ℕ) (row : Row) → FormedRow n row → (z : ℕ → List ℕ) × Pressed E n cs (λ q. imageIn n q (at row q)) z
     cycles [] k row w = ((λ q. imageIn n q (at row q)), no-cycle)
     cycles (c ∷ cs) k row w =
-        let rest = cycles cs (suc k) (cycle (record { nodes = n }) c row) (cycle-formed n c row w) in
-        (rest .0, next (cycleCount k) (busOf (record { nodes = n }) (cycleCount k) c row) (cycle-there n (cycleCount k) two few (mod-lt (k - 1) (lit< tt)) c row w buffer sized mask E had) (rest .1))
+        let rest = cycles cs (suc k) (cycle (ofNodes n) c row) (cycle-formed (ofNodes n) c row w) in
+        (rest .0, next (cycleCount k) (busOf (ofNodes n) (cycleCount k) c row) (cycle-there n (cycleCount k) two few (mod-lt (k - 1) (lit< tt)) c row w buffer sized mask E had) (rest .1))
 
 -- ---- each other way that a part may go can be gone
 

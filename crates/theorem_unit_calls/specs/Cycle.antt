@@ -9,6 +9,7 @@ use lib.Dec.{eqb}
 use lib.ListN.{getD}
 use Rattle.sets.specs.Sets.{has}
 use Rattle.rules.specs.declared.Faults.{Faults}
+use Rattle.rules.specs.OneCycle.{ofNodes}
 use Rattle.rules.specs.Faults.{Row, heartbeatReaches, voteReaches, cycle}
 use Rattle.bus_units.specs.Units.{Bus}
 use Rattle.bus_units.specs.Carried.{Came, HeartbeatRefused, VoteRefused}
@@ -141,5 +142,5 @@ pub record SoundDone (E : Entries) (n count stop start : ℕ) (bus : Bus) (x z :
 pub data SoundPressed (E : Entries) (n : ℕ) : Row → List Faults → (ℕ → List ℕ) → (ℕ → List ℕ) → Type 1 where
   none : {row : Row} {x : ℕ → List ℕ} → SoundPressed E n row [] x x
   next : {row : Row} {cs : List Faults} {x y z : ℕ → List ℕ} (count stop start : ℕ) (bus : Bus) → SoundDone E n count stop start bus x y
-      → SoundPressed E n (cycle (record { nodes = n }) (recordOf n count bus stop start row) row) cs y z
+      → SoundPressed E n (cycle (ofNodes n) (recordOf n count bus stop start row) row) cs y z
       → SoundPressed E n row (recordOf n count bus stop start row ∷ cs) x z

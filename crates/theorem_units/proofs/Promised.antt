@@ -16,11 +16,11 @@ use Rattle.theorem_unit_calls.proofs.Sound.{pressed-sound}
 use Rattle.theorem_units.specs.Compiled.{compiled}
 use Rattle.theorem_units.proofs.Compiled.{told, had}
 
-pub promised : OverUnits compiled
-promised = over-units compiled told
+pub compiled-units : OverUnits compiled
+compiled-units = over-units compiled told
 
-pub promised-on-any-bus : OverAnyBus compiled
-promised-on-any-bus = over-any-bus compiled told
+pub compiled-any-bus : OverAnyBus compiled
+compiled-any-bus = over-any-bus compiled told
 
 -- the premises can be met: for every founding set and list of fault records there is such a press, from vote buffers of any bytes and masks
 pub compiled-there : (n F : ℕ) (cs : List Faults) (buffer : List ℕ) (mask : ℕ) → 2 ≤ n → n ≤ 64 → eqb F 0 ≡ false → below n F ≡ F → length buffer ≡ 1792

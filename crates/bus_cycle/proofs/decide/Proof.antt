@@ -31,7 +31,7 @@ returns c =
     let v = t .before .before in
     let a = v .before .before .before .args in
     rw (sym (t .before .contains .ensures) ∙ t .if1 .taken)
-    (c .member-decides .ensures ∙ ap (λ (x : Vote). memberDecides (record { nodes = a .n }) (a .q) x (ballotsRead (a .n) (a .count) (a .reach) (a .a .now) (a .b .now))) (v .vote-at .ensures))
+    (c .member-decides .ensures ∙ ap (λ (x : Vote). memberDecides (a .config) (a .q) x (ballotsRead (a .config .nodes) (a .count) (a .reach) (a .a .now) (a .b .now))) (v .vote-at .ensures))
 
 returns-2 : tie.Need-returns-2
 unfolding decidedRead

@@ -14,7 +14,7 @@ returns : tie.Need-returns
 returns c =
     let got = c .before .before .before .before .before .before .before .before .before in
     let a = got .before .before .before .args in
-    c .joiner-decides .ensures ∙ ap (λ (x : Ballots). joinerDecides (record { nodes = a .n }) (a .q) x) (got .arrive .ensures)
+    c .joiner-decides .ensures ∙ ap (λ (x : Ballots). joinerDecides (a .config) (a .q) x) (got .arrive .ensures)
 
 pub joiner-decides-spec : {M : Type 1} → statement M
 joiner-decides-spec = tie.close (tie.spec arrive-requires joiner-decides-requires returns)

@@ -29,21 +29,39 @@ states c = statesOf (start c .args .z) (start c .args .numbers .now) (start c .a
 abbrev faults : tie.After-lowest-steady → Faults
 faults c = faultsOf (start c .args .m) (start c .args .unheard .now) (start c .args .missed .now)
 
-disturbed-now : (c : tie.After-lowest-steady) → kept c .before .before .disturbed-nodes .result ≡ those (start c .args .n) (disturbed (faults c))
+disturbed-now : (c : tie.After-lowest-steady) → kept c .before .before .disturbed-nodes .result ≡ those (start c .args .config .nodes) (disturbed (faults c))
 disturbed-now c =
-    disturbed-are (start c .args .n) (marked c .union2 .result) (kept c .before .before .disturbed-nodes .result) (faults c)
+    disturbed-are (start c .args .config .nodes) (marked c .union2 .result) (kept c .before .before .disturbed-nodes .result) (faults c)
     (marked c .union2 .ensures ∙ ap (λ (x : ℕ). x ∪ faults c .«vote_lost») (marked c .before .union .ensures)) (kept c .before .before .disturbed-nodes .ensures)
 
 steady-now : (c : tie.After-lowest-steady)
-    → kept c .before .steady-nodes .result ≡ steady (record { nodes = start c .args .n }) (clusterOf (start c .args .n) (states c) (start c .args .w)) (faults c) (start c .args .w .group)
+    → kept c .before .steady-nodes .result ≡ steady (start c .args .config) (clusterOf (start c .args .config .nodes) (states c) (start c .args .w)) (faults c) (start c .args .w .group)
 steady-now c =
     let a = start c .args in
-    steady-are (a .n) (states c) (a .w) (faults c) (kept c .before .before .disturbed-nodes .result) (kept c .before .steady-nodes .result) (disturbed-now c) (kept c .before .steady-nodes .ensures)
+    steady-are (a .config) (states c) (a .w) (faults c) (kept c .before .before .disturbed-nodes .result) (kept c .before .steady-nodes .result) (disturbed-now c) (kept c .before .steady-nodes .ensures)
+
+returns : tie.Need-returns
+returns c =
+    let d = c .before .before .before .before .before in
+    let l = d .before in
+    let k = kept l in
+    let a = start l .args in
+    let cycled = l .before .advance in
+    let ruled = l .before .before .before .before .before .rule-one in (
+      stepped (a .config) (states l) (a .w) (faults l) (k .before .steady-nodes .result) (k .keeps .result) (steady-now l) (k .keeps .ensures) (start l .pre) _ (l .lowest-steady .result) (d .is-defined .result) (cycled .ensures) (l .lowest-steady .ensures) (d .is-defined .ensures) (k .before .before .disturbed-nodes .result) (disturbed-now l),
+      (
+        kept-is (a .config) (states l) (a .w) (faults l) (k .before .steady-nodes .result) (k .keeps .result) (steady-now l) (k .keeps .ensures),
+        (
+          halted-are (a .config) (states l) (faults l) (ruled .result) _ (ruled .ensures) (cycled .ensures) (c .before .difference .result) (c .before .difference .ensures),
+          entered-are (a .config) (states l) (faults l) (ruled .result) _ (ruled .ensures) (cycled .ensures) (c .intersection .result) (c .intersection .ensures),
+        ),
+      ),
+    )
 
 first-below : (c : tie.After-lowest-steady) → c .lowest-steady .result < 64
 first-below c =
     let a = start c .args in
-    first-in (a .n) (states c) (a .w) (faults c) (kept c .before .steady-nodes .result) (kept c .keeps .result) (steady-now c) (kept c .keeps .ensures) (c .lowest-steady .result) (start c .pre) (c .lowest-steady .ensures)
+    first-in (a .config) (states c) (a .w) (faults c) (kept c .before .steady-nodes .result) (kept c .keeps .result) (steady-now c) (kept c .keeps .ensures) (c .lowest-steady .result) (start c .pre) (c .lowest-steady .ensures)
 
 union-requires : tie.Need-union-requires
 union-requires c κs = search needs
@@ -95,24 +113,6 @@ difference-requires c κs = search needs
 
 intersection-requires : tie.Need-intersection-requires
 intersection-requires c κs = search needs
-
-returns : tie.Need-returns
-returns c =
-    let d = c .before .before .before .before .before in
-    let l = d .before in
-    let k = kept l in
-    let a = start l .args in
-    let cycled = l .before .advance in
-    let ruled = l .before .before .before .before .before .rule-one in (
-      stepped (a .n) (states l) (a .w) (faults l) (k .before .steady-nodes .result) (k .keeps .result) (steady-now l) (k .keeps .ensures) (start l .pre) _ (l .lowest-steady .result) (d .is-defined .result) (cycled .ensures) (l .lowest-steady .ensures) (d .is-defined .ensures) (k .before .before .disturbed-nodes .result) (disturbed-now l),
-      (
-        kept-is (a .n) (states l) (a .w) (faults l) (k .before .steady-nodes .result) (k .keeps .result) (steady-now l) (k .keeps .ensures),
-        (
-          halted-are (a .n) (states l) (faults l) (ruled .result) _ (ruled .ensures) (cycled .ensures) (c .before .difference .result) (c .before .difference .ensures),
-          entered-are (a .n) (states l) (faults l) (ruled .result) _ (ruled .ensures) (cycled .ensures) (c .intersection .result) (c .intersection .ensures),
-        ),
-      ),
-    )
 
 pub step-spec : {M : Type 1} → statement M
 step-spec =

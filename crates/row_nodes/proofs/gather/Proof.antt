@@ -55,7 +55,7 @@ use Rattle.state.proofs.Node.Laws as N′
 use Rattle.row.proofs.Gathered as G
 use Rattle.row.proofs.Gathered.Laws as G′
 use Rattle.row.proofs.Lists.{gathered-to, gathered-none, gathered-next, gathered-all}
-use Rattle.row_nodes.proofs.Walk.{blank, mach, IsNode, IsGathered, node-makes, gathered-makes, node-typed, gathered-typed, far, after}
+use Rattle.row_nodes.proofs.Walk.{blank, mach, IsNode, IsGathered, node-makes, gathered-makes, node-typed, gathered-typed, far, codeFrom}
 use Rattle.row_nodes.proofs.nothing as nothing′
 use Rattle.row_nodes.proofs.nothing.Symbol as nothing-def
 use Rattle.row_nodes.proofs.nothing.Symbol.{name as #nothing}
@@ -193,7 +193,7 @@ module _ {M : Type 1} (𝓤 : URA M) (H : Heap 𝓤) (A : Atoms 𝓤) (W : Given
         assigns ! (of-opd ! (load ! (from ! (fld ! refl (stop !))) (look-in ! 16 (sub ! 1 refl (whole !))))) (from ! (stop !)) (init ! 10 refl (tt, record { fits = room .0 })) $
         assigns ! (bin ! (load ! (from ! (stop !)) (look ! 12 refl)) (load ! (from ! (stop !)) (look ! 10 refl)) tt) (from ! (stop !)) (init ! 8 refl (tt, tt)) $
         first ! $ branches ! (load ! (from ! (stop !)) (look ! 8 refl))
-        (λ less. skips ! $ exec ! C Λ En (after 3 pieces.turn-1) (anyQ (Turned i)) $
+        (λ less. skips ! $ exec ! C Λ En (codeFrom 3 pieces.turn-1) (anyQ (Turned i)) $
         -- the place of row[q], and its node
         assigns ! (bin ! (load ! (from ! (stop !)) (look ! 12 refl)) (lit ! tt) (record { fits = place-fits less })) (from ! (stop !)) (store ! 10 refl (tt, record { fits = place-fits less })) $
         assigns ! (bin ! (load ! (from ! (fld ! refl (stop !))) (look-in ! 16 (sub ! 0 refl (whole !)))) (load ! (from ! (stop !)) (look ! 10 refl)) tt) (from ! (stop !)) (init ! 6 refl (tt, tt)) $

@@ -55,7 +55,7 @@ use Rattle.state.proofs.Node.Laws as N′
 use Rattle.cluster_states.proofs.States as S
 use Rattle.cluster_states.proofs.States.Laws as S′
 use Rattle.row.proofs.Lists.{upto, upto-none, upto-length, upto-next, upto-set, upto-all, each-length}
-use Rattle.row_nodes.proofs.Walk.{blank, mach, IsNode, IsStates, node-makes, states-makes, node-typed, states-typed, far, after}
+use Rattle.row_nodes.proofs.Walk.{blank, mach, IsNode, IsStates, node-makes, states-makes, node-typed, states-typed, far, codeFrom}
 use Rattle.row_nodes.proofs.node_at as node-at
 use Rattle.row_nodes.proofs.node_at.Symbol as node-at-def
 use Rattle.row_nodes.proofs.node_at.Symbol.{name as #node-at}
@@ -192,7 +192,7 @@ module _ {M : Type 1} (𝓤 : URA M) (H : Heap 𝓤) (A : Atoms 𝓤) (W : Given
         assigns ! (of-opd ! (load ! (from ! (fld ! refl (stop !))) (look-in ! 20 (sub ! 1 refl (whole !))))) (from ! (stop !)) (init ! 16 refl (tt, record { fits = room .0 })) $
         assigns ! (bin ! (load ! (from ! (stop !)) (look ! 18 refl)) (load ! (from ! (stop !)) (look ! 16 refl)) tt) (from ! (stop !)) (init ! 14 refl (tt, tt)) $
         first ! $ branches ! (load ! (from ! (stop !)) (look ! 14 refl))
-        (λ less. skips ! $ exec ! C Λ En (after 3 pieces.turn-1) (anyQ (Turned i)) $
+        (λ less. skips ! $ exec ! C Λ En (codeFrom 3 pieces.turn-1) (anyQ (Turned i)) $
         -- the place of row[p], and its node
         assigns ! (bin ! (load ! (from ! (stop !)) (look ! 18 refl)) (lit ! tt) (record { fits = place-fits less })) (from ! (stop !)) (store ! 16 refl (tt, record { fits = place-fits less })) $
         assigns ! (bin ! (load ! (from ! (fld ! refl (stop !))) (look-in ! 20 (sub ! 0 refl (whole !)))) (load ! (from ! (stop !)) (look ! 16 refl)) tt) (from ! (stop !)) (init ! 10 refl (tt, tt)) $

@@ -50,7 +50,7 @@ use Rattle.row_calls.specs.Calls.{callStatus, callLeft}
 use Rattle.row.specs.declared.Gathered.{Gathered}
 use Rattle.row.specs.Gathered.{nothingOf, gathered, nodeOf, each}
 use Rattle.run_answer.specs.declared.Outcome.{Outcome}
-use Rattle.run_answer.specs.Answered.{countByte, GatheredFrom, Leaves}
+use Rattle.run_answer.specs.Answered.{countByte, GatheredFrom, Leaves, AsLent}
 use Rattle.state.proofs.Node as N
 use Rattle.cluster_states.proofs.States as S
 use Rattle.cluster_states.proofs.States.Laws as S′
@@ -133,6 +133,9 @@ Answered t n len g bs r = (nodes : List Node) → GatheredFrom n g len nodes →
 abbrev Left : Task → ℕ → ℕ → Gathered → List ℕ → Outcome → Type 0
 Left t n len g bs r = (nodes : List Node) → GatheredFrom n g len nodes → r .status ≡ 0 → Leaves (r .nodes) (r .states) len (callLeft t n nodes framesLength bs)
 
+abbrev Refused : Gathered → Outcome → Type 0
+Refused g r = AsLent (r .status) (r .nodes) (r .states) (g .states)
+
 -- ---- the callees
 module _ {M : Type 1} (𝓤 : URA M) (H : Heap 𝓤) (A : Atoms 𝓤) (mem : Memory → SProp 𝓤) (run : Routine → Fun 𝓤) where
   abbrev CountByte : Contract 𝓤
@@ -157,10 +160,10 @@ module _ {M : Type 1} (𝓤 : URA M) (H : Heap 𝓤) (A : Atoms 𝓤) (mem : Mem
 
   answered-of : (κ : Lft) (t : Task) (n len : ℕ) (g : Gathered) (z : RefT (List ℕ)) (r : Outcome)
       → ent 𝓤 (ensured 𝓤 H A answer.ended (answer.clauses 𝓤 H A mem run) (κ, tt) (t, (n, (len, (g, (z, tt))))) tt r)
-      (sep 𝓤 (fact 𝓤 (Answered t n len g (z .now) r)) (fact 𝓤 (Left t n len g (z .now) r)))
+      (sep 𝓤 (fact 𝓤 (Answered t n len g (z .now) r)) (sep 𝓤 (fact 𝓤 (Left t n len g (z .now) r)) (fact 𝓤 (Refused g r))))
   answered-of κ t n len g z r =
       exE 𝓤 _ (λ ws. snd∗ 𝓤 (sem 𝓤 H A (lasts answer.ended (κ, tt) (t, (n, (len, (g, (z, tt))))) ws))
-      (sep 𝓤 (fact 𝓤 (Answered t n len g (z .now) r)) (fact 𝓤 (Left t n len g (z .now) r))))
+      (sep 𝓤 (fact 𝓤 (Answered t n len g (z .now) r)) (sep 𝓤 (fact 𝓤 (Left t n len g (z .now) r)) (fact 𝓤 (Refused g r)))))
 
   abbrev to-count : ℕ → CountByte .Ghost
   to-count n = ((tt, tt, tt, (n, tt), (vint w32 n ∷ [], tt)), tt)
@@ -391,14 +394,14 @@ module _ {M : Type 1} (𝓤 : URA M) (H : Heap 𝓤) (A : Atoms 𝓤) (W : Given
           calls-at ! (fmOf 𝓤 H (W .laws) 𝓣) (Answer 𝓤 H A mem run) known-answer (to-answer g w)
           (and-then ! (load ! (from ! (stop !)) (look ! 32 refl)) (and-then ! (load ! (from ! (stop !)) (look ! 30 refl)) (and-then ! (load ! (from ! (stop !)) (look ! 20 refl)) (and-then ! (load ! (from ! (stop !)) (look ! 18 refl)) (and-then ! (load ! (from ! (stop !)) (look ! 26 refl)) (no-more !)))))) (λ v.
           use1 W (later (some (λ (r : Outcome). ((‵ (flft κ₁ q₁) ⊛ ‵ ftrue) ⊛ ‵ (O.the-row .own r (v ∷ []))) ⊛ raw (ensured 𝓤 H A answer.ended (answer.clauses 𝓤 H A mem run) (κ₁, tt) (t, (n, (len, (g, (z, tt))))) tt r)))) (id⊢ 𝓤 _) $ await ! tt $ pick ! (λ r.
-          split ! $ move ! (1 ∷ []) $ use1 W (raw (fact 𝓤 (Answered t n len g bs r)) ⊛ raw (fact 𝓤 (Left t n len g bs r))) (answered-of 𝓤 H A mem run κ₁ t n len g z r) $ split ! $
-          heard ! (Answered t n len g bs r) (λ said. heard ! (Left t n len g bs r) (λ leaving. split ! $ move ! (1 ∷ []) $
+          split ! $ move ! (1 ∷ []) $ use1 W (raw (fact 𝓤 (Answered t n len g bs r)) ⊛ (raw (fact 𝓤 (Left t n len g bs r)) ⊛ raw (fact 𝓤 (Refused g r)))) (answered-of 𝓤 H A mem run κ₁ t n len g z r) $ split ! $
+          heard ! (Answered t n len g bs r) (λ said. split ! $ heard ! (Left t n len g bs r) (λ leaving. heard ! (Refused g r) (λ _. split ! $ move ! (1 ∷ []) $
           peeks ! O.the-row (Is O.the-row) (shows 𝓤 H A O.the-row) r (v ∷ []) (λ is-r. drop ! $
           -- [the token of κ₁; the bytes; the row; the token of κ; the locals, local k at 4 + 2 · (15 − k)]
           land ! (from ! (stop !)) (init ! 24 refl (outcome-typed 𝓤 H A W r v is-r)) $
           split ! $ move ! (1 ∷ 3 ∷ 4 ∷ 2 ∷ 0 ∷ []) $ drop ! $ forget ! 18 refl $ forget ! 20 refl $
           rewrite ! 24 (λ (c : Val). ‵ (fat fullShare O′.mir l₅ 0 c)) (told r v is-r) refl $
-          ends r (spelt r v is-r) (said ys of-row) (leaving ys of-row))))))
+          ends r (spelt r v is-r) (said ys of-row) (leaving ys of-row)))))))
 
       -- the row lent as `&`, and `gather`
       gathers : (m : ℕ) → m < 2 ^ 8 → m ≡ countByte n

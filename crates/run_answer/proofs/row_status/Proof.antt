@@ -3,7 +3,7 @@ use mathlib.Core.Path.{_≡_, sym, ap}
 use mathlib.Core.Bool.{Bool, cond}
 use Prim.Native.Nat.{ℕ}
 use denote.Ref.{now}
-use Rattle.run_answer.specs.Answered.{rowRefusal}
+use Rattle.row_calls.specs.Calls.{rowStatus}
 use Rattle.run_answer.proofs.Calling.{too-few, too-many, other-row, longer-record, by-order}
 use Rattle.run_answer.proofs.row_status.Statement.{statement}
 use Rattle.run_answer.proofs.row_status.Tie as tie
@@ -31,7 +31,7 @@ returns-4 c =
 
 -- where the length is right
 ordered : (c : tie.Else4) (x : ℕ) → x ≡ cond (asked c .args .good) 0 4
-    → x ≡ rowRefusal (asked c .args .n) (asked c .args .len) (asked c .args .good) (now (asked c .args .s))
+    → x ≡ rowStatus (asked c .args .n) (asked c .args .len) (asked c .args .good) (now (asked c .args .s))
 ordered c =
     let a = c .before in
     let e = a .before in

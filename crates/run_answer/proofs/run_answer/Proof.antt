@@ -1,5 +1,5 @@
 -- A table that is not refused begins with a whole record, and what follows it is accepted to the end. Assumes nothing.
-use mathlib.Core.Path.{_≡_, sym, ap, _∙_}
+use mathlib.Core.Path.{_≡_, refl, sym, ap, _∙_}
 use mathlib.Core.Bool.{true}
 use Prim.Native.Nat.{ℕ}
 use native.Mathlib.Omega.{arith}
@@ -35,10 +35,10 @@ returns : tie.Need-returns
 returns c =
     let f = c .before in
     let a = asked (f .before) .args in (
-      c .refused .ensures ∙ found (f .before),
+      c .refused .ensures .0 ∙ found (f .before),
       (
-        λ z. absurd (f .if1 .taken (sym (c .refused .ensures) ∙ z)),
-        frames-kept (a .framed) (a .len) (now (a .s)) (now (a .frames)) (λ z. f .if1 .taken (found (f .before) ∙ z)),
+        λ z. absurd (f .if1 .taken (sym (c .refused .ensures .0) ∙ z)),
+        (frames-kept (a .framed) (a .len) (now (a .s)) (now (a .frames)) (λ z. f .if1 .taken (found (f .before) ∙ z)), λ _. (c .refused .ensures .1, c .refused .ensures .2)),
       ),
     )
 
@@ -53,8 +53,8 @@ start c = begun _ _ (fitting c .0)
 start-count-requires : tie.Need-start-count-requires
 start-count-requires c κs = start c .there
 
-cast-begin : tie.Need-cast-begin
-cast-begin c = omega arith
+cast-nodes : tie.Need-cast-nodes
+cast-nodes c = omega arith
 
 start-founding-requires : tie.Need-start-founding-requires
 start-founding-requires c κs = start (c .before) .there
@@ -65,9 +65,6 @@ begin-requires c κs =
     let e = n .before in
     count-most _ _ (fitting e .0) _ (n .start-count .ensures)
 
-cast-run : tie.Need-cast-run
-cast-run c = omega arith
-
 sub-run : tie.Need-sub-run
 sub-run c = let b = start (c .before .before .before) in b .there
 
@@ -76,6 +73,21 @@ part-run-start c = let b = start (c .before .before .before) in b .there
 
 part-run-end : tie.Need-part-run-end
 part-run-end c = omega arith
+
+returns-2 : tie.Need-returns-2
+returns-2 c =
+    let r = c .before .before in
+    let b = r .before .before .before in
+    let f = b .before in
+    let n = f .before in
+    let e = n .before in
+    let a = asked (e .before) .args in (
+      sym (e .if1 .left) ∙ found (e .before),
+      (
+        λ z. run-leaves _ _ (fitting e .0) _ (n .start-count .ensures) _ (f .start-founding .ensures) _ (b .begin .ensures) _ (r .run .ensures .0),
+        (r .run .ensures .1 ∙ run-shown _ _ (fitting e .0) _ (n .start-count .ensures) _ (f .start-founding .ensures) _ (b .begin .ensures) (a .framed) (now (a .frames)) (fitting e .1), λ o. absurd (o refl)),
+      ),
+    )
 
 run-requires : tie.Need-run-requires
 run-requires c κs =
@@ -90,21 +102,6 @@ run-requires c κs =
 same-length : tie.Need-same-length
 same-length c = search needs
 
-returns-2 : tie.Need-returns-2
-returns-2 c =
-    let r = c .before .before in
-    let b = r .before .before .before in
-    let f = b .before in
-    let n = f .before in
-    let e = n .before in
-    let a = asked (e .before) .args in (
-      sym (e .if1 .left) ∙ found (e .before),
-      (
-        λ z. run-leaves _ _ (fitting e .0) _ (n .start-count .ensures) _ (f .start-founding .ensures) _ (b .begin .ensures) _ (r .run .ensures .0),
-        r .run .ensures .1 ∙ run-shown _ _ (fitting e .0) _ (n .start-count .ensures) _ (f .start-founding .ensures) _ (b .begin .ensures) (a .framed) (now (a .frames)) (fitting e .1),
-      ),
-    )
-
 pub run-answer-spec : {M : Type 1} → statement M
 run-answer-spec =
     tie.close
@@ -114,10 +111,9 @@ run-answer-spec =
     refused-requires
     returns
     start-count-requires
-    cast-begin
+    cast-nodes
     start-founding-requires
     begin-requires
-    cast-run
     sub-run
     part-run-start
     part-run-end

@@ -33,16 +33,16 @@ abbrev asked : tie.After-advance → tie.Start
 asked a = entries a .before .before .before .before
 
 abbrev before : tie.After-advance → Row
-before a = let g = asked a .args in rowOf (g .n) (statesOf (g .w) (now (g .numbers)) (now (g .sets)) (now (g .bases)))
+before a = let g = asked a .args in rowOf (g .config .nodes) (statesOf (g .w) (now (g .numbers)) (now (g .sets)) (now (g .bases)))
 
 abbrev after : tie.After-advance → Row
-after a = let g = a .advance .last .1 .1 in rowOf (asked a .args .n) (statesOf (a .advance .result) (g .0) (g .1 .0) (g .1 .1 .0))
+after a = let g = a .advance .last .1 .1 in rowOf (asked a .args .config .nodes) (statesOf (a .advance .result) (g .0) (g .1 .0) (g .1 .1 .0))
 
-cycled : (a : tie.After-advance) → after a ≡ cycle (record { nodes = asked a .args .n }) (faultsAt (now (asked a .args .s))) (before a)
+cycled : (a : tie.After-advance) → after a ≡ cycle (asked a .args .config) (faultsAt (now (asked a .args .s))) (before a)
 cycled a =
     let m = masks a .marks-at in
     let e = entries a .cycle-missed .ensures in
-    a .advance .ensures ∙ ap (λ (f : Faults). cycle (record { nodes = asked a .args .n }) f (before a)) (faults-are _ (m .result) _ _ (m .ensures) (e .0) (e .1))
+    a .advance .ensures ∙ ap (λ (f : Faults). cycle (asked a .args .config) f (before a)) (faults-are _ (m .result) _ _ (m .ensures) (e .0) (e .1))
 
 returns : tie.Need-returns
 returns c = (cycled (c .before .before .before .before), (refl, refl))

@@ -5,6 +5,7 @@ use Prim.Native.Nat.{ℕ, _+_, _-_, _≤_}
 use native.Mathlib.Omega.{arith}
 use lib.ListN.{length}
 use denote.Ref.{now}
+use Rattle.rules.specs.declared.Config.{Config}
 use Rattle.rules.specs.Faults.{Row}
 use Rattle.cluster_states.specs.declared.States.{States}
 use Rattle.cluster_states.specs.States.{statesOf, rowOf}
@@ -13,20 +14,20 @@ use Rattle.run_plain.proofs.run_plain.Statement.{statement}
 use Rattle.run_plain.proofs.run_plain.Tie as tie
 
 abbrev Inv-loop : tie.InvT-loop
-Inv-loop n s w₀ numbers₀ sets₀ bases₀ unheard₀ missed₀ at₀ w numbers sets bases unheard missed at =
-    Passing n (rowOf n (statesOf w₀ numbers₀ sets₀ bases₀)) s (statesOf w numbers sets bases) unheard missed at
+Inv-loop config s w₀ numbers₀ sets₀ bases₀ unheard₀ missed₀ at₀ w numbers sets bases unheard missed at =
+    Passing config (rowOf (config .nodes) (statesOf w₀ numbers₀ sets₀ bases₀)) s (statesOf w numbers sets bases) unheard missed at
 
 abbrev μ-loop : tie.MeasureT-loop
-μ-loop n s w₀ numbers₀ sets₀ bases₀ unheard₀ missed₀ at₀ w numbers sets bases unheard missed at = length s - at
+μ-loop config s w₀ numbers₀ sets₀ bases₀ unheard₀ missed₀ at₀ w numbers sets bases unheard missed at = length s - at
 
 abbrev asked : tie.At-loop Inv-loop μ-loop → tie.Start Inv-loop μ-loop
 asked a = a .before .before .before .before .before
 
-abbrev nodes : tie.At-loop Inv-loop μ-loop → ℕ
-nodes a = asked a .args .n
+abbrev press : tie.At-loop Inv-loop μ-loop → Config
+press a = asked a .args .config
 
 abbrev begun : tie.At-loop Inv-loop μ-loop → Row
-begun a = rowOf (nodes a) (asked a .args .start)
+begun a = rowOf (press a .nodes) (asked a .args .start)
 
 abbrev table : tie.At-loop Inv-loop μ-loop → List ℕ
 table a = now (asked a .args .s)
@@ -37,7 +38,7 @@ states a = statesOf (a .loop .w) (a .loop .numbers) (a .loop .sets) (a .loop .ba
 loop-holds : tie.Need-loop-holds Inv-loop μ-loop
 loop-holds c =
     let a = c .before .before .before .before in
-    record { number = 1; going = going-begun (a .args .n) (now (a .args .s)) (a .args .start) (a .pre .1) (a .pre .0 .1); clear = (refl, refl) }
+    record { number = 1; going = going-begun (a .args .config) (now (a .args .s)) (a .args .start) (a .pre .1) (a .pre .0 .1); clear = (refl, refl) }
 
 sub-rest : tie.Need-sub-rest Inv-loop μ-loop
 sub-rest c = omega arith
@@ -53,7 +54,7 @@ plain-cycle-requires c κs =
     let t = c .before .before .before .before .before .before in
     let a = t .before in
     let i = a .loop .inv in
-    let there = going-there (nodes a) (begun a) (table a) (states a) (a .loop .at) (i .number) (i .going) (t .loop-test .taken) in
+    let there = going-there (press a) (begun a) (table a) (states a) (a .loop .at) (i .number) (i .going) (t .loop-test .taken) in
     ((asked a .pre .0 .0, there .0, there .1), i .clear)
 
 abbrev cycled : tie.After-plain-cycle Inv-loop μ-loop → tie.In-loop Inv-loop μ-loop
@@ -64,7 +65,7 @@ cycle-length-requires c κs =
     let t = cycled c in
     let a = t .before in
     let i = a .loop .inv in
-    going-there (nodes a) (begun a) (table a) (states a) (a .loop .at) (i .number) (i .going) (t .loop-test .taken) .0
+    going-there (press a) (begun a) (table a) (states a) (a .loop .at) (i .number) (i .going) (t .loop-test .taken) .0
 
 past : (c : tie.After-cycle-length Inv-loop μ-loop)
     → (36 ≤ c .cycle-length .result) × (cycled (c .before) .before .loop .at + c .cycle-length .result ≤ length (table (cycled (c .before) .before)))
@@ -72,7 +73,7 @@ past c =
     let t = cycled (c .before) in
     let a = t .before in
     let i = a .loop .inv in
-    going-past (nodes a) (begun a) (table a) (states a) (a .loop .at) (i .number) (i .going) (t .loop-test .taken) _ (c .cycle-length .ensures)
+    going-past (press a) (begun a) (table a) (states a) (a .loop .at) (i .number) (i .going) (t .loop-test .taken) _ (c .cycle-length .ensures)
 
 add-at : tie.Need-add-at Inv-loop μ-loop
 add-at c = let t = past c in omega arith
@@ -88,7 +89,7 @@ loop-again c =
     record {
       number = i .number + 1;
       going =
-          going-next (nodes a) (begun a) (table a) (states a) (a .loop .at) (i .number) (i .going) (t .loop-test .taken)
+          going-next (press a) (begun a) (table a) (states a) (a .loop .at) (i .number) (i .going) (t .loop-test .taken)
           _ _ _ refl (c .before .plain-cycle .ensures .0) (c .cycle-length .ensures);
       clear = c .before .plain-cycle .ensures .1;
     }
@@ -97,7 +98,7 @@ returns : tie.Need-returns Inv-loop μ-loop
 returns c =
     let a = c .before in
     let i = a .loop .inv in
-    going-done (nodes a) (begun a) (table a) (states a) (a .loop .at) (i .number) (i .going) (c .loop-test .left)
+    going-done (press a) (begun a) (table a) (states a) (a .loop .at) (i .number) (i .going) (c .loop-test .left)
 
 pub run-plain-spec : {M : Type 1} → statement M
 run-plain-spec =

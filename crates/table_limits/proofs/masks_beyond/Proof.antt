@@ -10,16 +10,16 @@ use Rattle.table_limits.proofs.masks_beyond.Statement.{statement}
 use Rattle.table_limits.proofs.masks_beyond.Tie as tie
 
 -- a mask with no bit at n or above, and what the test of each left
-abbrev Kept : tie.Start → ℕ → Type 0
-Kept a at = beyond (a .args .n) (numberAt (now (a .args .s)) at 8) ≡ false
+abbrev Inside : tie.Start → ℕ → Type 0
+Inside a at = beyond (a .args .n) (numberAt (now (a .args .s)) at 8) ≡ false
 
-first : (e : tie.Else1) → Kept (e .before .before .before .before) 3
+first : (e : tie.Else1) → Inside (e .before .before .before .before) 3
 first e = mask-test _ 3 _ _ _ _ (e .before .before .read8 .ensures) (e .before .is-beyond .ensures) (e .if1 .left)
 
-second : (e : tie.Else2) → Kept (e .before .before .before .before .before .before .before) 11
+second : (e : tie.Else2) → Inside (e .before .before .before .before .before .before .before) 11
 second e = mask-test _ 11 _ _ _ _ (e .before .before .read82 .ensures) (e .before .is-beyond2 .ensures) (e .if2 .left)
 
-third : (e : tie.Else3) → Kept (e .before .before .before .before .before .before .before .before .before .before) 19
+third : (e : tie.Else3) → Inside (e .before .before .before .before .before .before .before .before .before .before) 19
 third e = mask-test _ 19 _ _ _ _ (e .before .before .read83 .ensures) (e .before .is-beyond3 .ensures) (e .if3 .left)
 
 read8-requires : tie.Need-read8-requires

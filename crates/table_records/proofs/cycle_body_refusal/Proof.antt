@@ -18,6 +18,13 @@ start a = a .before .before .before .before .before
 abbrev record-of : tie.After-first-of → List ℕ
 record-of a = now (start a .args .s)
 
+-- first: which of the two refusals goes before the other matters here alone
+returns-2 : tie.Need-returns-2
+returns-2 c =
+    let a = c .before in
+    cycle-refused _ _ _ _ _ _ (a .before .before .cut-refusal .ensures) (a .before .entries-refusal .ensures) (a .first-of .ensures)
+    (a .before .before .before .if1 .left) (a .before .before .before .before .before .pre .2) (c .if2 .taken)
+
 there : (a : tie.After-first-of) → a .first-of .result ≡ 0 → cycleLength (record-of a) ≤ length (record-of a)
 there a z =
     cycle-there (start a .args .n) (start a .args .k) (record-of a) _ _ _ (a .before .before .cut-refusal .ensures) (a .before .entries-refusal .ensures)
@@ -45,12 +52,6 @@ entries-refusal-requires c κs = omega arith
 
 first-of-requires : tie.Need-first-of-requires
 first-of-requires c κs = tt
-
-returns-2 : tie.Need-returns-2
-returns-2 c =
-    let a = c .before in
-    cycle-refused _ _ _ _ _ _ (a .before .before .cut-refusal .ensures) (a .before .entries-refusal .ensures) (a .first-of .ensures)
-    (a .before .before .before .if1 .left) (a .before .before .before .before .before .pre .2) (c .if2 .taken)
 
 is-wrong-cycle-requires : tie.Need-is-wrong-cycle-requires
 is-wrong-cycle-requires c κs =

@@ -17,6 +17,10 @@ returns-2 c = cycle-unmarked _ _ _ (c .before .before .if1 .left) (sym (c .befor
 shared-slice-read-kind : tie.Need-shared-slice-read-kind
 shared-slice-read-kind c = omega arith
 
+-- above what the call asks: another kind than 2 is wrong here too
+returns-4 : tie.Need-returns-4
+returns-4 c = cycle-unknown _ _ _ (c .before .before .before .before .if1 .left) (no-kind _ _ (c .match .rest .1))
+
 cycle-body-refusal-requires : tie.Need-cycle-body-refusal-requires
 cycle-body-refusal-requires c κs = (
   c .before .before .before .before .before .before .pre,
@@ -26,9 +30,6 @@ cycle-body-refusal-requires c κs = (
 
 returns-3 : tie.Need-returns-3
 returns-3 c = c .cycle-body-refusal .ensures
-
-returns-4 : tie.Need-returns-4
-returns-4 c = cycle-unknown _ _ _ (c .before .before .before .before .if1 .left) (no-kind _ _ (c .match .rest .1))
 
 pub cycle-refusal-spec : {M : Type 1} → statement M
 cycle-refusal-spec =
