@@ -49,10 +49,10 @@ stopped() {
     kill -STOP "$pid" && sleep 0.2 && kill -CONT "$pid" && wait "$pid"
 }
 try "stopped and continued" 0 "$(last_of "$expected.short")" "$expected.short" stopped
-# a run shorter than the output buffer is printed when the input ends, and not before
-held_back() { { cat "$p1"; sleep 0.3; wc -c <"$part" >"$part.early"; } | run >"$part" && cat "$part.early" "$part"; }
-{ echo 0; cat "$p1_out"; } >"$expected.held"
-try "no byte of a short run before the input ends" 0 "$(last_of "$p1_out")" "$expected.held" held_back
+# the line of a cycle is printed as soon as its record is read, and not only when the input ends
+printed_early() { { cat "$p1"; sleep 0.3; wc -c <"$part" >"$part.early"; } | run >"$part" && cat "$part.early" "$part"; }
+{ wc -c <"$p1_out"; cat "$p1_out"; } >"$expected.early"
+try "every line before the input ends" 0 "$(last_of "$p1_out")" "$expected.early" printed_early
 # its buffers stand on the stack
 small_stack() { (ulimit -s 256; run <"$short"); }
 try "256 KiB of stack" 0 "$(last_of "$expected.short")" "$expected.short" small_stack

@@ -1,149 +1,32 @@
-// Reads a table from standard input through a window and prints its run, piece by piece.
+// Reads a table from standard input and prints its run: read, call, write, and tell what failed.
 ghost use mathlib.Core.Path.{_≡_};
-ghost use mathlib.Core.Bool.{cond, _&&_};
-ghost use Prim.Native.Nat.{_+_, _≤_, max};
-ghost use lib.ListN.{length};
-ghost use Rattle.grouprun.specs.Buffers.{Shows, Filled, Fits};
+ghost use mathlib.Core.Bool.{false};
+ghost use Prim.Native.Nat.{_+_, _*_, _≤_, _<_};
+ghost use lib.ListN.{length, take};
+ghost use Rattle.print_pieces.specs.Pieces.{held};
+ghost use Rattle.grouprun.specs.Run.{Ready, Goes, hasEnded, Ended};
 use libc::STDERR_FILENO;
 use libc::STDIN_FILENO;
 use libc::STDOUT_FILENO;
-use print_pieces::Session;
+use print_stream::Taken;
 
-// The longest record, the room that a piece needs, and the header line.
-const RECORD: usize = 2331;
-
-const ROOM: usize = 128;
-
-// The bytes from at to end of the input buffer are read and not yet used; after them the input has ended, or could not be read.
-pub struct Window {
-    pub at: usize,
-    pub end: usize,
-    pub ended: bool,
-    pub failed: bool,
-}
-
-// A run between two records; `used` bytes of the output buffer are to be written. A write that failed has lost lines.
+// A run between two reads: what the last call left, how many reads there were, and whether the last read or the last write failed.
 pub struct Run {
-    pub session: Session,
-    pub window: Window,
-    pub used: usize,
-    pub over: bool,
+    pub last: Taken,
+    pub reads: u64,
+    pub unread: bool,
     pub lost: bool,
 }
 
-// How much of the output buffer is used, and whether a write failed.
-pub struct Room {
-    pub used: usize,
-    pub failed: bool,
-}
-
-// Moves the n bytes at a place to the front.
-fn shift(buf: &mut [u8], at: usize, n: usize)
-    requires { ⌜ at + n ≤ length (now buf) ⌝ }
-    ensures { λ _. ⌜ length (now (buf .exit)) ≡ length (now (buf .entry)) ⌝ }
+// Reads behind the bytes kept, which stay.
+fn read_on(input: &mut [u8], kept: usize) -> isize
+    requires { ⌜ kept < length (now input) ⌝ }
+    ensures { λ _. ⌜ take kept (now (input .exit)) ≡ take kept (now (input .entry)) ⌝ }
 {
-    let mut i: usize = 0;
-    while i < n {
-        buf[i] = buf[at + i];
-        i += 1;
-    }
+    libc::read(STDIN_FILENO, &mut input[kept..])
 }
 
-// Reads on behind the first `have` bytes, until the longest record is there: a short read is no end, only an empty one is.
-fn fill(input: &mut [u8], have: usize) -> Window
-    requires { ⌜ have ≤ length (now input) ⌝ }
-    ensures { λ r. ⌜ Shows (now (input .exit)) r ⌝ }
-    ensures { λ r. ⌜ Filled r ⌝ }
-{
-    let mut end = have;
-    while end < RECORD {
-        let got = libc::read(STDIN_FILENO, &mut input[end..]);
-        let more = io::count(got, &input[end..]);
-        if more == 0 {
-            return Window {
-                at: 0,
-                end,
-                ended: got == 0,
-                failed: got != 0,
-            };
-        }
-        end += more;
-    }
-    Window {
-        at: 0,
-        end,
-        ended: false,
-        failed: false,
-    }
-}
-
-// A window with the longest record, unless the input has ended or failed: one read for many records.
-fn refill(input: &mut [u8], w: Window) -> Window
-    requires { ⌜ Shows (now input) w ⌝ }
-    ensures { λ r. ⌜ Shows (now (input .exit)) r ⌝ }
-    ensures { λ r. ⌜ Filled r ⌝ }
-{
-    let at = w.at;
-    let have = w.end - at;
-    if w.ended || w.failed || have >= RECORD {
-        return w;
-    }
-    shift(input, at, have);
-    fill(input, have)
-}
-
-// Writes what is in the output buffer if that leaves no room for a piece.
-fn make_room(out: &[u8], used: usize) -> Room
-    requires { ⌜ (used ≤ length (now out)) × (128 ≤ length (now out)) ⌝ }
-    ensures { λ r. ⌜ r .used + 128 ≤ length (now (out .entry)) ⌝ }
-{
-    if ROOM <= out.len() - used {
-        return Room {
-            used,
-            failed: false,
-        };
-    }
-    let done = io::write_all(STDOUT_FILENO, &out[..used]);
-    Room {
-        used: 0,
-        failed: !done,
-    }
-}
-
-// The output used after a piece: a refusal after a failed read is left out, as the record may be cut there.
-fn used_after(w: Window, over: bool, before: usize, end: usize) -> usize
-    ensures { λ r. ⌜ r ≡ cond (w .failed && over) before end ⌝ }
-    ensures { λ r. ⌜ r ≤ max before end ⌝ }
-{
-    if w.failed && over { before } else { end }
-}
-
-// The header line, and the first record.
-fn begin(
-    input: &mut [u8],
-    out: &mut [u8],
-    numbers: &mut [u32; 64],
-    sets: &mut [u64; 64],
-    bases: &mut [u64; 64],
-) -> Run
-    requires { ⌜ 128 ≤ length (now out) ⌝ }
-    ensures { λ r. ⌜ Fits (now (input .exit)) (now (out .exit)) r ⌝ }
-{
-    let mut window = fill(input, 0);
-    let end = window.end;
-    let piece = print_pieces::open(&input[..end], out, 0, numbers, sets, bases);
-    let session = piece.session;
-    window.at = piece.taken;
-    Run {
-        session,
-        window,
-        used: used_after(window, piece.over, print_lines::header_length(), piece.at),
-        over: piece.over,
-        lost: false,
-    }
-}
-
-// One record more: its line, or its refusal, or the end of the file.
+// One read, the call on what it brought, and the write of what that gave.
 fn next(
     input: &mut [u8],
     out: &mut [u8],
@@ -152,44 +35,101 @@ fn next(
     sets: &mut [u64; 64],
     bases: &mut [u64; 64],
 ) -> Run
-    requires { ⌜ Fits (now input) (now out) r ⌝ }
-    requires { ⌜ 128 ≤ length (now out) ⌝ }
-    ensures { λ q. ⌜ Fits (now (input .exit)) (now (out .exit)) q ⌝ }
+    requires { ⌜ Ready (now input) (now out) (r .last) ⌝ }
+    requires { ⌜ r .reads < 18446744073709551615 ⌝ }
+    ensures { λ q. ⌜ q .reads ≡ r .reads + 1 ⌝ }
+    ensures { λ q. ⌜ Goes r (held (now (numbers .entry)) (now (sets .entry)) (now (bases .entry))) (now (input .entry)) q (held (now (numbers .exit)) (now (sets .exit)) (now (bases .exit))) (now (input .exit)) (now (out .exit)) ⌝ }
 {
-    let session = r.session;
-    let before = r.window;
-    let room = make_room(out, r.used);
-    let used = room.used;
-    if room.failed {
+    let reads = r.reads + 1;
+    let before = r.last;
+    let session = before.session;
+    let kept = before.kept;
+    let at = before.at;
+    let got = read_on(input, kept);
+    if got < 0 {
+        let done = io::write_all(STDOUT_FILENO, &out[..at]);
         return Run {
-            session,
-            window: before,
-            used,
-            over: true,
-            lost: true,
+            last: before,
+            reads,
+            unread: true,
+            lost: !done,
         };
     }
-    let mut window = refill(input, before);
-    let at = window.at;
-    let end = window.end;
-    let piece = print_pieces::turn(session, &input[at..end], out, used, numbers, sets, bases);
-    let after = piece.session;
-    window.at = at + piece.taken;
+    let more = io::count(got, &input[kept..]);
+    let taken = print_stream::take(
+        session,
+        input,
+        kept + more,
+        more == 0,
+        out,
+        at,
+        numbers,
+        sets,
+        bases,
+    );
+    let after = taken.session;
+    let end = taken.at;
+    let done = io::write_all(STDOUT_FILENO, &out[..end]);
     Run {
-        session: after,
-        window,
-        used: used_after(window, piece.over, used, piece.at),
-        over: piece.over,
-        lost: false,
+        last: Taken {
+            session: after,
+            kept: taken.kept,
+            at: 0,
+            over: taken.over,
+        },
+        reads,
+        unread: false,
+        lost: !done,
     }
 }
 
+// Whether nothing is left to be done. Reads are counted, so that the loop ends.
+fn has_ended(r: Run) -> bool
+    ensures { λ e. ⌜ e ≡ hasEnded r ⌝ }
+{
+    if r.last.over {
+        return true;
+    }
+    if r.unread {
+        return true;
+    }
+    if r.lost {
+        return true;
+    }
+    r.reads == u64::MAX
+}
+
+// The whole print, in as many reads as it takes.
+fn print(
+    input: &mut [u8],
+    out: &mut [u8],
+    numbers: &mut [u32; 64],
+    sets: &mut [u64; 64],
+    bases: &mut [u64; 64],
+) -> Run
+    requires { ⌜ (2331 ≤ length (now input)) × (39 + (3 * length (now input) + 128) ≤ length (now out)) ⌝ }
+    ensures { λ r. ⌜ Ended r (held (now (numbers .exit)) (now (sets .exit)) (now (bases .exit))) (now (input .exit)) ⌝ }
+{
+    let mut run = Run {
+        last: print_stream::begin(out),
+        reads: 0,
+        unread: false,
+        lost: false,
+    };
+    let mut ended = has_ended(run);
+    while !ended {
+        run = next(input, out, run, numbers, sets, bases);
+        ended = has_ended(run);
+    }
+    run
+}
+
 // Says on standard error what failed: a program has no exit status.
-fn tell(unread: bool, unwritten: bool) {
+fn tell(unread: bool, lost: bool) {
     if unread {
         io::write_all(STDERR_FILENO, b"grouprun: the input could not be read\n");
     }
-    if unwritten {
+    if lost {
         io::write_all(
             STDERR_FILENO,
             b"grouprun: the output could not be written\n",
@@ -197,29 +137,12 @@ fn tell(unread: bool, unwritten: bool) {
     }
 }
 
-// The whole print. The turns are counted down, so that the loop ends.
-fn print(input: &mut [u8], out: &mut [u8])
-    requires { ⌜ 128 ≤ length (now out) ⌝ }
-{
+fn main() {
+    let mut input = [0u8; 32768];
+    let mut out = [0u8; 131072];
     let mut numbers = [0u32; 64];
     let mut sets = [0u64; 64];
     let mut bases = [0u64; 64];
-    let mut run = begin(input, out, &mut numbers, &mut sets, &mut bases);
-    let mut turns = u64::MAX;
-    while turns > 0 {
-        if run.over {
-            break;
-        }
-        run = next(input, out, run, &mut numbers, &mut sets, &mut bases);
-        turns -= 1;
-    }
-    let used = run.used;
-    let done = io::write_all(STDOUT_FILENO, &out[..used]);
-    tell(run.window.failed, run.lost || !done);
-}
-
-fn main() {
-    let mut input = io::large_buffer();
-    let mut out = io::large_buffer();
-    print(&mut input, &mut out);
+    let run = print(&mut input, &mut out, &mut numbers, &mut sets, &mut bases);
+    tell(run.unread, run.lost);
 }

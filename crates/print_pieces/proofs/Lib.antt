@@ -1,4 +1,3 @@
-mod Windows
-mod Following
-mod Giving
-pub mod Pieces
+pub mod Windows
+pub mod Following
+pub mod Giving

@@ -1,21 +1,23 @@
--- A record is what is seen of it: no refusal, length or fault record looks beyond the longest record. Assumes nothing.
+-- A record is what is seen of it: no refusal, length or fault record looks beyond the record. Assumes nothing.
 use mathlib.Core.Path.{_≡_, refl, sym, ap, ap₂, fun-ext, _∙_}
-use mathlib.Core.Bool.{Bool, false, not, _&&_, _||_, cond}
+use mathlib.Core.Bool.{Bool, true, false, not, _&&_, _||_, cond, true≢false}
 use mathlib.Core.List.{List, [], _∷_}
 use mathlib.Core.Logic.{_⊎_, inl, inr}
 use Prim.Native.Nat.{ℕ, zero, suc, _+_, _-_, _*_, _/_, _%_, _≤_, _<_}
 use native.Mathlib.Omega.{arith}
-use lib.Dec.{eqb, ltb}
+use lib.Dec.{eqb, ltb, leb}
 use lib.ListN.{getD, length, length-take}
 use lib.Seq.{getD-take}
-use borrow.Author.Tests.{le-ltb}
+use borrow.Author.Tests.{le-ltb, leb-true, leb-false}
 use Rattle.sets.specs.Sets.{has, every}
+use Rattle.sets.proofs.Booleans.{and-l, and-r}
 use Rattle.bigendian.specs.BigEndian.{numberAt}
 use Rattle.refusal.specs.Refusal.{when, first}
 use Rattle.rules.specs.Faults.{tabulate}
 use Rattle.table.specs.Records.{marked, isKind, beyond, countAt, foundingAt, wrongRow, startRefusal}
 use Rattle.table.specs.Records.{entriesAt, cycleLength, placeAt, missedAt, goodEntry, masksBeyond, wrongCycle, cycleRefusal, missedOf, faultsAt}
-use Rattle.print_pieces.specs.Seen.{longest, Sees}
+use Rattle.print_window.specs.Window.{Shows}
+use Rattle.print_pieces.specs.Pieces.{longest, wholeIn}
 
 -- the first m elements of s are those of t
 abbrev Agree : ℕ → List ℕ → List ℕ → Type 0
@@ -114,19 +116,47 @@ ofStart lent entries short other cut n founding =
 long : (s : List ℕ) (k : ℕ) → k ≤ length s → ltb (length s) k ≡ false
 long s k h = le-ltb (length s) k h
 
-module _ (left rest : List ℕ) (sees : Sees left rest) where
+-- ---- what a whole record is known by
+
+pub whole-first : (s : List ℕ) → wholeIn false s ≡ true → 12 ≤ length s
+unfolding wholeIn
+whole-first s e = leb-true 12 (length s) e
+
+pub whole-cycle : (s : List ℕ) → wholeIn true s ≡ true → (36 ≤ length s) × (cycleLength s ≤ length s)
+unfolding wholeIn
+whole-cycle s e =
+    let a = leb 36 (length s) in
+    let b = leb (cycleLength s) (length s) in
+    (leb-true 36 (length s) (and-l a b e), leb-true (cycleLength s) (length s) (and-r a b e))
+
+-- a record that is not whole is shorter than the longest
+pub not-whole-short : (begun : Bool) (s : List ℕ) → getD s 35 0 < 256 → wholeIn begun s ≡ false → length s < longest
+unfolding wholeIn
+not-whole-short false s byte e = omega (arith, leb-false 12 (length s) e)
+not-whole-short true s byte e = go (leb 36 (length s)) refl (leb (cycleLength s) (length s)) refl e
+  where
+    go : (a : Bool) → leb 36 (length s) ≡ a → (b : Bool) → leb (cycleLength s) (length s) ≡ b → (a && b) ≡ false → length s < longest
+    go false ea b eb h = omega (arith, leb-false 36 (length s) ea)
+    go true ea false eb h = omega (arith, leb-false (cycleLength s) (length s) eb)
+    go true ea true eb h = absurd (true≢false h)
+
+module _ (left rest : List ℕ) (ended : Bool) (shows : Shows left ended rest) where
   seen-agree : Agree (length left) left rest
-  seen-agree i h = ap (λ (l : List ℕ). getD l i 0) (sym (sees .front)) ∙ getD-take (length left) rest i 0 h
+  seen-agree i h = ap (λ (l : List ℕ). getD l i 0) (sym (shows .front)) ∙ getD-take (length left) rest i 0 h
 
-  pub seen-shorter : length left ≤ length rest
-  seen-shorter = omega (arith, length-take (length left) rest, ap length (sees .front))
+  seen-shorter : length left ≤ length rest
+  seen-shorter = omega (arith, length-take (length left) rest, ap length (shows .front))
 
-  pub seen-end : length left ≡ 0 → length rest ≡ 0
-  seen-end e = go (sees .whole)
+  pub none-left : length rest ≡ 0 → length left ≡ 0
+  none-left e = omega (arith, seen-shorter)
+
+  -- the file has ended, or the record is whole
+  either : (begun : Bool) → (ended || wholeIn begun left) ≡ true → (left ≡ rest) ⊎ (wholeIn begun left ≡ true)
+  either begun e = go ended refl e
     where
-      go : (left ≡ rest) ⊎ (longest ≤ length left) → length rest ≡ 0
-      go (inl same) = ap length (sym same) ∙ e
-      go (inr l) = absurd (omega arith)
+      go : (b : Bool) → ended ≡ b → (b || wholeIn begun left) ≡ true → (left ≡ rest) ⊎ (wholeIn begun left ≡ true)
+      go true k h = inl (shows .whole k)
+      go false k h = inr h
 
   pub seen-length : 36 ≤ length left → cycleLength left ≡ cycleLength rest
   seen-length h = ap (λ (e : ℕ). 36 + 9 * e) (seen-agree 35 (omega arith))
@@ -134,24 +164,32 @@ module _ (left rest : List ℕ) (sees : Sees left rest) where
   pub seen-faults : 36 ≤ length left → cycleLength left ≤ length left → faultsAt left ≡ faultsAt rest
   seen-faults h l = faults-agree (length left) left rest seen-agree h l
 
-  pub seen-refusal : (n k : ℕ) → getD left 35 0 < 256 → cycleRefusal n k left ≡ cycleRefusal n k rest
-  unfolding cycleRefusal ofFour
-  seen-refusal n k byte = go (sees .whole)
-    where
-      go : (left ≡ rest) ⊎ (longest ≤ length left) → cycleRefusal n k left ≡ cycleRefusal n k rest
-      go (inl same) = ap (cycleRefusal n k) same
-      go (inr l) =
-          let more = seen-shorter in
-          let head : 36 ≤ length left = omega arith in
-          let there : cycleLength left ≤ length left = omega arith in
-          let there' : cycleLength rest ≤ length rest = omega (arith, seen-length head) in
-          let short : ltb (length left) 3 ≡ ltb (length rest) 3 = long left 3 (omega arith) ∙ sym (long rest 3 (omega arith)) in
-          let few : ltb (length left) 36 ≡ ltb (length rest) 36 = long left 36 head ∙ sym (long rest 36 (omega arith)) in
-          let cut : ltb (length left) (cycleLength left) ≡ ltb (length rest) (cycleLength rest) = long left _ there ∙ sym (long rest _ there') in
-          ap₂ (λ (a b : Bool). ofFour a b (ltb (length left) 36 || ltb (length left) (cycleLength left)) (wrongCycle n k left)) short
-          (ap not (kind-agree (length left) left rest seen-agree 2 (omega arith)))
-          ∙ ap₂ (λ (a b : Bool). ofFour (ltb (length rest) 3) (not (isKind 2 rest)) a b) (ap₂ (λ (a b : Bool). a || b) few cut)
-          (wrong-agree (length left) left rest seen-agree head there n k)
+  module _ (ready : (ended || wholeIn true left) ≡ true) where
+    pub seen-end : length left ≡ 0 → length rest ≡ 0
+    seen-end e = go (either true ready)
+      where
+        go : (left ≡ rest) ⊎ (wholeIn true left ≡ true) → length rest ≡ 0
+        go (inl same) = ap length (sym same) ∙ e
+        go (inr w) = absurd (omega (arith, whole-cycle left w .0))
+
+    pub seen-refusal : (n k : ℕ) → cycleRefusal n k left ≡ cycleRefusal n k rest
+    unfolding cycleRefusal ofFour
+    seen-refusal n k = go (either true ready)
+      where
+        go : (left ≡ rest) ⊎ (wholeIn true left ≡ true) → cycleRefusal n k left ≡ cycleRefusal n k rest
+        go (inl same) = ap (cycleRefusal n k) same
+        go (inr w) =
+            let more = seen-shorter in
+            let head = whole-cycle left w .0 in
+            let there = whole-cycle left w .1 in
+            let there' : cycleLength rest ≤ length rest = omega (arith, seen-length head) in
+            let short : ltb (length left) 3 ≡ ltb (length rest) 3 = long left 3 (omega arith) ∙ sym (long rest 3 (omega arith)) in
+            let few : ltb (length left) 36 ≡ ltb (length rest) 36 = long left 36 head ∙ sym (long rest 36 (omega arith)) in
+            let cut : ltb (length left) (cycleLength left) ≡ ltb (length rest) (cycleLength rest) = long left _ there ∙ sym (long rest _ there') in
+            ap₂ (λ (a b : Bool). ofFour a b (ltb (length left) 36 || ltb (length left) (cycleLength left)) (wrongCycle n k left)) short
+            (ap not (kind-agree (length left) left rest seen-agree 2 (omega arith)))
+            ∙ ap₂ (λ (a b : Bool). ofFour (ltb (length rest) 3) (not (isKind 2 rest)) a b) (ap₂ (λ (a b : Bool). a || b) few cut)
+            (wrong-agree (length left) left rest seen-agree head there n k)
 
   pub seen-count : 12 ≤ length left → countAt left ≡ countAt rest
   seen-count h = seen-agree 3 (omega arith)
@@ -159,18 +197,18 @@ module _ (left rest : List ℕ) (sees : Sees left rest) where
   pub seen-founding : 12 ≤ length left → foundingAt left ≡ foundingAt rest
   seen-founding h = number-agree (length left) left rest seen-agree 4 8 (omega arith)
 
-  pub seen-start : (lent : Bool) (entries : ℕ) → startRefusal lent entries left ≡ startRefusal lent entries rest
+  pub seen-start : (ended || wholeIn false left) ≡ true → (lent : Bool) (entries : ℕ) → startRefusal lent entries left ≡ startRefusal lent entries rest
   unfolding startRefusal ofStart
-  seen-start lent entries = go (sees .whole)
+  seen-start ready lent entries = go (either false ready)
     where
-      go : (left ≡ rest) ⊎ (longest ≤ length left) → startRefusal lent entries left ≡ startRefusal lent entries rest
+      go : (left ≡ rest) ⊎ (wholeIn false left ≡ true) → startRefusal lent entries left ≡ startRefusal lent entries rest
       go (inl same) = ap (startRefusal lent entries) same
-      go (inr l) =
+      go (inr w) =
           let more = seen-shorter in
+          let there = whole-first left w in
           let short : ltb (length left) 3 ≡ ltb (length rest) 3 = long left 3 (omega arith) ∙ sym (long rest 3 (omega arith)) in
-          let cut : ltb (length left) 12 ≡ ltb (length rest) 12 = long left 12 (omega arith) ∙ sym (long rest 12 (omega arith)) in
+          let cut : ltb (length left) 12 ≡ ltb (length rest) 12 = long left 12 there ∙ sym (long rest 12 (omega arith)) in
           ap₂ (λ (a b : Bool). ofStart lent entries a (not b) (ltb (length left) 12) (countAt left) (foundingAt left)) short
           (kind-agree (length left) left rest seen-agree 1 (omega arith))
           ∙ ap (λ (a : Bool). ofStart lent entries (ltb (length rest) 3) (not (isKind 1 rest)) a (countAt left) (foundingAt left)) cut
-          ∙ ap₂ (ofStart lent entries (ltb (length rest) 3) (not (isKind 1 rest)) (ltb (length rest) 12)) (seen-count (omega arith))
-          (seen-founding (omega arith))
+          ∙ ap₂ (ofStart lent entries (ltb (length rest) 3) (not (isKind 1 rest)) (ltb (length rest) 12)) (seen-count there) (seen-founding there)

@@ -1,28 +1,61 @@
-// What the program prints for a table, piece by piece.
+// What the program prints for a table, record by record.
 ghost use mathlib.Core.Path.{_≡_};
+ghost use mathlib.Core.Bool.{true, false};
 ghost use Prim.Native.Nat.{_+_, _≤_};
 ghost use lib.ListN.{length};
 ghost use Rattle.table.specs.Records.{cycleRefusal};
-ghost use Rattle.print_run.specs.Printed.{printed};
-ghost use Rattle.print_pieces.specs.Pieces.{held, remaining, Sound, Begun, Gives};
+ghost use Rattle.print_pieces.specs.Pieces.{wholeIn, held, Sound, SessionBegun, Gives};
 use cluster_states::Roles;
 use cluster_watched::Watch;
+use rules::Config;
 
-// A table's run between two cycles: the number of nodes, the number of the next cycle, who is what, and what is watched. The caller holds the
-// groups of the nodes, in three arrays.
+// A table's run between two records: whether its first record is read; and then its nodes, the number of the next cycle, who is what, and what is
+// watched. The caller holds the groups of the nodes, in three arrays.
 pub struct Session {
-    pub nodes: usize,
+    pub begun: bool,
+    pub config: Config,
     pub cycle: u64,
     pub roles: Roles,
     pub watch: Watch,
 }
 
-// What one call appended: the session after it, the bytes of the table that it took, the cursor after what it wrote, and whether that was the last.
+// What one record gave: the session after it, the bytes of the table that it took, the cursor after what it wrote, and whether that was the last.
 pub struct Piece {
     pub session: Session,
     pub taken: usize,
     pub at: usize,
     pub over: bool,
+}
+
+// The run of a table of which nothing is read. Free: all of it but `begun`, since nothing is printed by it before the first record.
+pub fn fresh() -> Session
+    ensures { λ r. ⌜ (r .begun ≡ false) × Sound r ⌝ }
+{
+    Session {
+        begun: false,
+        config: Config { nodes: 0 },
+        cycle: 0,
+        roles: Roles {
+            members: 0,
+            joining: 0,
+            no_quorum: 0,
+            outvoted: 0,
+        },
+        watch: cluster_reference::begin(0),
+    }
+}
+
+// Whether the next record is whole in what is seen of the rest of a table.
+pub fn is_whole(begun: bool, left: &[u8]) -> bool
+    ensures { λ r. ⌜ r ≡ wholeIn begun (now (left .entry)) ⌝ }
+{
+    if !begun {
+        return 12 <= left.len();
+    }
+    if left.len() < 36 {
+        return false;
+    }
+    table_records::cycle_length(left) <= left.len()
 }
 
 // A session before cycle 1, and into the arrays the groups of its nodes.
@@ -34,7 +67,7 @@ fn begin(
     bases: &mut [u64; 64],
 ) -> Session
     requires { ⌜ nodes ≤ 64 ⌝ }
-    ensures { λ r. ⌜ Begun nodes founding r (held (now (numbers .exit)) (now (sets .exit)) (now (bases .exit))) ⌝ }
+    ensures { λ r. ⌜ SessionBegun nodes founding r (held (now (numbers .exit)) (now (sets .exit)) (now (bases .exit))) ⌝ }
 {
     let states = cluster_states::begin(nodes, founding);
     let watch = cluster_reference::begin(founding);
@@ -45,7 +78,8 @@ fn begin(
     *sets = first_sets;
     *bases = first_bases;
     Session {
-        nodes,
+        begun: true,
+        config: Config { nodes },
         cycle: 1,
         roles: Roles {
             members: states.members,
@@ -57,8 +91,9 @@ fn begin(
     }
 }
 
-// Begins a table's print: the header line, and the refusal of its first record if there is one. `left` is what is seen of the table.
-pub fn open(
+// The first record: nothing, or the line of its refusal.
+fn open(
+    z: Session,
     left: &[u8],
     out: &mut [u8],
     at: usize,
@@ -66,15 +101,16 @@ pub fn open(
     sets: &mut [u64; 64],
     bases: &mut [u64; 64],
 ) -> Piece
+    requires { ⌜ z .begun ≡ false ⌝ }
+    requires { ⌜ Sound z ⌝ }
     requires { ⌜ at + 128 ≤ length (now out) ⌝ }
-    ensures { λ r. ⌜ Gives printed 12 (now (left .entry)) (now (out .entry)) at (now (out .exit)) r (held (now (numbers .exit)) (now (sets .exit)) (now (bases .exit))) ⌝ }
+    ensures { λ r. ⌜ Gives z (held (now (numbers .entry)) (now (sets .entry)) (now (bases .entry))) (now (left .entry)) (now (out .entry)) at (now (out .exit)) r (held (now (numbers .exit)) (now (sets .exit)) (now (bases .exit))) ⌝ }
 {
-    let header = print_lines::put_header(out, at);
     let refusal = table_first::start_refusal(false, 0, left);
     if refusal != 0 {
-        let end = print_lines::put_refusal(out, header, refusal);
+        let end = print_lines::put_refusal(out, at, refusal);
         return Piece {
-            session: begin(0, 0, numbers, sets, bases),
+            session: z,
             taken: 0,
             at: end,
             over: true,
@@ -90,7 +126,7 @@ pub fn open(
             bases,
         ),
         taken: 12,
-        at: header,
+        at,
         over: false,
     }
 }
@@ -105,12 +141,13 @@ fn run_cycle(
     sets: &mut [u64; 64],
     bases: &mut [u64; 64],
 ) -> Piece
+    requires { ⌜ z .begun ≡ true ⌝ }
     requires { ⌜ Sound z ⌝ }
-    requires { ⌜ cycleRefusal (z .nodes) (z .cycle) (now left) ≡ 0 ⌝ }
+    requires { ⌜ cycleRefusal (z .config .nodes) (z .cycle) (now left) ≡ 0 ⌝ }
     requires { ⌜ at + 100 ≤ length (now out) ⌝ }
-    ensures { λ r. ⌜ Gives (remaining z (held (now (numbers .entry)) (now (sets .entry)) (now (bases .entry)))) 36 (now (left .entry)) (now (out .entry)) at (now (out .exit)) r (held (now (numbers .exit)) (now (sets .exit)) (now (bases .exit))) ⌝ }
+    ensures { λ r. ⌜ Gives z (held (now (numbers .entry)) (now (sets .entry)) (now (bases .entry))) (now (left .entry)) (now (out .entry)) at (now (out .exit)) r (held (now (numbers .exit)) (now (sets .exit)) (now (bases .exit))) ⌝ }
 {
-    let nodes = z.nodes;
+    let config = z.config;
     let cycle = z.cycle;
     let roles = z.roles;
     let watch = z.watch;
@@ -119,7 +156,7 @@ fn run_cycle(
     table_faults::cycle_missed(left, &mut unheard, &mut missed);
     let marks = table_faults::marks_at(left);
     let turn = cluster_reference::step(
-        nodes,
+        config,
         roles,
         numbers,
         sets,
@@ -132,10 +169,12 @@ fn run_cycle(
     let next = turn.watch;
     let end = print_lines::put_line(out, at, cycle, turn.kept, next, turn.halted, turn.entered);
     let after = turn.roles;
+    let later = cycle + 1;
     Piece {
         session: Session {
-            nodes,
-            cycle: cycle + 1,
+            begun: true,
+            config,
+            cycle: later,
             roles: after,
             watch: next,
         },
@@ -145,8 +184,45 @@ fn run_cycle(
     }
 }
 
-// Goes on with a table's print by one record: the line of its cycle, or of its refusal, or nothing at the end of the file. `left` is what is seen of the rest;
-// the arrays hold the groups of the nodes.
+// A record after the first: the line of its cycle, or of its refusal, or nothing at the end of the file.
+fn next(
+    z: Session,
+    left: &[u8],
+    out: &mut [u8],
+    at: usize,
+    numbers: &mut [u32; 64],
+    sets: &mut [u64; 64],
+    bases: &mut [u64; 64],
+) -> Piece
+    requires { ⌜ z .begun ≡ true ⌝ }
+    requires { ⌜ Sound z ⌝ }
+    requires { ⌜ at + 128 ≤ length (now out) ⌝ }
+    ensures { λ r. ⌜ Gives z (held (now (numbers .entry)) (now (sets .entry)) (now (bases .entry))) (now (left .entry)) (now (out .entry)) at (now (out .exit)) r (held (now (numbers .exit)) (now (sets .exit)) (now (bases .exit))) ⌝ }
+{
+    if left.len() == 0 {
+        return Piece {
+            session: z,
+            taken: 0,
+            at,
+            over: true,
+        };
+    }
+    let refusal = table_records::cycle_refusal(z.config.nodes, z.cycle, left);
+    if refusal != 0 {
+        let last = print_lines::put_refusal(out, at, refusal);
+        return Piece {
+            session: z,
+            taken: 0,
+            at: last,
+            over: true,
+        };
+    }
+    run_cycle(z, left, out, at, numbers, sets, bases)
+}
+
+// Takes one record of a table, or its end: `left` is what is seen of the rest, the record whole or all of it. The arrays hold the groups of the nodes.
+// Free: what the cluster as it stands (`standing`) does not show of session and arrays, all of them once it is over, and everything where a record that is cut
+// is taken before the end of the file.
 pub fn turn(
     z: Session,
     left: &[u8],
@@ -158,25 +234,11 @@ pub fn turn(
 ) -> Piece
     requires { ⌜ Sound z ⌝ }
     requires { ⌜ at + 128 ≤ length (now out) ⌝ }
-    ensures { λ r. ⌜ Gives (remaining z (held (now (numbers .entry)) (now (sets .entry)) (now (bases .entry)))) 36 (now (left .entry)) (now (out .entry)) at (now (out .exit)) r (held (now (numbers .exit)) (now (sets .exit)) (now (bases .exit))) ⌝ }
+    ensures { λ r. ⌜ Gives z (held (now (numbers .entry)) (now (sets .entry)) (now (bases .entry))) (now (left .entry)) (now (out .entry)) at (now (out .exit)) r (held (now (numbers .exit)) (now (sets .exit)) (now (bases .exit))) ⌝ }
 {
-    if left.len() == 0 {
-        return Piece {
-            session: z,
-            taken: 0,
-            at,
-            over: true,
-        };
+    if z.begun {
+        next(z, left, out, at, numbers, sets, bases)
+    } else {
+        open(z, left, out, at, numbers, sets, bases)
     }
-    let refusal = table_records::cycle_refusal(z.nodes, z.cycle, left);
-    if refusal != 0 {
-        let end = print_lines::put_refusal(out, at, refusal);
-        return Piece {
-            session: z,
-            taken: 0,
-            at: end,
-            over: true,
-        };
-    }
-    run_cycle(z, left, out, at, numbers, sets, bases)
 }

@@ -1,85 +1,128 @@
 -- `grouprun::next` meets its contract. Assumes nothing.
+use mathlib.Core.Path.{refl, sym}
+use mathlib.Core.Bool.{true≢false, false≢true}
+use denote.Ref.{now}
 use native.Mathlib.Omega.{arith}
-use Prim.Native.Nat.{_-_}
-use lib.ListN.{drop, length-take}
-use Rattle.print_pieces.proofs.Pieces.{ends-within}
 use borrow.Author.Needs.{needs}
+use lib.Seq.{length-take-le}
+use Rattle.print_text.proofs.Appending.{room}
+use Rattle.grouprun.proofs.Calling.{read-within, called}
 use Rattle.grouprun.proofs.next.Statement.{statement}
 use Rattle.grouprun.proofs.next.Tie as tie
 
-make-room-requires : tie.Need-make-room-requires
-make-room-requires c κs = omega arith
+add-reads : tie.Need-add-reads
+add-reads c = omega arith
+
+read-on-requires : tie.Need-read-on-requires
+read-on-requires c κs = search needs
+
+slice-reshare-prefix-write-all : tie.Need-slice-reshare-prefix-write-all
+slice-reshare-prefix-write-all c = search needs
+
+slice-aggregate-write-all : tie.Need-slice-aggregate-write-all
+slice-aggregate-write-all c = sym (length-take-le _ _ (search needs))
+
+write-all-requires : tie.Need-write-all-requires
+write-all-requires c κs = search needs
 
 same-length : tie.Need-same-length
-same-length c = omega arith
-
-returns : tie.Need-returns
-returns c = search needs
-
-refill-requires : tie.Need-refill-requires
-refill-requires c κs = search needs
-
-sub-turn : tie.Need-sub-turn
-sub-turn c = omega arith
-
-part-turn-start : tie.Need-part-turn-start
-part-turn-start c = omega arith
-
-part-turn-end : tie.Need-part-turn-end
-part-turn-end c = omega arith
-
-turn-requires : tie.Need-turn-requires
-turn-requires c κs = omega arith
-
-add-window : tie.Need-add-window
-add-window c =
-    let t = c .before .before .before .before in
-    let r = t .before .before .before .before .before .before .before .before .before in
-    let w = r .refill .result in
-    omega
-    (arith, t .turn .ensures .within, r .refill .ensures .0 .ordered, r .refill .ensures .0 .within, length-take (w .end - w .at) (drop (w .at) (r .refill .last .0)))
-
-used-after-requires : tie.Need-used-after-requires
-used-after-requires c κs = tt
+same-length c = search needs
 
 same-length-2 : tie.Need-same-length-2
-same-length-2 c = omega arith
+same-length-2 c = search needs
+
+returns : tie.Need-returns
+returns c =
+    let s = c .before .before .before .before .before .before .before .before .before .before .before .before in (
+      refl,
+      record {
+        calls = λ e. absurd (true≢false e);
+        fails = λ e. (refl, c .before .before .before .before .before .read-on .ensures, refl);
+        ready = λ o. record { few = s .pre .0 .few; wide = omega (arith, s .pre .0 .wide); room = omega (arith, s .pre .0 .room); sound = s .pre .0 .sound };
+        once = λ e. absurd (true≢false e);
+      },
+    )
+
+sub-count : tie.Need-sub-count
+sub-count c = search needs
+
+part-count-start : tie.Need-part-count-start
+part-count-start c = search needs
+
+part-count-end : tie.Need-part-count-end
+part-count-end c = search needs
+
+count-requires : tie.Need-count-requires
+count-requires c κs = search needs
+
+add-take : tie.Need-add-take
+add-take c = search needs
+
+take-requires : tie.Need-take-requires
+take-requires c κs = search needs
+
+slice-reshare-prefix-write-all-2 : tie.Need-slice-reshare-prefix-write-all-2
+slice-reshare-prefix-write-all-2 c = search needs
+
+slice-aggregate-write-all-2 : tie.Need-slice-aggregate-write-all-2
+slice-aggregate-write-all-2 c = sym (length-take-le _ _ (search needs))
+
+write-all-requires-2 : tie.Need-write-all-requires-2
+write-all-requires-2 c κs = search needs
 
 same-length-3 : tie.Need-same-length-3
-same-length-3 c = omega arith
+same-length-3 c = omega (arith, c .before .before .before .before .before .before .before .before .before .before .before .before .before .before .before .before .before .before .input, c .before .before .before .before .before .before .input3)
+
+same-length-4 : tie.Need-same-length-4
+same-length-4 c = room (c .before .before .before .before .before .before .before .take .ensures .took .written)
 
 returns-2 : tie.Need-returns-2
 returns-2 c =
-    let t = c .before .before .before .before .before in
-    let r = t .before .before .before .before .before .before .before .before .before in
-    let w = r .refill .result in
-    let g = t .turn .ensures in
-    let m = r .before .before .before .make-room .ensures in
-    record {
-      shows =
-          record {
-            ordered = omega (arith, g .within, r .refill .ensures .0 .ordered, length-take (w .end - w .at) (drop (w .at) (r .refill .last .0)));
-            within = r .refill .ensures .0 .within;
-            apart = r .refill .ensures .0 .apart;
-          };
-      room = omega (arith, c .used-after .ensures .1, m, ends-within g (omega (arith, m)));
-      sound = g .sound;
-    }
+    let k = c .before .before .before .before .before .before .before .take in
+    let s = c .before .before .before .before .before .before .before .before .before .before .before .before .before .before .before .before .before .before .before .before .before .before .before .before .before .before in
+    let b = s .args .r .last in (
+      refl,
+      record {
+        calls =
+            λ e. (
+              _,
+              _,
+              called (b .session) _ _ (now (s .args .input)) _ (b .kept) (c .before .before .before .before .before .before .before .before .before .before .before .before .before .count .result) (now (s .args .out)) (b .at) _ _ (k .result)
+                  (c .before .before .before .before .before .before .before .before .before .before .before .before .before .before .before .before .before .before .before .read-on .ensures) (read-within (c .before .before .before .before .before .before .before .before .before .before .before .before .before .before .before .before .before .before .before .read-on .last .0) (b .kept) (c .before .before .before .before .before .before .before .before .before .before .before .before .before .count .result) (omega (arith, s .pre .0, c .before .before .before .before .before .before .before .before .before .before .before .before .before .before .before .before .before .before .input)) (c .before .before .before .before .before .before .before .before .before .before .before .before .before .count .ensures .0 .0)) (omega (arith, c .before .before .before .before .before .before .before .before .before .before .before .before .before .before .before .before .before .before .input)) (k .ensures),
+            );
+        fails = λ e. absurd (false≢true e);
+        ready =
+            λ o. record {
+              few = k .ensures .took .waits o .2;
+              wide = omega (arith, s .pre .0 .wide, c .before .before .before .before .before .before .before .before .before .before .before .before .before .before .before .before .before .before .input, c .before .before .before .before .before .before .input3);
+              room = omega (arith, s .pre .0 .room, c .before .before .before .before .before .before .before .before .before .before .before .before .before .before .before .before .before .before .input, c .before .before .before .before .before .before .input3, c .before .before .before .before .out);
+              sound = k .ensures .sound;
+            };
+        once = λ e. refl;
+      },
+    )
 
 pub next-spec : {M : Type 1} → statement M
 next-spec =
     tie.close
     (tie.spec
-    make-room-requires
+    add-reads
+    read-on-requires
+    slice-reshare-prefix-write-all
+    slice-aggregate-write-all
+    write-all-requires
     same-length
-    returns
-    refill-requires
-    sub-turn
-    part-turn-start
-    part-turn-end
-    turn-requires
-    add-window
-    used-after-requires
     same-length-2
+    returns
+    sub-count
+    part-count-start
+    part-count-end
+    count-requires
+    add-take
+    take-requires
+    slice-reshare-prefix-write-all-2
+    slice-aggregate-write-all-2
+    write-all-requires-2
     same-length-3
+    same-length-4
     returns-2)

@@ -1,6 +1,7 @@
 -- `print_pieces::begin` meets its contract. Assumes nothing.
 use mathlib.Core.Path.{refl}
 use native.Mathlib.Omega.{arith}
+use Rattle.rules.specs.OneCycle.{ofNodes}
 use Rattle.print_pieces.proofs.begin.Statement.{statement}
 use Rattle.print_pieces.proofs.begin.Tie as tie
 
@@ -13,7 +14,12 @@ begin-requires-2 c κs = omega arith
 returns : tie.Need-returns
 returns c =
     let b = c .before .before .before in
-    record { nodes = refl; first = refl; cluster = b .begin2 .ensures (b .before .before .args .nodes) (b .before .begin .result) (b .before .begin .ensures) }
+    record {
+      begun = refl;
+      nodes = refl;
+      first = refl;
+      cluster = b .begin2 .ensures (ofNodes (b .before .before .args .nodes)) (b .before .begin .result) (b .before .begin .ensures);
+    }
 
 pub begin-spec : {M : Type 1} → statement M
 begin-spec = tie.close (tie.spec begin-requires begin-requires-2 returns)

@@ -1,0 +1,4 @@
+pub mod Given
+pub mod Going
+pub mod Chunks
+pub mod Moved
