@@ -28,7 +28,7 @@ INSTALLED = $(call below,bin,$(PROGRAMS)) lib/libgm.a lib/pkgconfig/gm.pc includ
     $(call below,share/doc/gm,$(DOCUMENTS)) $(call below,share/doc/gm/examples,$(EXAMPLES))
 TO = $(DESTDIR)$(PREFIX)
 
-.PHONY: run test host archive compare bench stack format install uninstall load load-test load-full load-program load-archive
+.PHONY: run test host archive compare bench stack format edits install uninstall load load-test load-full load-program load-archive
 .PHONY: archive-test compare-test examples-test vectors-test badinput-test text-test trace-test install-test
 
 # the run that the product paper prints: its table is made from a text, and its lines must be those of the paper
@@ -145,9 +145,15 @@ stack: archive
 format:
 	rt fmt --check
 
-# docs/TRACE.md names what is there, and every wrong edit
+# docs/TRACE.md names what is there, and every wrong edit, and each of these names what refuses it; what is listed by hand is whole
 trace-test:
 	@tests/trace.sh
+	@tests/lists.sh
+
+# each wrong edit was refused first by the law or contract that it names. It reads the logs that `make test` or `rt must-fail` left and proves nothing; no part of
+# `test`, whose last command is `rt ci`: that makes these logs, and its last line is the gate's
+edits:
+	@tests/edits.sh
 
 # for builders of hosts: programs, library, manual pages, documents and examples below PREFIX; DESTDIR stands before it where a package is made
 install: $(PROGRAMS) $(ARCHIVE)

@@ -1,6 +1,6 @@
 #!/usr/bin/env bash
 # Whether docs/TRACE.md is whole: every sentence of the product paper has its row, no cell is empty, every name that a row cites is there, and every
-# must-fail edit is cited. Usage: trace.sh [FILE], by default docs/TRACE.md
+# must-fail edit is cited, and names in its line `refused by:` a law or contract that is there. Usage: trace.sh [FILE], by default docs/TRACE.md
 set -euo pipefail
 root=$(cd "$(dirname "$0")/.." && pwd)
 file=$(realpath "${1:-$root/docs/TRACE.md}")
@@ -115,6 +115,9 @@ for section in "${!sentences[@]}"; do
 done
 while read -r one; do
     [ -n "${cited[$one]+yes}" ] || complain "no row cites the edit \`$one\`"
+    refuser=$(sed -n 's/^refused by: //p' "crates/${one%/*}/must-fail/${one#*/}.edit")
+    [ -n "$refuser" ] || { complain "the edit \`$one\` has no line 'refused by:'"; continue; }
+    [[ $refuser == "${one%/*}"[:/]* && -n "${there[$refuser]+yes}" ]] || complain "the edit \`$one\` is refused by \`$refuser\`, which is no law or contract of its crate"
 done < <(edits)
 [ "$wrong" -eq 0 ] || exit 1
 echo "trace: $rows sentences, ${#cited[@]} names, $(edits | wc -l) edits, all there"
