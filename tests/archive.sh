@@ -1,6 +1,6 @@
 #!/usr/bin/env bash
-# Whether the header and the archive agree: every entry declared once and exported, each called from C, nothing undefined but what is named here, no
-# writable data, and no deeper stack than the header says. Usage: archive.sh ARCHIVE BUILD-FOLDER
+# Whether the header and the archive agree: every entry declared once and exported, each called from C and known to whoever has to know all entries, nothing
+# undefined but what is named here, no writable data, and no deeper stack than the header says. Usage: archive.sh ARCHIVE BUILD-FOLDER
 set -euo pipefail
 archive=$1 build=$2
 mkdir -p "$build"
@@ -10,6 +10,20 @@ declared=$(grep -oE '^uint32_t gm_[a-z_]+' include/gm.h | sed 's/uint32_t //' | 
 exported=$(nm --defined-only "$archive" | awk '$2 == "T" { print $3 }' | sort)
 [ -z "$(uniq -d <<<"$declared")" ] || fail "an entry is declared twice"
 [ "$declared" = "$exported" ] || fail "declared and exported entries differ: $(diff <(echo "$declared") <(echo "$exported") | tr '\n' ' ')"
+
+# what has to call every entry, or to have each of them in other code, so that a new one is forgotten by none
+knows() { # FILE PATTERN
+    grep -qE "$2" "$1" || fail "include/gm.h declares $entry, and $1 has nothing like '$2'"
+}
+for entry in $declared; do
+    name=${entry#gm_}
+    for file in tests/entries.c tests/load.c tests/stack.c; do knows "$file" "\b$entry\("; done
+    knows bench/plain/plain.h "\bplain_$name\("
+    knows tests/host/src/archive.rs "\b$entry\b"
+    knows tests/host/src/archive.rs "\bplain_$name\b"
+    knows tests/host/src/paper/entries.rs "fn $name\("
+    knows tests/host/src/bin/compare.rs "\.$name\("
+done
 
 # what the compiler calls by itself
 needed=$(nm -u "$archive" | awk '$1 == "U" { print $2 }' | sort -u | tr '\n' ' ')
