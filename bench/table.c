@@ -1,6 +1,6 @@
 /*
  * Writes a fault table to be run: table N CYCLES SEED MODE > x.tab
- * Mode 0 has no faults. Mode 1 has faults of few nodes at a time, so that every cycle keeps the promise (from N 3 on; with N 2 it only starts nodes).
+ * Mode 0 has no faults. Mode 1 has faults of few nodes at a time, so that every cycle meets the premise (from N 3 on; with N 2 it only starts nodes).
  * Mode 2 has faults without measure, and one record in it is damaged.
  */
 #include <stdint.h>
