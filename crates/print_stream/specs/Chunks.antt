@@ -25,14 +25,14 @@ firstText out' r = take (r .at) out'
 abbrev pub begun : Taken → Groups → Print
 begun r g = printOf (r .session) g
 
+-- the header and the lines of the whole cycles of a file that may be cut anywhere, and no refusal
+abbrev pub wholeLines : List ℕ → List ℕ
+wholeLines s = headerLine ++ opening s .lines
+
 -- For every file and every way to cut it into chunks, none of them empty, the texts one after the other are `printed` of the file.
 abbrev pub ChunksPrint : Type 0
 ChunksPrint = (out out' : List ℕ) (r : Taken) (g : Groups) (chunks : List (List ℕ)) (t : List ℕ) → Begins out out' r
     → Streamed Calls (begun r g) [] chunks t → firstText out' r ++ t ≡ printed (joined chunks)
-
--- the header and the lines of the whole cycles of a file that may be cut anywhere, and no refusal
-abbrev pub wholeLines : List ℕ → List ℕ
-wholeLines s = headerLine ++ opening s .lines
 
 -- Where the read after some chunks fails, what was given are the header and the lines of the whole cycles before it.
 abbrev pub FailedPrints : Type 0
