@@ -68,7 +68,7 @@ extern "C" {
 #define GM_REFUSED_KIND 12      /* a wrong mark or kind, a first record not of kind 1, a later one of kind 1 */
 #define GM_REFUSED_LIMIT 13     /* a founding set that is empty or has a bit at n or above; in a record, any bit, receiver, count or entry beyond its limit; a cycle after number 4294967295 */
 
-/* no entry on one node, and none on a row, uses more stack, in bytes: 2216 and 30392 as measured (make stack), with some to spare */
+/* no entry on one node, and none on a row, uses more stack, in bytes: 2216 and 30344 as measured (make stack), with some to spare */
 #define GM_STACK_BYTES 2560
 #define GM_ROW_STACK_BYTES 40960
 
