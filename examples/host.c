@@ -6,13 +6,14 @@
  * After each cycle it prints the group of the lowest unit that was not disturbed in it or the one before, and who halted and who entered; then the damage.
  */
 #include "gm.h"
+#include "gm_refusal.h"
 
 #include <inttypes.h>
 #include <stdio.h>
 #include <stdlib.h>
 #include <string.h>
 
-enum { UNITS = 5, CYCLES = 5, CHANNELS = 2, RECORD_BYTES = 36 };
+enum { UNITS = 5, CYCLES = 5, CHANNELS = 2, CYCLE_COUNTS = 64, FOUNDING = 0x1f };
 
 /* what can happen to a copy */
 enum { LOST, FLIPPED, LATE, DAMAGES };
@@ -50,10 +51,16 @@ struct faults {
     uint64_t start, heartbeat_lost, vote_lost;
 };
 
+/* a state, taken apart */
+struct parts {
+    uint32_t kind, reason, node, n, number;
+    uint64_t set, base;
+};
+
 static void must(uint32_t status, const char *entry)
 {
-    if (status != 0) {
-        fprintf(stderr, "%s refused with %" PRIu32 "\n", entry, status);
+    if (status != GM_OK) {
+        fprintf(stderr, "%s refused with %" PRIu32 ": %s\n", entry, status, gm_refusal_text(status));
         exit(1);
     }
 }
@@ -68,20 +75,14 @@ static int in(uint64_t set, unsigned unit)
     return (set & only(unit)) != 0;
 }
 
-/* fields of a state image that is known to be well formed */
-static unsigned kind_of(const struct unit *u)
+static struct parts parts_of(const struct unit *u)
 {
-    return u->state[0];
+    struct parts p = {0, 0, 0, 0, 0, 0, 0};
+    must(gm_state(u->state, sizeof u->state, &p.kind, &p.reason, &p.node, &p.n, &p.number, &p.set, &p.base), "gm_state");
+    return p;
 }
 
-static uint64_t number_at(const uint8_t *s, size_t len)
-{
-    uint64_t x = 0;
-    for (size_t i = 0; i < len; i++)
-        x = x << 8 | s[i];
-    return x;
-}
-
+/* into a record: highest byte first */
 static void put_mask(uint8_t *s, uint64_t mask)
 {
     for (unsigned i = 8; i-- > 0; mask >>= 8)
@@ -141,7 +142,9 @@ static void hear(struct press *p, unsigned self, uint32_t count)
         uint32_t heard = GM_MISSED;
         if (q == self)
             continue;
-        must(gm_receive_heartbeat(UNITS, q, count, slot->bytes[0], slot->len[0], slot->bytes[1], slot->len[1], &heard), "gm_receive_heartbeat");
+        must(gm_receive_heartbeat(UNITS, q, count, slot->bytes[GM_CHANNEL_A], slot->len[GM_CHANNEL_A], slot->bytes[GM_CHANNEL_B],
+                                  slot->len[GM_CHANNEL_B], &heard),
+             "gm_receive_heartbeat");
         if (heard == GM_HEARD_MEMBER)
             u->heard0 |= only(q);
         else if (heard == GM_HEARD_JOINING)
@@ -171,7 +174,8 @@ static void collect(struct press *p, unsigned self, uint32_t count)
         const struct slot *slot = &p->votes.come[q];
         if (q == self)
             continue;
-        must(gm_receive_vote(UNITS, q, count, slot->bytes[0], slot->len[0], slot->bytes[1], slot->len[1], u->votes, GM_VOTES_BYTES, &u->arrived),
+        must(gm_receive_vote(UNITS, q, count, slot->bytes[GM_CHANNEL_A], slot->len[GM_CHANNEL_A], slot->bytes[GM_CHANNEL_B],
+                             slot->len[GM_CHANNEL_B], u->votes, GM_VOTES_BYTES, &u->arrived),
              "gm_receive_vote");
         p->saved += slot->damaged && in(u->arrived, q);
     }
@@ -180,11 +184,12 @@ static void collect(struct press *p, unsigned self, uint32_t count)
 static void decide(struct press *p, unsigned self)
 {
     struct unit *u = &p->units[self];
-    unsigned before = kind_of(u);
+    uint32_t before = parts_of(u).kind, after;
     must(gm_decide(u->state, GM_STATE_BYTES, u->heard0, u->heard1, u->votes, GM_VOTES_BYTES, u->arrived), "gm_decide");
-    if (before == 2 && kind_of(u) == 0)
+    after = parts_of(u).kind;
+    if (before == GM_KIND_MEMBER && after == GM_KIND_OUT)
         p->halted |= only(self);
-    if (before == 1 && kind_of(u) == 2)
+    if (before == GM_KIND_JOINING && after == GM_KIND_MEMBER)
         p->entered |= only(self);
 }
 
@@ -211,7 +216,7 @@ static void cycle(struct press *p, const struct faults *f, uint32_t count)
 static void begin(struct press *p)
 {
     for (uint32_t q = 0; q < UNITS; q++) {
-        must(gm_begin(UNITS, q, 0x1f, p->units[q].state, GM_STATE_BYTES), "gm_begin");
+        must(gm_begin(UNITS, q, FOUNDING, p->units[q].state, GM_STATE_BYTES), "gm_begin");
         memcpy(p->row + q * GM_STATE_BYTES, p->units[q].state, GM_STATE_BYTES);
     }
 }
@@ -219,10 +224,10 @@ static void begin(struct press *p)
 /* the row goes through the cycle by its record, and then holds what the units hold */
 static void must_agree(struct press *p, const struct faults *f, uint32_t number)
 {
-    uint8_t record[RECORD_BYTES] = {0x47, 0x4d, 2};
-    put_mask(record + 11, f->start);
-    put_mask(record + 19, f->heartbeat_lost);
-    put_mask(record + 27, f->vote_lost);
+    uint8_t record[GM_CYCLE_AT_ENTRIES] = {GM_MARK_0, GM_MARK_1, GM_RECORD_CYCLE};
+    put_mask(record + GM_CYCLE_AT_START, f->start);
+    put_mask(record + GM_CYCLE_AT_HEARTBEAT_LOST, f->heartbeat_lost);
+    put_mask(record + GM_CYCLE_AT_VOTE_LOST, f->vote_lost);
     must(gm_cycle(UNITS, p->row, sizeof p->row, record, sizeof record), "gm_cycle");
     for (unsigned q = 0; q < UNITS; q++)
         if (memcmp(p->row + q * GM_STATE_BYTES, p->units[q].state, GM_STATE_BYTES) != 0) {
@@ -233,13 +238,14 @@ static void must_agree(struct press *p, const struct faults *f, uint32_t number)
 
 static void print_cycle(const struct press *p, uint32_t number, uint64_t disturbed)
 {
+    struct parts shown;
     unsigned q = 0;
-    while (q < UNITS && (in(disturbed, q) || kind_of(&p->units[q]) != 2))
+    while (q < UNITS && (in(disturbed, q) || parts_of(&p->units[q]).kind != GM_KIND_MEMBER))
         q++;
     if (q == UNITS)
         exit(1);
-    printf("%" PRIu32 " %" PRIu64 " %016" PRIx64 " %016" PRIx64 " %016" PRIx64 "\n", number, number_at(p->units[q].state + 4, 4),
-           number_at(p->units[q].state + 8, 8), p->halted, p->entered);
+    shown = parts_of(&p->units[q]);
+    printf("%" PRIu32 " %" PRIu32 " %016" PRIx64 " %016" PRIx64 " %016" PRIx64 "\n", number, shown.number, shown.set, p->halted, p->entered);
 }
 
 int main(void)
@@ -251,7 +257,7 @@ int main(void)
     puts("cycle group set halted entered");
     for (uint32_t n = 0; n < CYCLES; n++) {
         uint64_t now = faults[n].heartbeat_lost | faults[n].vote_lost;
-        cycle(&press, &faults[n], n % 64);
+        cycle(&press, &faults[n], n % CYCLE_COUNTS);
         must_agree(&press, &faults[n], n + 1);
         print_cycle(&press, n + 1, now | disturbed);
         disturbed = now;

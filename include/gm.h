@@ -1,16 +1,45 @@
 /*
  * gm.h: proved group membership for a FlexRay cluster of 2 to 64 nodes: the node end, and runs over a fault table.
  *
- * Every entry answers 0, or the number of its refusal (GM_REFUSED_..). A refusal changes nothing: every buffer and every result is as it came in. Of
- * several refusals the lowest is given; a table is looked at record by record, and its first refusal is given. No entry allocates, blocks, keeps anything
+ * CALLS. Every entry answers GM_OK, or the number of its refusal (GM_REFUSED_..; gm_refusal.h has a sentence for each). A refusal changes nothing: every
+ * buffer and every result is as it came in. Of several refusals the lowest is given, but a table or a record in its order: record by record, and of one
+ * record CUT if fewer than 3 bytes are left, KIND, CUT if it is not whole, COUNT, LENGTH of the row, LIMIT. No entry allocates, blocks, keeps anything
  * between calls, or reads or writes outside the buffers that it is lent; any number and any bytes may be passed. What is promised of each entry is proved
- * for all inputs; docs/CLAIMS.md says by which theorem.
+ * for all inputs; CLAIMS.md says by which theorem.
  *
- * A buffer is a pointer and its length in bytes. A pointer is never null, also where the length is 0. Buffers and results of one call do not overlap;
- * what happens where they do is outside the promise. Sets of nodes are masks, bit q for node q. Entries may be called from several threads at once on
- * buffers of their own.
+ * BUFFERS. A buffer is a pointer and its length in bytes; it may stand at any address. A pointer is never null, also where the length is 0: there it may
+ * point to any object or behind its end, and nothing is read. What an entry only reads (const) may coincide with or overlap anything else that it only
+ * reads in that call, such as one frame lent as both copies. A buffer or a result that it writes overlaps nothing else of the call; what happens where it
+ * does is outside the promise. Nobody else writes a buffer, or reads one that is written, until the call returns. Entries may be called from several
+ * threads at once on buffers of their own.
  *
- * One cycle of a node, heard0, heard1 and arrived being 0 before it:
+ * NUMBERS. A set of nodes is a mask of 64 bits, bit q for node q; nodes are numbered from 0, and n is how many there are. Arguments and results are
+ * numbers of the host. In states, votes, frames and tables every number of several bytes stands highest byte first.
+ *
+ * A STATE is 24 bytes, which the host keeps from cycle to cycle and never changes itself; gm_state takes it apart, GM_STATE_AT_.. are the places:
+ *   byte 0        kind: GM_KIND_OUT, GM_KIND_JOINING or GM_KIND_MEMBER
+ *   byte 1        reason of a node that is out, GM_REASON_..; else 0
+ *   byte 2        the node's number, below n
+ *   byte 3        n, 2 to 64
+ *   bytes 4-7     group number of a member; else 0
+ *   bytes 8-15    set of a member: the present group, the node in it; else 0
+ *   bytes 16-23   base of a member: the present and the previous group together; else 0
+ *
+ * A VOTE is 28 bytes (GM_VOTE_AT_..): bytes 0-3 group number, 4-11 set, 12-19 base, 20-27 view, the nodes that its sender heard. The vote buffer has one
+ * for each of 64 nodes, that of node q at byte 28 q, and a mask `arrived` beside it.
+ *
+ * FRAMES are as ISO 17458-2 lays them out: 5 header bytes, the payload, 3 check bytes, which differ between the channels. The heartbeat of node q goes in
+ * slot q + 1 (GM_HEARTBEAT_SLOT) and has 10 bytes, one word of payload, of which bit 7 of the first byte is 1 for a node that is joining and all else 0.
+ * Its vote goes in slot q + 65 (GM_VOTE_SLOT) and has 36 bytes, the payload a vote. The slot is the frame number of the header. The cycle count is that
+ * of the bus, 0 to 63. A host may set sync and startup in heartbeats (startup only with sync); in votes both are 0.
+ *
+ * A TABLE is records, one behind the other, each beginning with GM_MARK_0, GM_MARK_1 and its kind:
+ *   GM_RECORD_START, first and only once, 12 bytes (GM_START_AT_..): byte 3 n, bytes 4-11 founding set
+ *   GM_RECORD_CYCLE, 36 bytes and its entries (GM_CYCLE_AT_..): bytes 3-10 stop, 11-18 start, 19-26 heartbeats lost in sending, 27-34 votes lost in
+ *   sending, byte 35 the count of entries, 0 to 128. An entry is 9 bytes: bit 7 of the first is 0 for heartbeats and 1 for votes (GM_ENTRY_VOTE), bit 6
+ *   is 0, bits 0-5 are the receiver; then the senders that it misses, not empty and without the receiver. First bytes ascend, and no two are equal.
+ *
+ * ONE CYCLE of a node, heard0, heard1 and arrived being 0 before it:
  *   1. gm_stop, gm_start where the host wants it
  *   2. gm_send_heartbeat for each channel; the host sends the frame if there is one
  *   3. gm_receive_heartbeat for every other node; GM_HEARD_MEMBER goes into heard0, GM_HEARD_JOINING into heard1
@@ -18,11 +47,23 @@
  *   5. gm_receive_vote for every other node, into the vote buffer, whatever stands in it, and `arrived`
  *   6. gm_decide, with the same heard0 and heard1
  * In 3 and 5 the nodes may come in any order, and the call for a node of which nothing came on both channels may be left out: its bit is then 0, which is
- * why the masks are 0 before the cycle. A node that is out, and neither stopped nor started, may make no calls at all, and one that is stopped and not
- * started none but gm_stop. One that lost its state, or its power, counts as stopped in that cycle: instead of gm_stop it comes back, in that cycle or a
- * later one, by gm_begin with a founding set that lacks it, which leaves what gm_stop leaves.
+ * why the masks are 0 before the cycle.
  *
- * gm_cycle, gm_run and gm_run_frames work on a row: the states of all n nodes, one after the other, node q at byte 24 q.
+ * DUTIES OF THE HOST. No call can see these, and agreement of the units is promised only where they are kept (SAFETY.md has them with their reasons):
+ *   - All units begin with the same n and the same founding set, each with a number of its own.
+ *   - Every call of a cycle is made, in the order above, and each answered GM_OK.
+ *   - gm_send_vote, on both channels, and gm_decide get the same heard0 and heard1: the decision makes the node's own vote from them again.
+ *   - No cycle is skipped: a unit that slept through one and goes on with its old state holds a state that the rules do not give. Only a node that is out,
+ *     and neither stopped nor started, may make no calls at all, and one that is stopped and not started none but gm_stop.
+ *   - A unit that lost its state, or its power, counts as stopped in that cycle. It comes back, in that cycle or a later one, by gm_begin, gm_stop and
+ *     gm_start, and never by gm_begin alone (gm_begin with a founding set that lacks the node leaves what gm_begin and gm_stop leave).
+ *   - gm_begin belongs to the beginning of the press. A founder that restarts by gm_begin alone takes itself for a member of the founding group, number 0.
+ *     Where those that do so are more than half of the founding set they can go on as a second group beside the one that runs: units hold different groups,
+ *     and no state and no frame shows it; fewer of them halt in that cycle for want of a quorum, unless the group that runs is still that first one.
+ *   - The cycle count that is passed is that of the bus cycle, and a frame is handed over in the cycle in which it came.
+ *   - From call to call nobody else writes a state or a row.
+ *
+ * gm_cycle, gm_run and gm_run_frames work on a row: the states of all n nodes, one after the other, node q at byte 24 q. They are for a test stand.
  */
 #ifndef GM_H
 #define GM_H
@@ -34,43 +75,100 @@
 extern "C" {
 #endif
 
+/* the version of header and archive */
+#define GM_VERSION_MAJOR 0U
+#define GM_VERSION_MINOR 2U
+#define GM_VERSION_PATCH 0U
+#define GM_VERSION "0.2.0"
+
+/* how many nodes there can be */
+#define GM_NODES_MIN 2U
+#define GM_NODES_MAX 64U
+
 /* sizes of buffers, in bytes */
-#define GM_STATE_BYTES 24
-#define GM_HEARTBEAT_BYTES 10
-#define GM_VOTE_FRAME_BYTES 36
-#define GM_VOTE_BYTES 28
-#define GM_VOTES_BYTES 1792
-#define GM_FRAMES_BYTES 9216
+#define GM_STATE_BYTES 24U
+#define GM_HEARTBEAT_BYTES 10U
+#define GM_VOTE_FRAME_BYTES 36U
+#define GM_VOTE_BYTES 28U
+#define GM_VOTES_BYTES 1792U
+#define GM_FRAMES_BYTES 9216U
+
+/* where the numbers of a state stand, how many bytes they have is said above; and the values of the first two */
+#define GM_STATE_AT_KIND 0U
+#define GM_STATE_AT_REASON 1U
+#define GM_STATE_AT_NODE 2U
+#define GM_STATE_AT_N 3U
+#define GM_STATE_AT_NUMBER 4U
+#define GM_STATE_AT_SET 8U
+#define GM_STATE_AT_BASE 16U
+#define GM_KIND_OUT 0U
+#define GM_KIND_JOINING 1U
+#define GM_KIND_MEMBER 2U
+#define GM_REASON_STOPPED 0U   /* stopped or never started; also of a node that is not out */
+#define GM_REASON_NO_QUORUM 1U /* halted: no view had a quorum */
+#define GM_REASON_OUTVOTED 2U  /* halted: another view than its own had one */
+
+/* where the numbers of a vote stand */
+#define GM_VOTE_AT_NUMBER 0U
+#define GM_VOTE_AT_SET 4U
+#define GM_VOTE_AT_BASE 12U
+#define GM_VOTE_AT_VIEW 20U
+
+/* slots on the bus: those of node 0, that of node q being q further */
+#define GM_HEARTBEAT_SLOT 1U
+#define GM_VOTE_SLOT 65U
 
 /* channels */
-#define GM_CHANNEL_A 0
-#define GM_CHANNEL_B 1
+#define GM_CHANNEL_A 0U
+#define GM_CHANNEL_B 1U
 
 /* what gm_receive_heartbeat hears */
-#define GM_MISSED 0
-#define GM_HEARD_MEMBER 1
-#define GM_HEARD_JOINING 2
+#define GM_MISSED 0U
+#define GM_HEARD_MEMBER 1U
+#define GM_HEARD_JOINING 2U
 
+/* records of a table: mark and kind, then where the parts of each stand */
+#define GM_MARK_0 0x47U
+#define GM_MARK_1 0x4DU
+#define GM_RECORD_AT_KIND 2U
+#define GM_RECORD_START 1U
+#define GM_RECORD_CYCLE 2U
+#define GM_START_AT_N 3U
+#define GM_START_AT_FOUNDING 4U
+#define GM_START_BYTES 12U
+#define GM_CYCLE_AT_STOP 3U
+#define GM_CYCLE_AT_START 11U
+#define GM_CYCLE_AT_HEARTBEAT_LOST 19U
+#define GM_CYCLE_AT_VOTE_LOST 27U
+#define GM_CYCLE_AT_COUNT 35U
+#define GM_CYCLE_AT_ENTRIES 36U
+#define GM_ENTRY_BYTES 9U
+#define GM_ENTRY_AT_MISSED 1U
+#define GM_ENTRY_VOTE 0x80U
+#define GM_ENTRIES_MAX 128U
+
+/* the status of a call that was accepted */
+#define GM_OK 0U
 /* refusals: of the caller's numbers and buffers */
-#define GM_REFUSED_COUNT 1      /* n outside 2 to 64 */
-#define GM_REFUSED_NUMBER 2     /* a node not below n, a cycle count above 63, a channel above 1; to be written: join, sync or startup above 1, startup without sync */
-#define GM_REFUSED_LENGTH 3     /* a buffer of another length than its entry names, or a row not of n states */
-#define GM_REFUSED_STATE 4      /* a state that is not well formed, or in a row a state q that is not node q of n */
+#define GM_REFUSED_COUNT 1U  /* n outside 2 to 64 */
+#define GM_REFUSED_NUMBER 2U /* a node not below n, a cycle count above 63, a channel above 1; to be written: join, sync or startup above 1, startup without sync */
+#define GM_REFUSED_LENGTH 3U /* a buffer of another length than its entry names, or a row not of n states */
+#define GM_REFUSED_STATE 4U  /* a state that is not well formed, or in a row a state q that is not node q of n */
 /* of a frame */
-#define GM_REFUSED_FRAME_LENGTH 5 /* fewer than 8 bytes, or not 8 plus twice the length field */
-#define GM_REFUSED_HEADER_CHECK 6
-#define GM_REFUSED_FRAME_CHECK 7
-#define GM_REFUSED_NULL_FRAME 8
-#define GM_REFUSED_NOT_DUE 9    /* another frame number, cycle count, payload length, indicator or reserved bit than due */
-#define GM_REFUSED_CONTENT 10   /* heartbeat bits that must be 0; a vote whose set or view lacks the sender, whose base lacks part of the set, or with a bit at n or above */
+#define GM_REFUSED_FRAME_LENGTH 5U /* fewer than 8 bytes, or not 8 plus twice the length field */
+#define GM_REFUSED_HEADER_CHECK 6U
+#define GM_REFUSED_FRAME_CHECK 7U
+#define GM_REFUSED_NULL_FRAME 8U
+#define GM_REFUSED_NOT_DUE 9U  /* another frame number, cycle count, payload length, indicator or reserved bit than due */
+#define GM_REFUSED_CONTENT 10U /* heartbeat bits that must be 0; a vote whose set or view lacks the sender, whose base lacks part of the set, or with a bit at n or above */
 /* of a table or a record of it */
-#define GM_REFUSED_CUT 11       /* it ends inside a record, or is empty */
-#define GM_REFUSED_KIND 12      /* a wrong mark or kind, a first record not of kind 1, a later one of kind 1 */
-#define GM_REFUSED_LIMIT 13     /* a founding set that is empty or has a bit at n or above; in a record, any bit, receiver, count or entry beyond its limit; a cycle after number 4294967295 */
+#define GM_REFUSED_CUT 11U   /* it ends inside a record, or is empty */
+#define GM_REFUSED_KIND 12U  /* a wrong mark or kind, a first record not of kind 1, a later one of kind 1 */
+#define GM_REFUSED_LIMIT 13U /* a founding set that is empty or has a bit at n or above; in a record, any bit, receiver, count or entry beyond its limit; a cycle after number 4294967295 */
 
 /* no entry on one node, and none on a row, uses more stack, in bytes: 2216 and 30344 as measured (make stack), with some to spare */
-#define GM_STACK_BYTES 2560
-#define GM_ROW_STACK_BYTES 40960
+#define GM_STACK_BYTES 2560U
+#define GM_ROW_STACK_BYTES 40960U
 
 /*
  * Puts node `node` of `n` at the beginning, for the founding set `founding`: a member with group number 0 if it is in the set, else out.
@@ -87,6 +185,13 @@ uint32_t gm_stop(uint8_t *state, size_t state_len);
  * Starts the node: a node that is out becomes joining, others do not change. state: GM_STATE_BYTES. Refusals: LENGTH, STATE.
  */
 uint32_t gm_start(uint8_t *state, size_t state_len);
+
+/*
+ * Takes a state apart: *kind is GM_KIND_.., *reason GM_REASON_.. (of a node that is out, else 0), *node and *n the node's number and how many there are,
+ * *number, *set and *base those of a member, else 0. state: GM_STATE_BYTES. Refusals: LENGTH, STATE.
+ */
+uint32_t gm_state(const uint8_t *state, size_t state_len, uint32_t *kind, uint32_t *reason, uint32_t *node, uint32_t *n, uint32_t *number,
+                  uint64_t *set, uint64_t *base);
 
 /*
  * Writes the heartbeat of a node from numbers. frame: GM_HEARTBEAT_BYTES. Refusals: COUNT, NUMBER, LENGTH.

@@ -1,6 +1,7 @@
 #!/usr/bin/env bash
-# Whether the header and the archive agree: every entry declared once and exported, each called from C and known to whoever has to know all entries, nothing
-# undefined but what is named here, no writable data, and no deeper stack than the header says. Usage: archive.sh ARCHIVE BUILD-FOLDER
+# Whether the headers and the archive agree: every entry declared once and exported, each called from C and known to whoever has to know all entries, the
+# places and values that the headers name those of the archive, nothing undefined but what is named here, no writable data, and no deeper stack than the
+# header says. Usage: archive.sh ARCHIVE BUILD-FOLDER
 set -euo pipefail
 archive=$1 build=$2
 mkdir -p "$build"
@@ -25,6 +26,14 @@ for entry in $declared; do
     knows tests/host/src/bin/compare.rs "\.$name\("
 done
 
+# a constant that is a number is unsigned, as statuses are; and the version is the Makefile's
+signed=$(grep -E '^#define GM_[A-Z0-9_]+ [0-9]' include/gm.h | grep -vE ' (0x)?[0-9A-F]+U( |$)' || true)
+[ -z "$signed" ] || fail "a constant is not unsigned: $signed"
+constant() { awk -v name="$1" '$2 == name { gsub(/["U]/, "", $3); print $3 }' include/gm.h; }
+version=$(sed -n 's/^VERSION = //p' Makefile)
+[ "$(constant GM_VERSION)" = "$version" ] || fail "include/gm.h is of version $(constant GM_VERSION), the Makefile of $version"
+[ "$(constant GM_VERSION_MAJOR).$(constant GM_VERSION_MINOR).$(constant GM_VERSION_PATCH)" = "$version" ] || fail "the parts of the version in include/gm.h are not $version"
+
 # what the compiler calls by itself
 needed=$(nm -u "$archive" | awk '$1 == "U" { print $2 }' | sort -u | tr '\n' ' ')
 for symbol in $needed; do
@@ -37,13 +46,15 @@ cc=(gcc -std=c99 -Wall -Wextra -Werror -pedantic -O2 -Iinclude)
 "${cc[@]}" tests/entries.c "$archive" -o "$build/entries"
 called=$("$build/entries")
 [ "$called" = "$(wc -l <<<"$declared")" ] || fail "$called entries called"
-printf '#include "gm.h"\nint main() { uint8_t s[1] = {0}; return gm_stop(s, sizeof s) == GM_REFUSED_LENGTH ? 0 : 1; }\n' >"$build/cpp.cc"
+"${cc[@]}" -Wconversion tests/layout.c "$archive" -o "$build/layout"
+statuses=$("$build/layout")
+[ "$statuses" = $((1 + $(grep -cE '^#define GM_REFUSED_' include/gm.h))) ] || fail "$statuses statuses have a sentence"
+printf '#include "gm_refusal.h"\nint main() { uint8_t s[1] = {0}; return gm_refusal_text(gm_stop(s, sizeof s)) == gm_refusal_text(GM_REFUSED_LENGTH) ? 0 : 1; }\n' >"$build/cpp.cc"
 g++ -Wall -Wextra -Werror -pedantic -Iinclude "$build/cpp.cc" "$archive" -o "$build/cpp"
 "$build/cpp" || fail "the C++ caller got another answer"
 
 gcc -std=gnu99 -Wall -Wextra -Werror -O2 -Iinclude tests/stack.c "$archive" -pthread -o "$build/stack"
 read -r node row <<<"$("$build/stack")"
-stated() { awk -v name="$1" '$2 == name { print $3 }' include/gm.h; }
-[ "$node" -le "$(stated GM_STACK_BYTES)" ] || fail "an entry on a node used $node bytes of stack, more than the header says"
-[ "$row" -le "$(stated GM_ROW_STACK_BYTES)" ] || fail "an entry on a row used $row bytes of stack, more than the header says"
-echo "archive: $called entries, needs ${needed:-nothing}, no writable data, deepest stack $node bytes on a node, $row on a row"
+[ "$node" -le "$(constant GM_STACK_BYTES)" ] || fail "an entry on a node used $node bytes of stack, more than the header says"
+[ "$row" -le "$(constant GM_ROW_STACK_BYTES)" ] || fail "an entry on a row used $row bytes of stack, more than the header says"
+echo "archive: $called entries, $statuses statuses with a sentence, version $version, needs ${needed:-nothing}, no writable data, deepest stack $node bytes on a node, $row on a row"

@@ -1,0 +1,165 @@
+/*
+ * Whether the places, slots and values that gm.h and gm_refusal.h name are those of the archive: what is put together by hand from the constants must be
+ * what the entries read and write. Prints how many statuses have a sentence of their own.
+ */
+#include "gm.h"
+#include "gm_refusal.h"
+
+#include <stdio.h>
+#include <stdlib.h>
+#include <string.h>
+
+static void hold(int fact, const char *what)
+{
+    if (!fact) {
+        fprintf(stderr, "tests/layout: %s\n", what);
+        exit(1);
+    }
+}
+
+static void put(uint8_t *s, size_t bytes, uint64_t number)
+{
+    while (bytes-- > 0) {
+        s[bytes] = (uint8_t)number;
+        number >>= 8;
+    }
+}
+
+/* a member of nine, every number of which is another, put together byte by byte */
+static void member(uint8_t *state)
+{
+    memset(state, 0, GM_STATE_BYTES);
+    state[GM_STATE_AT_KIND] = GM_KIND_MEMBER;
+    state[GM_STATE_AT_NODE] = 3;
+    state[GM_STATE_AT_N] = 9;
+    put(state + GM_STATE_AT_NUMBER, 4, 0x01020304);
+    put(state + GM_STATE_AT_SET, 8, 0x0F8);
+    put(state + GM_STATE_AT_BASE, 8, 0x1F9);
+}
+
+static void states(void)
+{
+    uint8_t state[GM_STATE_BYTES];
+    uint32_t kind = 9, reason = 9, node = 9, n = 9, number = 9;
+    uint64_t set = 9, base = 9;
+    member(state);
+    hold(gm_state(state, sizeof state, &kind, &reason, &node, &n, &number, &set, &base) == GM_OK, "a member is refused");
+    hold(kind == GM_KIND_MEMBER && reason == GM_REASON_STOPPED && node == 3 && n == 9, "kind, reason, node or n stands elsewhere");
+    hold(number == 0x01020304 && set == 0x0F8 && base == 0x1F9, "number, set or base stands elsewhere");
+}
+
+/* what becomes of the member above when nobody is heard, and of a founder of three whose two others vote for a view without it */
+static void reasons(void)
+{
+    uint8_t state[GM_STATE_BYTES], votes[GM_VOTES_BYTES] = {0};
+    member(state);
+    hold(gm_decide(state, sizeof state, 0, 0, votes, sizeof votes, 0) == GM_OK && state[GM_STATE_AT_KIND] == GM_KIND_OUT, "a lonely member does not halt");
+    hold(state[GM_STATE_AT_REASON] == GM_REASON_NO_QUORUM, "its reason is another");
+    gm_begin(3, 0, 7, state, sizeof state);
+    for (size_t q = 1; q < 3; q++) {
+        put(votes + q * GM_VOTE_BYTES + GM_VOTE_AT_SET, 8, 7);
+        put(votes + q * GM_VOTE_BYTES + GM_VOTE_AT_BASE, 8, 7);
+        put(votes + q * GM_VOTE_BYTES + GM_VOTE_AT_VIEW, 8, 6);
+    }
+    hold(gm_decide(state, sizeof state, 6, 0, votes, sizeof votes, 6) == GM_OK && state[GM_STATE_AT_REASON] == GM_REASON_OUTVOTED, "nobody is outvoted");
+    hold(gm_start(state, sizeof state) == GM_OK && state[GM_STATE_AT_KIND] == GM_KIND_JOINING, "a start does not make it joining");
+    hold(gm_stop(state, sizeof state) == GM_OK && state[GM_STATE_AT_REASON] == GM_REASON_STOPPED, "a stop leaves a reason");
+}
+
+/* the frame number of a frame: the 11 bits behind the five indicators */
+static uint32_t slot_of(const uint8_t *frame)
+{
+    return (frame[0] & 7U) << 8 | frame[1];
+}
+
+static void frames(void)
+{
+    uint8_t beat[GM_HEARTBEAT_BYTES], frame[GM_VOTE_FRAME_BYTES], vote[GM_VOTE_BYTES], due[GM_VOTE_BYTES];
+    hold(gm_write_heartbeat(9, 3, 1, 0, 0, 5, GM_CHANNEL_A, beat, sizeof beat) == GM_OK, "a heartbeat is refused");
+    hold(slot_of(beat) == GM_HEARTBEAT_SLOT + 3U, "a heartbeat has another slot");
+    hold(gm_write_vote(9, 3, 0x01020304, 0x0F8, 0x1F9, 0x01C, 5, GM_CHANNEL_B, frame, sizeof frame) == GM_OK, "a vote is refused");
+    hold(slot_of(frame) == GM_VOTE_SLOT + 3U, "a vote has another slot");
+    hold(gm_read_vote(9, 3, 5, GM_CHANNEL_B, frame, sizeof frame, vote, sizeof vote) == GM_OK, "a vote is not read");
+    put(due + GM_VOTE_AT_NUMBER, 4, 0x01020304);
+    put(due + GM_VOTE_AT_SET, 8, 0x0F8);
+    put(due + GM_VOTE_AT_BASE, 8, 0x1F9);
+    put(due + GM_VOTE_AT_VIEW, 8, 0x01C);
+    hold(memcmp(vote, due, sizeof vote) == 0, "the numbers of a vote stand elsewhere");
+}
+
+/* one copy lent for both channels is what two buffers with its bytes are, and where the length is 0 the pointer may stand behind an object */
+static void coinciding(void)
+{
+    uint8_t beat[GM_HEARTBEAT_BYTES], frame[GM_VOTE_FRAME_BYTES], again[GM_VOTE_FRAME_BYTES], votes[2][GM_VOTES_BYTES];
+    uint32_t heard = GM_MISSED;
+    uint64_t arrived[2] = {0, 0};
+    memset(votes, 0, sizeof votes);
+    gm_write_heartbeat(9, 3, 0, 0, 0, 5, GM_CHANNEL_B, beat, sizeof beat);
+    hold(gm_receive_heartbeat(9, 3, 5, beat, sizeof beat, beat, sizeof beat, &heard) == GM_OK && heard == GM_HEARD_MEMBER, "one copy lent twice is not heard");
+    hold(gm_receive_heartbeat(9, 3, 5, beat + sizeof beat, 0, beat, sizeof beat, &heard) == GM_OK && heard == GM_HEARD_MEMBER, "no copy on A is not taken so");
+    hold(gm_receive_heartbeat(9, 3, 5, beat + sizeof beat, 0, beat + sizeof beat, 0, &heard) == GM_OK && heard == GM_MISSED, "no copy is heard");
+    gm_write_vote(9, 3, 1, 0x0F8, 0x1F9, 0x01C, 5, GM_CHANNEL_A, frame, sizeof frame);
+    memcpy(again, frame, sizeof again);
+    gm_receive_vote(9, 3, 5, frame, sizeof frame, frame, sizeof frame, votes[0], sizeof votes[0], &arrived[0]);
+    gm_receive_vote(9, 3, 5, frame, sizeof frame, again, sizeof again, votes[1], sizeof votes[1], &arrived[1]);
+    hold(arrived[0] == 8 && arrived[0] == arrived[1] && memcmp(votes[0], votes[1], sizeof votes[0]) == 0, "one vote lent twice is another vote");
+}
+
+/* the kind of unit 1 after the table's cycle, its record being without entries */
+static uint32_t ran(uint8_t *row, const uint8_t *table)
+{
+    hold(gm_run(row, 3 * GM_STATE_BYTES, table, GM_START_BYTES + GM_CYCLE_AT_ENTRIES) == GM_OK, "the table without its entry is refused");
+    return row[GM_STATE_BYTES + GM_STATE_AT_KIND];
+}
+
+/* three units of a table put together from the constants: unit 2 is stopped and started, and unit 1 misses the vote of unit 0 */
+static void tables(void)
+{
+    uint8_t table[GM_START_BYTES + GM_CYCLE_AT_ENTRIES + GM_ENTRY_BYTES] = {GM_MARK_0, GM_MARK_1}, row[3 * GM_STATE_BYTES] = {0};
+    uint8_t *cycle = table + GM_START_BYTES, *entry = cycle + GM_CYCLE_AT_ENTRIES;
+    table[GM_RECORD_AT_KIND] = GM_RECORD_START;
+    table[GM_START_AT_N] = 3;
+    put(table + GM_START_AT_FOUNDING, 8, 7);
+    memcpy(cycle, table, GM_RECORD_AT_KIND);
+    cycle[GM_RECORD_AT_KIND] = GM_RECORD_CYCLE;
+    put(cycle + GM_CYCLE_AT_STOP, 8, 4);
+    put(cycle + GM_CYCLE_AT_START, 8, 4);
+    cycle[GM_CYCLE_AT_COUNT] = 1;
+    entry[0] = GM_ENTRY_VOTE | 1U;
+    put(entry + GM_ENTRY_AT_MISSED, 8, 1);
+    hold(gm_run(row, sizeof row, table, sizeof table) == GM_OK, "the table is refused");
+    hold(row[GM_STATE_AT_KIND] == GM_KIND_MEMBER && row[GM_STATE_AT_SET + 7] == 3, "unit 0 holds another group");
+    hold(row[GM_STATE_BYTES + GM_STATE_AT_REASON] == GM_REASON_NO_QUORUM, "unit 1, which counts one vote of three, does not halt");
+    hold(row[2 * GM_STATE_BYTES + GM_STATE_AT_KIND] == GM_KIND_JOINING, "unit 2 is not joining");
+    cycle[GM_CYCLE_AT_COUNT] = 0;
+    hold(ran(row, table) == GM_KIND_MEMBER, "unit 1 halts though it misses nothing");
+    put(cycle + GM_CYCLE_AT_VOTE_LOST, 8, 1);
+    hold(ran(row, table) == GM_KIND_OUT, "a vote of unit 0 that is lost reaches unit 1");
+    put(cycle + GM_CYCLE_AT_VOTE_LOST, 8, 0);
+    put(cycle + GM_CYCLE_AT_HEARTBEAT_LOST, 8, 1);
+    hold(ran(row, table) == GM_KIND_OUT, "a heartbeat of unit 0 that is lost reaches unit 1");
+}
+
+/* every status up to the last has a sentence of its own, and no other number has one */
+static void sentences(void)
+{
+    for (uint32_t status = GM_OK; status <= GM_REFUSED_LIMIT; status++) {
+        const char *text = gm_refusal_text(status);
+        hold(text[0] >= 'A' && text[0] <= 'Z' && text[strlen(text) - 1] == '.', "a status has no sentence");
+        for (uint32_t other = status + 1; other <= GM_REFUSED_LIMIT + 1U; other++)
+            hold(strcmp(text, gm_refusal_text(other)) != 0, "two statuses have one sentence");
+    }
+    hold(strcmp(gm_refusal_text(GM_REFUSED_LIMIT + 1U), gm_refusal_text(UINT32_MAX)) == 0, "a number that no entry answers has a sentence of its own");
+}
+
+int main(void)
+{
+    states();
+    reasons();
+    frames();
+    coinciding();
+    tables();
+    sentences();
+    printf("%u\n", (unsigned)(GM_REFUSED_LIMIT + 1U));
+    return 0;
+}
