@@ -1,6 +1,6 @@
 # The commands of this repository. They need the Rattle kit's `rt` on the path, and gcc and g++ for the C side.
-# The version of the library stands here alone.
-VERSION = 0.1.0
+# The version of the delivery; include/gm.h says it again, and tests/archive.sh holds the two equal.
+VERSION = 0.2.0
 PREFIX = /usr/local
 ARCHIVE = target/staticlib/libgm.a
 GROUPRUN = target/bin/grouprun
@@ -18,14 +18,17 @@ ENTRIES = $(notdir $(wildcard crates/entry_*))
 # so many crates and edits at a time, each up to 1 GB: more than there are cores, so that none of these waits for the slowest of a few
 export RT_JOBS ?= 6
 
-# what `make install` places, and where below PREFIX; of the documents only those that the header and the manual pages send a reader to
+# what `make install` places, and where below PREFIX; of the documents those that the header and the manual pages send a reader to, and what these link to
 PROGRAMS = $(GROUPRUN) $(TABLETEXT)
+HEADERS = $(wildcard include/*.h)
 MANUALS = man/grouprun.1 man/tabletext.1
-DOCUMENTS = docs/CLAIMS.md docs/DECISIONS.md
+LIBRARY_MANUALS = man/gm.3
+PACKAGES = lib/pkgconfig/gm.pc lib/cmake/gm/gm-config.cmake lib/cmake/gm/gm-config-version.cmake
+DOCUMENTS = CHANGELOG.md $(addprefix docs/,CLAIMS.md DECISIONS.md DEMANDS.md LIMITS.md SAFETY.md)
 EXAMPLES = examples/host.c examples/host.out $(wildcard examples/p*)
 below = $(addprefix $(1)/,$(notdir $(2)))
-INSTALLED = $(call below,bin,$(PROGRAMS)) lib/libgm.a lib/pkgconfig/gm.pc include/gm.h $(call below,share/man/man1,$(MANUALS)) \
-    $(call below,share/doc/gm,$(DOCUMENTS)) $(call below,share/doc/gm/examples,$(EXAMPLES))
+INSTALLED = $(call below,bin,$(PROGRAMS)) lib/libgm.a $(HEADERS) $(PACKAGES) $(call below,share/man/man1,$(MANUALS)) \
+    $(call below,share/man/man3,$(LIBRARY_MANUALS)) $(call below,share/doc/gm,$(DOCUMENTS)) $(call below,share/doc/gm/examples,$(EXAMPLES))
 TO = $(DESTDIR)$(PREFIX)
 
 .PHONY: run test host archive compare bench stack format edits install uninstall load load-test load-full load-program load-archive
@@ -160,17 +163,18 @@ install: $(PROGRAMS) $(ARCHIVE)
 	@case "$(PREFIX)" in /*) ;; *) echo "PREFIX is '$(PREFIX)', not an absolute path" >&2; exit 1 ;; esac
 	install -D -m 755 -t "$(TO)/bin" $(PROGRAMS)
 	install -D -m 644 -t "$(TO)/lib" $(ARCHIVE)
-	install -D -m 644 -t "$(TO)/include" include/gm.h
+	install -D -m 644 -t "$(TO)/include" $(HEADERS)
 	install -D -m 644 -t "$(TO)/share/man/man1" $(MANUALS)
+	install -D -m 644 -t "$(TO)/share/man/man3" $(LIBRARY_MANUALS)
 	install -D -m 644 -t "$(TO)/share/doc/gm" $(DOCUMENTS)
 	install -D -m 644 -t "$(TO)/share/doc/gm/examples" $(EXAMPLES)
-	install -D -m 644 gm.pc.in "$(TO)/lib/pkgconfig/gm.pc"
-	sed -i -e 's|@PREFIX@|$(PREFIX)|' -e 's|@VERSION@|$(VERSION)|' "$(TO)/lib/pkgconfig/gm.pc"
+	for file in $(PACKAGES); do install -D -m 644 "packages/$${file##*/}.in" "$(TO)/$$file" && \
+	    sed -i -e 's|@PREFIX@|$(PREFIX)|' -e 's|@VERSION@|$(VERSION)|' "$(TO)/$$file" || exit 1; done
 
-# the files that install places and the two folders that are its own; folders that others share stay
+# the files that install places and the folders that are its own; folders that others share stay
 uninstall:
 	rm -f $(foreach file,$(INSTALLED),"$(TO)/$(file)")
-	for folder in share/doc/gm/examples share/doc/gm; do \
+	for folder in share/doc/gm/examples share/doc/gm lib/cmake/gm; do \
 	    [ ! -d "$(TO)/$$folder" ] || rmdir --ignore-fail-on-non-empty "$(TO)/$$folder"; done
 
 # an installation is whole, is enough for a host, and goes away again

@@ -13,8 +13,9 @@ files() { (cd "$1" && find . ! -type d -printf '%m %P\n' | sort -k 2); }
 
 expected() {
     printf '755 bin/%s\n' grouprun tabletext
-    printf '644 %s\n' include/gm.h lib/libgm.a lib/pkgconfig/gm.pc share/man/man1/{grouprun,tabletext}.1
-    printf '644 share/doc/gm/%s\n' CLAIMS.md DECISIONS.md examples/host.{c,out} examples/p{1,2,3,4,5,6,7,8,9,10}.{out,txt}
+    printf '644 %s\n' include/gm{,_refusal}.h lib/libgm.a lib/pkgconfig/gm.pc lib/cmake/gm/gm-config{,-version}.cmake
+    printf '644 share/man/%s\n' man1/{grouprun,tabletext}.1 man3/gm.3
+    printf '644 share/doc/gm/%s\n' {CHANGELOG,CLAIMS,DECISIONS,DEMANDS,LIMITS,SAFETY}.md examples/host.{c,out} examples/p{1,2,3,4,5,6,7,8,9,10}.{out,txt}
 }
 
 # the same files with and without DESTDIR, which stands in none of them
@@ -50,6 +51,23 @@ check_pkg_config() {
     tried+=("gm.pc")
 }
 
+# a project of its own that finds the library by its CMake files, in this version and in no later one
+check_cmake() {
+    command -v cmake >/dev/null || { tried+=("CMake files NOT TRIED, since cmake is not installed"); return; }
+    local version log=$work/cmake.log
+    version=$(sed -n 's/^VERSION = //p' Makefile)
+    mkdir -p "$work/project"
+    cp "$prefix/share/doc/gm/examples/host.c" "$work/project"
+    printf '%s\n' 'cmake_minimum_required(VERSION 3.13)' 'project(host C)' 'find_package(gm ${WANTED} CONFIG REQUIRED)' 'add_executable(host host.c)' \
+        'target_link_libraries(host gm::gm)' >"$work/project/CMakeLists.txt"
+    cmake -S "$work/project" -B "$work/cmake" -DCMAKE_PREFIX_PATH="$prefix" -DWANTED="${version%.*}" >"$log" 2>&1 || fail "CMake: $(<"$log")"
+    cmake --build "$work/cmake" >"$log" 2>&1 || fail "CMake's build: $(<"$log")"
+    "$work/cmake/host" | cmp - examples/host.out || fail "the host that CMake builds prints another run"
+    ! cmake -S "$work/project" -B "$work/later" -DCMAKE_PREFIX_PATH="$prefix" -DWANTED="${version%.*}.99" >"$log" 2>&1 || fail "a later version is found"
+    grep -q "version: $version" "$log" || fail "CMake refuses a later version for another reason: $(<"$log")"
+    tried+=("CMake files")
+}
+
 check_run() {
     "$prefix/bin/tabletext" table <examples/p1.txt | "$prefix/bin/grouprun" | cmp - examples/p1.out || fail "grouprun prints another run"
     tried+=("a table")
@@ -58,22 +76,50 @@ check_run() {
 check_manuals() {
     local page warnings
     command -v groff >/dev/null || { tried+=("manual pages NOT TRIED, since groff is not installed"); return; }
-    for page in grouprun tabletext; do
-        warnings=$(groff -man -Tascii -P-c -ww "$prefix/share/man/man1/$page.1" 2>&1 >"$work/page") || fail "$page.1: $warnings"
-        [ -z "$warnings" ] || fail "$page.1: $warnings"
-        grep -q "^ *$page - " "$work/page" || fail "$page.1 does not name its program"
+    for page in grouprun.1 tabletext.1 gm.3; do
+        warnings=$(groff -man -Tascii -P-c -ww "$prefix/share/man/man${page#*.}/$page" 2>&1 >"$work/page") || fail "$page: $warnings"
+        [ -z "$warnings" ] || fail "$page: $warnings"
+        grep -q "^ *${page%.*} - " "$work/page" || fail "$page does not say what it is about"
     done
     tried+=("manual pages")
+}
+
+# "DECLARATION" and "ENTRY REFUSALS" of every entry, a line each: by the header, where both stand together, and by the library's page
+of_header() {
+    awk '
+        /^ \* / { if (match($0, /Refusals: /)) refusals = substr($0, RSTART + 10) }
+        /^uint32_t gm_/ { declaration = "" }
+        /^uint32_t gm_/, /;$/ { sub(/^ +/, ""); declaration = declaration (declaration == "" ? "" : " ") $0
+            if (/;$/) { print declaration; match(declaration, /gm_[a-z_]+/); print substr(declaration, RSTART, RLENGTH), refusals } }' include/gm.h
+}
+of_page() {
+    awk '
+        /^uint32_t gm_/, /;$/ { sub(/^ +/, ""); declaration = declaration (declaration == "" ? "" : " ") $0; if (/;$/) { print declaration; declaration = "" } }
+        /^\.BR gm_[a-z_]+ \(\)$/ { entry = $2 }
+        sub(/^Refusals: /, "") { print entry, $0 }' man/gm.3
+}
+check_library_page() {
+    diff <(of_header | sort) <(of_page | sort) || fail "include/gm.h (<) and man/gm.3 (>) say another thing of an entry"
+}
+
+# a document that is installed links only to what is installed
+check_links() {
+    local folder=$prefix/share/doc/gm document target
+    for document in "$folder"/*.md; do
+        while read -r target; do
+            [ -z "$target" ] || [ -e "$folder/$target" ] || fail "${document##*/} links to $target, which is not installed"
+        done < <(grep -oE '\]\([^)#]+' "$document" | sed 's/^](//')
+    done
 }
 
 # what others placed beside it stays, and nothing else
 check_uninstall() {
     local folder
-    for folder in bin lib/pkgconfig share/man/man1 share/doc/gm/examples; do
+    for folder in bin lib/pkgconfig lib/cmake/gm share/man/man1 share/doc/gm/examples; do
         echo other >"$prefix/$folder/other"
     done
     quiet_make uninstall PREFIX="$prefix" DESTDIR= >"$work/log" || fail "make uninstall failed"
-    [ "$(files "$prefix" | grep -c '/other$')" -eq 4 ] || fail "uninstall takes a file of others"
+    [ "$(files "$prefix" | grep -c '/other$')" -eq 5 ] || fail "uninstall takes a file of others"
     ! files "$prefix" | grep -v '/other$' || fail "uninstall leaves these files"
     quiet_make uninstall PREFIX="$prefix" DESTDIR="$stage" >"$work/log" || fail "make uninstall with DESTDIR failed"
     [ -z "$(files "$stage")" ] || fail "uninstall with DESTDIR leaves files"
@@ -84,8 +130,11 @@ check_uninstall() {
 check_files
 check_host
 check_pkg_config
+check_cmake
 check_run
 check_manuals
+check_library_page
+check_links
 check_uninstall
 printf -v list '; %s' "${tried[@]}"
 echo "tests/install: $(expected | wc -l) files come and go; tried: ${list#; }"
