@@ -148,10 +148,11 @@ stack: archive
 format:
 	rt fmt --check
 
-# docs/TRACE.md names what is there, and every wrong edit, and each of these names what refuses it; what is listed by hand is whole
+# docs/TRACE.md names what is there, and every wrong edit, and each of these names what refuses it; docs/DEMANDS.md quotes what is there; what is listed by hand is whole
 trace-test:
 	@tests/trace.sh
 	@tests/lists.sh
+	@tests/demands.sh
 
 # each wrong edit was refused first by the law or contract that it names. It reads the logs that `make test` or `rt must-fail` left and proves nothing; no part of
 # `test`, whose last command is `rt ci`: that makes these logs, and its last line is the gate's
