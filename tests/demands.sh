@@ -15,8 +15,11 @@ complain() { echo "tests/demands: $*" >&2; wrong=$((wrong + 1)); }
 part() { # inside|outside
     awk -v want="$1" '/^```/ { inside = !inside; next } inside == (want == "inside")' "$page"
 }
-in_backticks() { part outside | grep -o '`[^`]*`' | tr -d '`'; }
+form='^([a-z_0-9]+/(specs|proofs)/[^ ]+\.antt: [^ ]+|[a-z_0-9]+::[a-z_0-9]+|[a-z]+[a-z_0-9]*/[^ :]+)$'
+in_backticks() { grep -o '`[^`]*`' | tr -d '`'; }
 words() { sed -E 's#(--|//) .*##' | tr -s ' (){};,' '\n' | sed -E 's/^\.|\.$//g; /^$/d' | sort -u; }
+# what the readings speak of: names that are only cited explain nothing
+explained() { part outside | sed -n '/^## The symbols/,$p' | in_backticks | grep -vE "$form" | words; }
 
 quoted() { # LINE FILE TEXT: the text is whole lines of the file, one after the other
     formulas=$((formulas + 1))
@@ -35,7 +38,7 @@ while IFS= read -r line; do
     esac
 done <"$page"
 [ "$formulas" -gt 0 ] || complain "no formula is quoted"
-while read -r word; do complain "'$word' stands in a formula, and the text does not speak of it"; done < <(comm -23 <(part inside | words) <(in_backticks | words))
+while read -r word; do complain "'$word' stands in a formula, and the text does not speak of it"; done < <(comm -23 <(part inside | words) <(explained))
 
 # ---- names
 
@@ -49,8 +52,7 @@ is_there() { # NAME, in one of the page's forms
         *) [ -e "$1" ] || [ -f "crates/${1%%/*}/must-fail/${1#*/}.edit" ] ;;
     esac
 }
-form='^([a-z_0-9]+/(specs|proofs)/[^ ]+\.antt: [^ ]+|[a-z_0-9]+::[a-z_0-9]+|[a-z]+[a-z_0-9]*/[^ :]+)$'
-names=$(in_backticks | grep -E "$form" | grep -vE '^crates?(/(specs|proofs)/File\.antt: name|::name|/edit|s/crate/must-fail/edit\.edit)$' | sort -u)
+names=$(part outside | in_backticks | grep -E "$form" | grep -vE '^crates?(/(specs|proofs)/File\.antt: name|::name|/edit|s/crate/must-fail/edit\.edit)$' | sort -u)
 while read -r name; do is_there "$name" || complain "\`$name\` is not there"; done <<<"$names"
 
 # ---- clauses
