@@ -70,6 +70,8 @@ clauses() {
         END { if (!rows) print NR, "no clause" }' "$page"
 }
 while read -r at what; do complain "line $at: $what"; done < <(clauses)
+while read -r span; do complain "\`$span\` is cited, and is no name of a known form"; done < <(
+    awk -F '|' '/^\| clause / { table = 1 } !/^\|/ { table = 0 } table { print $4, $5 }' "$page" | in_backticks | grep -vE "$form")
 for entry in $(sed -nE 's/^uint32_t (gm_[a-z_]+)\(.*/\1/p' include/gm.h); do
     grep -qx "gm::$entry" <<<"$names" || complain "the entry $entry is not named"
 done
