@@ -70,9 +70,9 @@ $(GROUPRUN): $(SOURCES)
 	rt check grouprun
 
 # tables as readable text, and back
-$(TABLETEXT): tools/tabletext.c
+$(TABLETEXT): tools/tabletext.c Makefile
 	@mkdir -p $(BUILD)
-	@$(C99) $< -o $@
+	@$(C99) -DVERSION='"$(VERSION)"' $< -o $@
 
 $(TABLEGEN): bench/table.c
 	@mkdir -p $(BUILD)

@@ -1,91 +1,269 @@
 #!/usr/bin/env bash
-# Whether texts and tables turn into each other and back, and every error is named with its place. Usage: text.sh TABLETEXT BUILD-FOLDER
+# Whether texts and tables turn into each other and back, and every error is named with its place; the same again in a build with the compiler's sanitizers.
+# Usage: text.sh TABLETEXT BUILD-FOLDER
 set -euo pipefail
-tool=$1 build=$2 here=$(dirname "$0")
+built=$1 build=$2 here=$(dirname "$0")
+version=$(sed -n 's/^VERSION = //p' "$here/../Makefile")
+checked=$build/tabletext.checked
 mkdir -p "$build"
-out=$build/text.result message=$build/text.message
-fail() { rm -f "$out" "$message" "$build/text.input"
-echo "tests/text: $*" >&2; exit 1; }
+out=$build/text.result message=$build/text.message input=$build/text.input
+trap 'rm -f "$out" "$message" "$input"' EXIT
+fail() { echo "tests/text: ${tool##*/}: $*" >&2; exit 1; }
 
-# an error has status 1, one line that begins as named, and no output
-errs() { # NAME BEGINNING DIRECTION
+# an error has status 1, the message that is named and no output
+errs() { # NAME MESSAGE ARGUMENT..
     local status=0
-    "$tool" "$3" >"$out" 2>"$message" || status=$?
+    "$tool" "${@:3}" >"$out" 2>"$message" || status=$?
     [ "$status" -eq 1 ] || fail "$1: status $status"
     [ ! -s "$out" ] || fail "$1: an error, and yet output"
-    [ "$(wc -l <"$message")" -eq 1 ] || fail "$1: not one line of error"
-    [[ $(<"$message") == "$2"* ]] || fail "$1: '$(<"$message")' instead of '$2'"
+    [ "$(<"$message")" = "tabletext: $2" ] || fail "$1: '$(<"$message")' instead of 'tabletext: $2'"
+}
+wrong() { # MESSAGE TEXT
+    printf "$2" >"$input"
+    errs "'$2'" "$1" table <"$input"
+    errors=$((errors + 1))
+}
+refused() { # MESSAGE TABLE
+    printf "$2" >"$input"
+    errs "'$2'" "$1" text <"$input"
+    errors=$((errors + 1))
+}
+# the text gives a table whose text is the other
+becomes() { # OTHER TEXT
+    printf "$2" | "$tool" table | "$tool" text >"$out"
+    printf "$1" | cmp -s - "$out" || fail "'$2' comes back as another text: $(<"$out")"
+}
+
+examples_come_back() {
+    local text
+    texts=0
+    for text in "$here"/../examples/p*.txt; do
+        "$tool" table <"$text" | "$tool" text >"$out"
+        grep -v '^#' "$text" | cmp -s - "$out" || fail "$text comes back as another text"
+        texts=$((texts + 1))
+    done
+    [ "$texts" -gt 0 ] || fail "no example"
+}
+
+# a stored table whose run is refused is no table, and is refused with the same number
+tables_come_back() {
+    local table last status
+    whole=0 refusals=0
+    for table in "$here"/vectors/*/*.tab; do
+        last=$(tail -n 1 "${table%.tab}.out") status=0
+        if [[ $last == refused* ]]; then
+            "$tool" text <"$table" >"$out" 2>"$message" || status=$?
+            [ "$status" -eq 1 ] && [ ! -s "$out" ] || fail "$table: status $status, or output"
+            [[ $(<"$message") == "tabletext: byte "*": $last: "* ]] || fail "$table: '$(<"$message")' instead of '$last'"
+            refusals=$((refusals + 1))
+        else
+            "$tool" text <"$table" | "$tool" table | cmp -s - "$table" || fail "$table comes back as another table"
+            whole=$((whole + 1))
+        fi
+    done
+    [ "$whole" -gt 0 ] && [ "$refusals" -gt 0 ] || fail "no stored table"
+}
+
+free_texts() {
+    local five='nodes 5\nfounding 0-4\n'
+    # comments, blank lines, tabs, ends of lines with \r, a missing last line end, and faults that add up
+    becomes 'nodes 9\nfounding 0-3\ncycle\nstop 1-2\nmiss vote 5-8 at 0\nmiss vote 4-8 at 3\n' \
+        '# begin\n\nnodes\t9 # nine\r\nfounding 0,1-3\n cycle#first\nstop 2\nstop 1\r\nstop 1,2\nmiss vote 8,5-7 at 3,0\nmiss vote 4 at 3'
+    becomes "${five}cycle\nstop 0,2-3\n" '\xEF\xBB\xBFnodes 5\r\nfounding 0 - 4\r\ncycle\r\nstop 0 ,2- 3\r\n'
+    becomes "${five}cycle\nmiss vote 0,2 at 1,3-4\n" "${five}cycle\nmiss vote 0, 2 at 1 , 3 -4 # late\n"
+    becomes "${five}cycle\nstop 0-4\nlose vote 0-4\n" 'nodes 5\nfounding all\ncycle\nstop all\nlose vote all # of them\n'
+    becomes 'nodes 64\nfounding 0-63\n' 'nodes 64\nfounding all\n'
+    # equal cycles that follow each other become one, whoever wrote them out
+    becomes "${five}repeat 3\ncycle\ncycle\nstop 1\ncycle\n" "${five}cycle\ncycle\ncycle\ncycle\nstop 1\ncycle\n"
+    becomes "${five}repeat 6\ncycle\nmiss vote 1 at 2\n" "${five}repeat 2\n\n# two\ncycle\nmiss vote 1 at 2\nrepeat 4\ncycle\nmiss vote 1 at 2\n"
+    becomes "${five}cycle\nstart 3\nrepeat 1000000\ncycle\n" "${five}repeat 1\ncycle\nstart 3\nrepeat 999999\ncycle\ncycle\n"
+}
+
+# bytes written by hand
+zero='\0\0\0\0\0\0\0\0' clean="GM\2" first='GM\1\5\0\0\0\0\0\0\0\37'
+clean+=$zero$zero$zero$zero
+bytes_by_hand() {
+    printf 'nodes 5\nfounding all\nrepeat 2\ncycle\nstop 0,3\nmiss vote 4 at 1\n' | "$tool" table >"$out"
+    local cycle='GM\2\0\0\0\0\0\0\0\11'$zero$zero$zero'\1\201\0\0\0\0\0\0\0\20'
+    printf "$first$cycle$cycle" | cmp -s - "$out" || fail "a table of two cycles has other bytes"
+    # as many cycles as a table has are written one after the other, until nobody reads
+    { printf 'nodes 5\nfounding all\nrepeat 4294967295\ncycle\n' | "$tool" table || true; } 2>"$message" | head -c 84 >"$out"
+    printf "$first$clean\0$clean\0" | cmp -s - "$out" || fail "the longest table begins with other bytes"
+}
+
+wrong_beginnings() {
+    wrong "line 1: the text ends before 'nodes'" ''
+    wrong "line 1: the text ends before 'nodes'" '\xEF\xBB\xBF'
+    wrong "line 3: the text ends before 'founding'" 'nodes 5\n\n'
+    wrong "line 1: the text is in UTF-16; save it as UTF-8" '\xFF\xFEn\0o\0'
+    wrong "line 1: the text is in UTF-16; save it as UTF-8" '\xFE\xFF\0n\0o'
+    wrong "line 1: this is a table and no text; 'tabletext text' reads it" "$first"
+    wrong "line 1: expected 'nodes NUMBER', not 'cycle'" 'cycle\n'
+    wrong "line 1: expected 'nodes NUMBER', not 'node'" 'node 5\n'
+    wrong "line 1: expected 'nodes NUMBER', not 'nodes:'" 'nodes: 5\n'
+    wrong "line 1: expected 'nodes NUMBER', not 'nodes=5'" 'nodes=5\n'
+    wrong "line 1: expected 'nodes NUMBER', not 'Nodes'; words stand in small letters" 'Nodes 5\n'
+    wrong "line 1: expected 'nodes NUMBER', not 'nodes\\xC2\\xA05'" 'nodes\xC2\xA05\n'
+    wrong "line 1: expected 'nodes NUMBER', not 'n\\x00o\\x00'" 'n\0o\0\n'
+    wrong "line 1: expected 'nodes NUMBER', not '0123456789012345678901234567890123456789..'" '01234567890123456789012345678901234567890\n'
+    wrong "line 1: expected the number of nodes, 2 to 64, but the line ends" 'nodes\n'
+    wrong "line 1: expected the number of nodes, 2 to 64, but the line ends" 'nodes # 5\n'
+    wrong "line 1: expected the end of the line, not '6'" 'nodes 5 6\n'
+    local number
+    for number in five 5x 1 65 4294967301 18446744073709551618 5.0; do
+        wrong "line 1: expected the number of nodes, 2 to 64, not '$number'" "nodes $number\n"
+    done
+    wrong "line 1: expected the number of nodes, 2 to 64, not '-'" 'nodes -5\n'
+    wrong "line 2: expected 'founding LIST', not 'nodes'" 'nodes 5\nnodes 5\n'
+    wrong "line 2: expected 'founding LIST', not 'founders'" 'nodes 5\nfounders all\n'
+}
+
+wrong_lists() {
+    local list="'all', a range such as 0-1 or a node, 0 to 4" more="a range such as 0-1 or a node, 0 to 4" begin='nodes 5\nfounding'
+    wrong "line 2: expected $list, but the line ends" "$begin\n"
+    wrong "line 2: expected $list, not 'ALL'; words stand in small letters" "$begin ALL\n"
+    wrong "line 2: expected $list, not '5'" "$begin 5\n"
+    wrong "line 2: expected $list, not '18446744073709551616'" "$begin 18446744073709551616\n"
+    wrong "line 2: expected $list, not '0..4'" "$begin 0..4\n"
+    wrong "line 2: expected $list, not '0\\xE2\\x80\\x934'" "$begin 0\xE2\x80\x934\n"
+    wrong "line 2: expected $list, not '-'" "$begin -2\n"
+    wrong "line 2: expected $list, not ','" "$begin ,2\n"
+    wrong "line 2: expected $list, not 'node'" "$begin node 2\n"
+    wrong "line 2: expected $more, but the line ends" "$begin 1,\n"
+    wrong "line 2: expected $more, not 'all'" "$begin 1,all\n"
+    wrong "line 2: expected $more, not ','" "$begin 1,,2\n"
+    wrong "line 2: expected the last node of the range, 0 to 4, but the line ends" "$begin 0-\n"
+    wrong "line 2: expected the last node of the range, 0 to 4, not '5'" "$begin 0-5\n"
+    wrong "line 2: expected the last node of the range, 3 to 4, not '1'" "$begin 3-1\n"
+    wrong "line 2: expected the last node of the range, 0 to 4, not 'all'" "$begin 0-all\n"
+    wrong "line 2: expected ',' or the end of the line, not '2'" "$begin 1 2\n"
+    wrong "line 2: expected ',' or the end of the line, not '-'" "$begin 1-2-3\n"
+    wrong "line 2: expected ',' or the end of the line, not 'nodes'" "$begin all nodes\n"
+    wrong "line 2: 'all' stands alone in a list" "$begin all,2\n"
+    wrong "line 2: node 1 stands twice in the list" "$begin 1,1\n"
+    wrong "line 2: node 2 stands twice in the list" "$begin 0-3, 2-4\n"
+}
+
+wrong_cycles() {
+    local begin='nodes 5\nfounding 0-4\n'
+    local any="'stop', 'start', 'lose', 'miss', 'cycle' or 'repeat'" times="how many times the cycle stands, 1 to 4294967295"
+    wrong "line 3: expected 'cycle' or 'repeat NUMBER', not 'stop'" "${begin}stop 1\n"
+    wrong "line 3: expected 'cycle' or 'repeat NUMBER', not 'founding'" "${begin}founding 1\n"
+    wrong "line 3: expected 'cycle' or 'repeat NUMBER', not 'cycles'" "${begin}cycles\n"
+    wrong "line 3: expected the end of the line, not '2'" "${begin}cycle 2\n"
+    wrong "line 4: expected $any, not 'halt'" "${begin}cycle\nhalt 2\n"
+    wrong "line 4: expected $any, not 'nodes'" "${begin}cycle\nnodes 5\n"
+    wrong "line 4: expected $any, not ','" "${begin}cycle\n, 2\n"
+    wrong "line 3: expected $times, but the line ends" "${begin}repeat\ncycle\n"
+    wrong "line 3: expected $times, not '0'" "${begin}repeat 0\ncycle\n"
+    wrong "line 3: expected $times, not '4294967296'" "${begin}repeat 4294967296\ncycle\n"
+    wrong "line 3: expected $times, not 'twice'" "${begin}repeat twice\ncycle\n"
+    wrong "line 3: expected the end of the line, not 'cycle'" "${begin}repeat 3 cycle\n"
+    wrong "line 4: expected 'cycle' after 'repeat', not 'repeat'" "${begin}repeat 3\nrepeat 3\ncycle\n"
+    wrong "line 4: expected 'cycle' after 'repeat', not 'stop'" "${begin}repeat 3\nstop 1\n"
+    wrong "line 4: expected 'cycle' after 'repeat', but the text ends" "${begin}cycle\nrepeat 3\n\n# end\n"
+    wrong "line 5: a table has at most 4294967295 cycles" "${begin}repeat 4294967295\ncycle\ncycle\n"
+    wrong "line 5: a table has at most 4294967295 cycles" "${begin}cycle\ncycle\nrepeat 4294967294\ncycle\n"
+}
+
+wrong_faults() {
+    local begin='nodes 5\nfounding 0-4\ncycle\n' list="'all', a range such as 0-1 or a node, 0 to 4"
+    wrong "line 4: expected $list, but the line ends" "${begin}stop\n"
+    wrong "line 4: expected $list, not '7'" "${begin}start 7\n"
+    wrong "line 4: expected ',' or the end of the line, not 'start'" "${begin}stop 1 start 2\n"
+    wrong "line 4: expected 'heartbeat' or 'vote', not '3'" "${begin}lose 3\n"
+    wrong "line 4: expected 'heartbeat' or 'vote', not 'votes'" "${begin}lose votes 3\n"
+    wrong "line 4: expected 'heartbeat' or 'vote', but the line ends" "${begin}miss\n"
+    wrong "line 4: expected $list, but the line ends" "${begin}lose vote\n"
+    wrong "line 4: expected ',' or 'at', but the line ends" "${begin}miss vote 1\n"
+    wrong "line 4: expected ',' or 'at', not 'to'" "${begin}miss heartbeat 1 to 2\n"
+    wrong "line 4: expected $list, but the line ends" "${begin}miss heartbeat 1 at\n"
+    wrong "line 4: expected ',' or the end of the line, not '3'" "${begin}miss heartbeat 1 at 2 3 4 5\n"
+    wrong "line 4: expected $list, not '7'" "${begin}miss vote 7 at 2\n"
+    wrong "line 4: expected $list, not '7'" "${begin}miss vote 2 at 7\n"
+    wrong "line 4: node 3 cannot miss its own vote: it stands in both lists" "${begin}miss vote 3 at all\n"
+    wrong "line 7: node 2 cannot miss its own heartbeat: it stands in both lists" "${begin}\n# two\ncycle\nmiss heartbeat 0-2 at 2-4\n"
+}
+
+refused_records() {
+    refused "byte 0: refused 11: the file is empty" ''
+    refused "byte 0: refused 11: the file ends inside the record: 2 bytes are there, 3 are due" 'no'
+    refused "byte 0: refused 12: the record begins with the bytes 6E 6F 64, not with 47 4D 01; 'tabletext table' reads a text" 'nodes 5\n'
+    refused "byte 0: refused 11: the file ends inside the record: 4 bytes are there, 12 are due" 'GM\1\0'
+    refused "byte 0: refused 1: the number of nodes is 65, not 2 to 64" "GM\1\101$zero"
+    refused "byte 0: refused 1: the number of nodes is 1, not 2 to 64" 'GM\1\1\0\0\0\0\0\0\0\1'
+    refused "byte 0: refused 13: the founding set is empty" "GM\1\5$zero"
+    refused "byte 0: refused 13: the founding set names node 5, and the nodes are 0 to 4" 'GM\1\5\0\0\0\0\0\0\0\77'
+    refused "byte 12: refused 12: cycle 1: the record begins with the bytes 47 4D 01, not with 47 4D 02" "$first$first"
+    refused "byte 48: refused 11: cycle 2: the file ends inside the record: 1 bytes are there, 3 are due" "$first$clean\0G"
+    refused "byte 48: refused 11: cycle 2: the file ends inside the record: 35 bytes are there, 36 are due" "$first$clean\0$clean"
+    refused "byte 12: refused 11: cycle 1: the file ends inside the record: 40 bytes are there, 45 are due" "$first$clean\1\0\0\0\0"
+    refused "byte 48: refused 13: cycle 2: 'lose heartbeat' names node 63, and the nodes are 0 to 4" \
+        "$first$clean\0GM\2$zero$zero\200\0\0\0\0\0\0\0$zero\0"
+}
+
+refused_entries() {
+    local to_one='\1\0\0\0\0\0\0\0\1' begin="byte 12: refused 13: cycle 1:"
+    printf -v many '%129s' ''
+    refused "$begin there are 129 entries, and a cycle has at most 128" "$first$clean\201${many// /$to_one}"
+    refused "$begin entry 1 begins with the byte 41, whose bit 6 is not 0" "$first$clean\1\101\0\0\0\0\0\0\0\1"
+    refused "$begin entry 1 names node 9, and the nodes are 0 to 4" "$first$clean\1\11\0\0\0\0\0\0\0\1"
+    refused "$begin entry 2 names node 5, and the nodes are 0 to 4" "$first$clean\2$to_one\2\0\0\0\0\0\0\0\40"
+    refused "$begin entry 1 names no sender that node 1 misses" "$first$clean\1\1$zero"
+    refused "$begin entry 2: node 0 cannot miss its own vote" "$first$clean\2$to_one\200\0\0\0\0\0\0\0\1"
+    refused "$begin entry 2 begins with the byte 01, which is not above the 01 of the entry before it" "$first$clean\2$to_one$to_one"
+}
+
+arguments() {
+    local one="expected one argument, 'table', 'text', '--help' or '--version'; the input is read from standard input"
+    errs "no argument" "$one"
+    errs "two arguments" "$one" table "$input"
+    errs "another argument" "expected 'table', 'text', '--help' or '--version', not 'tables'" tables
+    errs "a folder" "the input cannot be read" table <"$here"
+    [ "$("$tool" --version)" = "tabletext $version" ] || fail "--version is '$("$tool" --version)'"
+    "$tool" --help >"$out"
+    grep -q '^usage: tabletext table ' "$out" || fail "--help does not begin with the usage"
+    local statement
+    for statement in nodes founding repeat cycle stop start 'lose heartbeat' 'lose vote' 'miss heartbeat' 'miss vote'; do
+        grep -q "^ *$statement " "$out" || fail "--help does not name '$statement'"
+    done
+}
+
+# a device that is full; the message is the only sign
+full() { # ARGUMENT..
+    local status=0
+    "$tool" "$@" >/dev/full 2>"$message" || status=$?
+    [ "$status" -eq 1 ] && [ "$(<"$message")" = "tabletext: the output cannot be written" ] || fail "$* to a full device: status $status, '$(<"$message")'"
+}
+full_outputs() {
+    full --help
+    full --version
+    full table <"$here/../examples/p1.txt"
+    printf 'nodes 5\nfounding all\nrepeat 4294967295\ncycle\n' >"$input"
+    full table <"$input"
+    "$tool" table <"$here/../examples/p1.txt" >"$input"
+    full text <"$input"
+}
+
+all_checks() {
+    errors=0
+    examples_come_back
+    tables_come_back
+    free_texts
+    bytes_by_hand
+    wrong_beginnings
+    wrong_lists
+    wrong_cycles
+    wrong_faults
+    refused_records
+    refused_entries
+    arguments
+    full_outputs
 }
 
 shopt -s nullglob
-texts=0
-for text in "$here"/../examples/p*.txt; do
-    "$tool" table <"$text" | "$tool" text >"$out"
-    grep -v '^#' "$text" | cmp -s - "$out" || fail "$text comes back as another text"
-    texts=$((texts + 1))
+gcc -std=c99 -g -O1 -fsanitize=address,undefined -fno-sanitize-recover=all -DVERSION="\"$version\"" "$here/../tools/tabletext.c" -o "$checked"
+for tool in "$built" "$checked"; do
+    all_checks
 done
-[ "$texts" -gt 0 ] || fail "no example"
-
-# a stored table whose run is refused is no table, and is refused with the same number
-whole=0 refused=0
-for table in "$here"/vectors/*/*.tab; do
-    last=$(tail -n 1 "${table%.tab}.out")
-    if [[ $last == refused* ]]; then
-        errs "$table" "byte " text <"$table"
-        [[ $(<"$message") == "byte "*": $last: "* ]] || fail "$table: '$(<"$message")' instead of '$last'"
-        refused=$((refused + 1))
-    else
-        "$tool" text <"$table" | "$tool" table | cmp -s - "$table" || fail "$table comes back as another table"
-        whole=$((whole + 1))
-    fi
-done
-[ "$whole" -gt 0 ] && [ "$refused" -gt 0 ] || fail "no stored table"
-
-# comments, blank lines, tabs, a missing last line end, and faults that add up
-printf '# begin\n\nnodes\t9 # nine\r\nfounding 0,1-3\n cycle#first\nstop 2\nstop 1,1\nmiss vote 8,5-7 at 3,0\nmiss vote 4 at 3' >"$build/text.input"
-"$tool" table <"$build/text.input" | "$tool" text >"$out"
-printf 'nodes 9\nfounding 0-3\ncycle\nstop 1-2\nmiss vote 5-8 at 0\nmiss vote 4-8 at 3\n' | cmp -s - "$out" || fail "free text comes back as another text"
-
-errors=0
-wrong() { # BEGINNING TEXT
-    printf "$2" >"$build/text.input"
-    errs "'$2'" "$1" table <"$build/text.input"
-    errors=$((errors + 1))
-}
-begin='nodes 5\nfounding 0-4\n'
-wrong "line 1: the text ends before 'nodes'" ''
-wrong "line 3: the text ends before 'founding'" 'nodes 5\n\n'
-wrong "line 1: expected 'nodes', not 'cycle'" 'cycle\n'
-wrong "line 1: expected: nodes NUMBER" 'nodes\n'
-wrong "line 1: expected: nodes NUMBER" 'nodes 5 6\n'
-wrong "line 1: expected a number, not 'five'" 'nodes five\n'
-wrong "line 1: the number of nodes is 5x, not 2 to 64" 'nodes 5x\n'
-wrong "line 1: the number of nodes is 1, not 2 to 64" 'nodes 1\nfounding 0\n'
-wrong "line 1: the number of nodes is 65, not 2 to 64" 'nodes 65\n'
-wrong "line 1: the number of nodes is 4294967301, not 2 to 64" 'nodes 4294967301\n'
-wrong "line 2: expected 'founding', not 'nodes'" 'nodes 5\nnodes 5\n'
-wrong "line 2: expected: founding LIST" 'nodes 5\nfounding\n'
-wrong "line 2: node 5 is not below 5" 'nodes 5\nfounding 0-5\n'
-wrong "line 3: expected 'cycle', not 'stop'" "${begin}stop 1\n"
-wrong "line 3: expected 'cycle', not 'founding'" "${begin}founding 1\n"
-wrong "line 3: nothing may follow 'cycle'" "${begin}cycle 2\n"
-wrong "line 4: expected a fault or 'cycle', not 'halt'" "${begin}cycle\nhalt 2\n"
-wrong "line 4: expected a fault or 'cycle', not 'nodes'" "${begin}cycle\nnodes 5\n"
-wrong "line 4: expected: stop LIST" "${begin}cycle\nstop\n"
-wrong "line 4: expected: start LIST" "${begin}cycle\nstart 1, 2\n"
-wrong "line 4: node 18446744073709551616 is not below 5" "${begin}cycle\nstop 18446744073709551616\n"
-wrong "line 4: expected a number, not ''" "${begin}cycle\nstop 1,\n"
-wrong "line 4: expected a number, not '-2'" "${begin}cycle\nstop -2\n"
-wrong "line 4: '-3' does not belong to a list of nodes" "${begin}cycle\nstop 1-2-3\n"
-wrong "line 4: the range 3-1 runs downwards" "${begin}cycle\nstop 3-1\n"
-wrong "line 4: expected 'heartbeat' or 'vote' after 'lose'" "${begin}cycle\nlose 3\n"
-wrong "line 4: expected: lose vote LIST" "${begin}cycle\nlose vote\n"
-wrong "line 4: expected 'heartbeat' or 'vote' after 'miss'" "${begin}cycle\nmiss\n"
-wrong "line 4: expected: miss vote LIST at LIST" "${begin}cycle\nmiss vote 1\n"
-wrong "line 4: expected: miss heartbeat LIST at LIST" "${begin}cycle\nmiss heartbeat 1 to 2\n"
-wrong "line 4: expected: miss heartbeat LIST at LIST" "${begin}cycle\nmiss heartbeat 1 at 2 3 4 5\n"
-wrong "line 4: node 7 is not below 5" "${begin}cycle\nmiss vote 7 at 2\n"
-wrong "line 4: node 7 is not below 5" "${begin}cycle\nmiss vote 2 at 7\n"
-wrong "line 7: node 2 cannot miss its own heartbeat" "${begin}cycle\n\n# two\ncycle\nmiss heartbeat 0-2 at 2-4\n"
-rm -f "$out" "$message" "$build/text.input"
-echo "tests/text: $texts texts and $whole tables come back, $refused tables and $errors texts are refused with their place"
+echo "tests/text: $texts texts and $whole tables come back, $refusals stored tables and $errors texts and tables are refused with their place; also under sanitizers"

@@ -1,12 +1,5 @@
 /*
- * Fault tables as readable text, and back:
- *
- *     tabletext table < x.txt > x.tab
- *     tabletext text < x.tab > x.txt
- *
- * One statement stands on a line, and `#` begins a comment. `nodes 5`, then `founding 0-4`, then for each cycle `cycle` and its faults: `stop LIST`,
- * `start LIST`, `lose heartbeat LIST`, `lose vote LIST`, `miss heartbeat LIST at LIST` and `miss vote LIST at LIST` (senders, then receivers). A LIST is
- * numbers and ranges with commas: 0,2,5-8. Faults of one kind add up within a cycle.
+ * Fault tables as readable text, and back; `help` below has the statements of a text.
  * An error ends the program with status 1 and nothing written: it names the line, or the byte where the record begins and the table's refusal.
  */
 #include <stdarg.h>
@@ -18,10 +11,29 @@
 enum { NODES = 64, HEAD_BYTES = 3, FIRST_BYTES = 12, CYCLE_BYTES = 36, ENTRY_BYTES = 9, MOST_ENTRIES = 128 };
 enum { STOP, START, LOSE_HEARTBEAT, LOSE_VOTE, MASKS };
 enum { HEARTBEAT, VOTE, PHASES };
-enum { MOST_WORDS = 6, MOST_SHOWN = 40, TOO_LARGE = 1000 };
+enum { MOST_SHOWN = 40, SHOWN_ROOM = 4 * MOST_SHOWN + 4, MESSAGE_ROOM = 400 };
 
+static const unsigned long most_cycles = UINT32_MAX;
 static const char *const mask_names[MASKS] = {"stop", "start", "lose heartbeat", "lose vote"};
 static const char *const phase_names[PHASES] = {"heartbeat", "vote"};
+
+static const char help[] =
+    "usage: tabletext table < x.txt > x.tab    makes a table for grouprun from a text\n"
+    "       tabletext text < x.tab > x.txt     makes a text from a table\n"
+    "       tabletext --help | --version\n"
+    "\n"
+    "One statement stands on a line, and # begins a comment:\n"
+    "  nodes NUMBER                   first: how many nodes there are, 2 to 64\n"
+    "  founding LIST                  second: the nodes of the first group\n"
+    "  repeat NUMBER                  the cycle that follows stands so many times, with its faults\n"
+    "  cycle                          a cycle begins; its faults follow in any order:\n"
+    "    stop LIST                    these nodes stop\n"
+    "    start LIST                   these nodes start, after the stops\n"
+    "    lose heartbeat LIST          their heartbeats are lost in sending\n"
+    "    lose vote LIST               their votes are lost in sending\n"
+    "    miss heartbeat LIST at LIST  the heartbeats of the first are missed at the second\n"
+    "    miss vote LIST at LIST       the votes of the first are missed at the second\n"
+    "A LIST is nodes and ranges with commas, such as 0,2,5-8, or the word all. Nodes are numbered from 0.\n";
 
 struct bytes {
     char *at;
@@ -39,22 +51,29 @@ struct word {
 };
 
 /* what is due next in a text */
-enum due { DUE_NODES, DUE_FOUNDING, DUE_CYCLE, DUE_FAULT };
+enum due { DUE_NODES, DUE_FOUNDING, DUE_CYCLE, DUE_REPEATED, DUE_FAULT };
 
+/* `rest` is what is left of the line, `cycles` counts those that were begun, and the last of these stands `times` times */
 struct text {
-    unsigned long line;
+    int writes;
+    unsigned long line, repeat_line, cycles, times;
+    struct word rest;
     enum due due;
     unsigned n;
-    uint32_t cycles;
     struct cycle cycle;
-    struct bytes table;
+    struct bytes record;
 };
 
 /* ---- bytes and sets */
 
-static void __attribute__((noreturn)) give_up(const char *what)
+static void __attribute__((noreturn, format(printf, 1, 2))) give_up(const char *format, ...)
 {
-    fprintf(stderr, "tabletext: %s\n", what);
+    va_list rest;
+    fputs("tabletext: ", stderr);
+    va_start(rest, format);
+    vfprintf(stderr, format, rest);
+    va_end(rest);
+    fputc('\n', stderr);
     exit(1);
 }
 
@@ -92,10 +111,10 @@ static void put_words(struct bytes *b, const char *words)
     put(b, words, strlen(words));
 }
 
-static void put_number(struct bytes *b, unsigned x)
+static void put_number(struct bytes *b, unsigned long x)
 {
-    char digits[16];
-    put(b, digits, (size_t)snprintf(digits, sizeof digits, "%u", x));
+    char digits[24];
+    put(b, digits, (size_t)snprintf(digits, sizeof digits, "%lu", x));
 }
 
 static struct bytes read_input(void)
@@ -112,9 +131,9 @@ static struct bytes read_input(void)
     return b;
 }
 
-static void write_output(const struct bytes *b)
+static void write_bytes(const char *at, size_t len)
 {
-    if (fwrite(b->at, 1, b->len, stdout) != b->len || fflush(stdout) != 0)
+    if (fwrite(at, 1, len, stdout) != len)
         give_up("the output cannot be written");
 }
 
@@ -133,73 +152,154 @@ static uint64_t all_below(unsigned n)
     return ~(uint64_t)0 >> (NODES - n);
 }
 
-/* ---- from text */
-
-static void __attribute__((noreturn, format(printf, 2, 3))) wrong(const struct text *t, const char *format, ...)
+/* of a set that is not empty */
+static unsigned lowest(uint64_t set)
 {
-    va_list rest;
-    fprintf(stderr, "line %lu: ", t->line);
-    va_start(rest, format);
-    vfprintf(stderr, format, rest);
-    va_end(rest);
-    fputc('\n', stderr);
-    exit(1);
-}
-
-static int is(struct word w, const char *name)
-{
-    return strlen(name) == w.len && memcmp(w.at, name, w.len) == 0;
-}
-
-/* how much of a word a message shows */
-static int shown(struct word w)
-{
-    return w.len < MOST_SHOWN ? (int)w.len : MOST_SHOWN;
-}
-
-/* the number that stands at the front of the word, which is cut off; a large one stays large */
-static unsigned take_number(const struct text *t, struct word *w)
-{
-    unsigned x = 0;
-    if (w->len == 0 || *w->at < '0' || *w->at > '9')
-        wrong(t, "expected a number, not '%.*s'", shown(*w), w->at);
-    for (; w->len > 0 && *w->at >= '0' && *w->at <= '9'; w->at++, w->len--)
-        x = x < TOO_LARGE ? 10 * x + (unsigned)(*w->at - '0') : x;
-    return x;
-}
-
-static int take(struct word *w, char c)
-{
-    if (w->len == 0 || *w->at != c)
-        return 0;
-    w->at++;
-    w->len--;
-    return 1;
-}
-
-static unsigned take_node(const struct text *t, struct word *w)
-{
-    struct word number = *w;
-    unsigned q = take_number(t, w);
-    number.len -= w->len;
-    if (q >= t->n)
-        wrong(t, "node %.*s is not below %u", shown(number), number.at, t->n);
+    unsigned q = 0;
+    while (!in(set, q))
+        q++;
     return q;
 }
 
-static uint64_t list(const struct text *t, struct word w)
+/* ---- words of a line */
+
+static int blank(char c)
 {
-    uint64_t set = 0;
-    do {
-        unsigned from = take_node(t, &w), to = from;
-        if (take(&w, '-'))
-            to = take_node(t, &w);
-        if (to < from)
-            wrong(t, "the range %u-%u runs downwards", from, to);
-        set |= all_below(to + 1) & ~(only(from) - 1);
-    } while (take(&w, ','));
-    if (w.len != 0)
-        wrong(t, "'%.*s' does not belong to a list of nodes", shown(w), w.at);
+    return c == ' ' || c == '\t' || c == '\r';
+}
+
+static int joins(char c)
+{
+    return c == ',' || c == '-';
+}
+
+static int digit(char c)
+{
+    return c >= '0' && c <= '9';
+}
+
+static const char *past_blanks(const char *s, const char *end)
+{
+    while (s < end && blank(*s))
+        s++;
+    return s;
+}
+
+/* the next word of the line: a comma, a dash, or what stands before the next of these or a blank; empty at the end of the line */
+static struct word next(const struct text *t)
+{
+    const char *end = t->rest.at + t->rest.len, *s = past_blanks(t->rest.at, end);
+    struct word w = {s, 0};
+    if (s < end && joins(*s))
+        s++;
+    else
+        while (s < end && !blank(*s) && !joins(*s))
+            s++;
+    w.len = (size_t)(s - w.at);
+    return w;
+}
+
+static void pass(struct text *t, struct word w)
+{
+    t->rest.len -= (size_t)(w.at + w.len - t->rest.at);
+    t->rest.at = w.at + w.len;
+}
+
+static int take(struct text *t, const char *name)
+{
+    struct word w = next(t);
+    if (strlen(name) != w.len || memcmp(w.at, name, w.len) != 0)
+        return 0;
+    pass(t, w);
+    return 1;
+}
+
+static void __attribute__((noreturn, format(printf, 2, 3))) wrong(const struct text *t, const char *format, ...)
+{
+    char what[MESSAGE_ROOM];
+    va_list rest;
+    va_start(rest, format);
+    vsnprintf(what, sizeof what, format, rest);
+    va_end(rest);
+    give_up("line %lu: %s", t->line, what);
+}
+
+/* bytes that are no plain characters stand in hexadecimal: a reader would not see them, or see them as others */
+static void show(struct word w, char *shown)
+{
+    for (size_t i = 0; i < w.len && i < MOST_SHOWN; i++)
+        shown += sprintf(shown, w.at[i] > ' ' && w.at[i] <= '~' ? "%c" : "\\x%02X", (unsigned char)w.at[i]);
+    strcpy(shown, w.len > MOST_SHOWN ? ".." : "");
+}
+
+static int has_capital(struct word w)
+{
+    while (w.len > 0 && (*w.at < 'A' || *w.at > 'Z'))
+        w.at++, w.len--;
+    return w.len > 0;
+}
+
+static void __attribute__((noreturn)) expected(const struct text *t, const char *what)
+{
+    struct word w = next(t);
+    char shown[SHOWN_ROOM];
+    if (w.len == 0)
+        wrong(t, "expected %s, but the line ends", what);
+    show(w, shown);
+    wrong(t, "expected %s, not '%s'%s", what, shown, has_capital(w) ? "; words stand in small letters" : "");
+}
+
+/* a number that is too large stays too large */
+static unsigned long take_number(struct text *t, unsigned long least, unsigned long most, const char *name)
+{
+    struct word w = next(t);
+    uint64_t x = 0;
+    size_t digits = 0;
+    char what[MESSAGE_ROOM / 2];
+    for (; digits < w.len && digit(w.at[digits]); digits++)
+        x = x <= most ? 10 * x + (uint64_t)(w.at[digits] - '0') : x;
+    if (digits == 0 || digits < w.len || x < least || x > most) {
+        snprintf(what, sizeof what, "%s, %lu to %lu", name, least, most);
+        expected(t, what);
+    }
+    pass(t, w);
+    return (unsigned long)x;
+}
+
+/* ---- from text */
+
+static uint64_t take_range(struct text *t, const char *name)
+{
+    unsigned from = (unsigned)take_number(t, 0, t->n - 1, name), to = from;
+    if (take(t, "-"))
+        to = (unsigned)take_number(t, from, t->n - 1, "the last node of the range");
+    return all_below(to + 1) & ~(only(from) - 1);
+}
+
+static uint64_t take_list(struct text *t)
+{
+    uint64_t set;
+    if (take(t, "all")) {
+        if (take(t, ","))
+            wrong(t, "'all' stands alone in a list");
+        return all_below(t->n);
+    }
+    set = take_range(t, "'all', a range such as 0-1 or a node");
+    while (take(t, ",")) {
+        uint64_t more = take_range(t, "a range such as 0-1 or a node");
+        if ((set & more) != 0)
+            wrong(t, "node %u stands twice in the list", lowest(set & more));
+        set |= more;
+    }
+    return set;
+}
+
+/* a list that ends its line */
+static uint64_t take_last_list(struct text *t)
+{
+    uint64_t set = take_list(t);
+    if (next(t).len != 0)
+        expected(t, "',' or the end of the line");
     return set;
 }
 
@@ -215,169 +315,212 @@ static void put_entries(struct bytes *b, const struct cycle *c)
 
 static void put_record(struct bytes *b, const struct cycle *c)
 {
-    size_t count = b->len + CYCLE_BYTES - 1;
     put(b, "GM\2", HEAD_BYTES);
     for (unsigned k = 0; k < MASKS; k++)
         put_mask(b, c->masks[k]);
     put_byte(b, 0);
     put_entries(b, c);
-    b->at[count] = (char)((b->len - count - 1) / ENTRY_BYTES);
+    b->at[CYCLE_BYTES - 1] = (char)((b->len - CYCLE_BYTES) / ENTRY_BYTES);
+}
+
+/* the record is whole */
+static void write_record(struct text *t, unsigned long times)
+{
+    for (unsigned long k = 0; t->writes && k < times; k++)
+        write_bytes(t->record.at, t->record.len);
+    t->record.len = 0;
 }
 
 /* the faults read so far are a whole cycle */
 static void close_cycle(struct text *t)
 {
     const struct cycle clean = {{0}, {{0}}};
-    if (t->due == DUE_FAULT)
-        put_record(&t->table, &t->cycle);
+    if (t->due != DUE_FAULT)
+        return;
+    put_record(&t->record, &t->cycle);
+    write_record(t, t->times);
     t->cycle = clean;
 }
 
-static void nodes(struct text *t, const struct word *w, unsigned words)
+static void nodes(struct text *t)
 {
-    struct word number = w[1];
-    if (words != 2)
-        wrong(t, "expected: nodes NUMBER");
-    t->n = take_number(t, &number);
-    if (number.len != 0 || t->n < 2 || t->n > NODES)
-        wrong(t, "the number of nodes is %.*s, not 2 to %d", shown(w[1]), w[1].at, NODES);
-    put(&t->table, "GM\1", HEAD_BYTES);
-    put_byte(&t->table, t->n);
+    t->n = (unsigned)take_number(t, 2, NODES, "the number of nodes");
     t->due = DUE_FOUNDING;
 }
 
-static void founding(struct text *t, const struct word *w, unsigned words)
+static void founding(struct text *t)
 {
-    if (words != 2)
-        wrong(t, "expected: founding LIST");
-    put_mask(&t->table, list(t, w[1]));
+    put(&t->record, "GM\1", HEAD_BYTES);
+    put_byte(&t->record, t->n);
+    put_mask(&t->record, take_last_list(t));
+    write_record(t, 1);
     t->due = DUE_CYCLE;
 }
 
-static void begin_cycle(struct text *t, unsigned words)
+static void add_cycles(struct text *t, unsigned long times)
 {
-    if (words != 1)
-        wrong(t, "nothing may follow 'cycle'");
-    if (t->cycles == UINT32_MAX)
-        wrong(t, "a cycle after number %lu", (unsigned long)UINT32_MAX);
     close_cycle(t);
-    t->cycles++;
+    if (times > most_cycles - t->cycles)
+        wrong(t, "a table has at most %lu cycles", most_cycles);
+    t->cycles += times;
+    t->times = times;
+}
+
+static void repeat(struct text *t)
+{
+    add_cycles(t, take_number(t, 1, most_cycles, "how many times the cycle stands"));
+    t->repeat_line = t->line;
+    t->due = DUE_REPEATED;
+}
+
+static void begin_cycle(struct text *t)
+{
+    if (t->due != DUE_REPEATED)
+        add_cycles(t, 1);
     t->due = DUE_FAULT;
 }
 
-static unsigned phase_of(const struct text *t, const struct word *w, unsigned words)
+static unsigned take_phase(struct text *t)
 {
     for (unsigned phase = 0; phase < PHASES; phase++)
-        if (words > 1 && is(w[1], phase_names[phase]))
+        if (take(t, phase_names[phase]))
             return phase;
-    wrong(t, "expected 'heartbeat' or 'vote' after '%.*s'", shown(w[0]), w[0].at);
+    expected(t, "'heartbeat' or 'vote'");
 }
 
-static void miss(struct text *t, const struct word *w, unsigned words)
+static void miss(struct text *t)
 {
-    unsigned phase = phase_of(t, w, words);
-    uint64_t senders, receivers;
-    if (words != 5 || !is(w[3], "at"))
-        wrong(t, "expected: miss %s LIST at LIST", phase_names[phase]);
-    senders = list(t, w[2]);
-    receivers = list(t, w[4]);
-    for (unsigned q = 0; q < t->n; q++) {
-        if (in(receivers & senders, q))
-            wrong(t, "node %u cannot miss its own %s", q, phase_names[phase]);
+    unsigned phase = take_phase(t);
+    uint64_t senders = take_list(t), receivers;
+    if (!take(t, "at"))
+        expected(t, "',' or 'at'");
+    receivers = take_last_list(t);
+    if ((senders & receivers) != 0)
+        wrong(t, "node %u cannot miss its own %s: it stands in both lists", lowest(senders & receivers), phase_names[phase]);
+    for (unsigned q = 0; q < t->n; q++)
         if (in(receivers, q))
             t->cycle.missed[phase][q] |= senders;
-    }
 }
 
-static void fault(struct text *t, const struct word *w, unsigned words)
+/* whether a fault stands next, which is then read */
+static int fault(struct text *t)
 {
-    unsigned mask, list_at = 1;
-    if (is(w[0], "miss")) {
-        miss(t, w, words);
-        return;
+    unsigned mask;
+    if (take(t, "miss")) {
+        miss(t);
+        return 1;
     }
-    if (is(w[0], "lose")) {
-        mask = LOSE_HEARTBEAT + phase_of(t, w, words);
-        list_at = 2;
-    } else {
-        mask = is(w[0], "stop") ? STOP : START;
-    }
-    if (words != list_at + 1)
-        wrong(t, "expected: %s LIST", mask_names[mask]);
-    t->cycle.masks[mask] |= list(t, w[list_at]);
+    if (take(t, "lose"))
+        mask = LOSE_HEARTBEAT + take_phase(t);
+    else if (take(t, "stop"))
+        mask = STOP;
+    else if (take(t, "start"))
+        mask = START;
+    else
+        return 0;
+    t->cycle.masks[mask] |= take_last_list(t);
+    return 1;
 }
 
 /* what each statement may follow is what the record order of a table asks */
-static void statement(struct text *t, const struct word *w, unsigned words)
+static void statement(struct text *t)
 {
-    static const char *const due_names[] = {"'nodes'", "'founding'", "'cycle'", "a fault or 'cycle'"};
-    if (t->due == DUE_NODES && is(w[0], "nodes"))
-        nodes(t, w, words);
-    else if (t->due == DUE_FOUNDING && is(w[0], "founding"))
-        founding(t, w, words);
-    else if (t->due >= DUE_CYCLE && is(w[0], "cycle"))
-        begin_cycle(t, words);
-    else if (t->due == DUE_FAULT && (is(w[0], "stop") || is(w[0], "start") || is(w[0], "lose") || is(w[0], "miss")))
-        fault(t, w, words);
-    else
-        wrong(t, "expected %s, not '%.*s'", due_names[t->due], shown(w[0]), w[0].at);
+    static const char *const due_names[] = {"'nodes NUMBER'", "'founding LIST'", "'cycle' or 'repeat NUMBER'", "'cycle' after 'repeat'",
+                                            "'stop', 'start', 'lose', 'miss', 'cycle' or 'repeat'"};
+    if (t->due == DUE_NODES && take(t, "nodes"))
+        nodes(t);
+    else if (t->due == DUE_FOUNDING && take(t, "founding"))
+        founding(t);
+    else if (t->due >= DUE_CYCLE && take(t, "cycle"))
+        begin_cycle(t);
+    else if (t->due >= DUE_CYCLE && t->due != DUE_REPEATED && take(t, "repeat"))
+        repeat(t);
+    else if (t->due != DUE_FAULT || !fault(t))
+        expected(t, due_names[t->due]);
+    if (next(t).len != 0)
+        expected(t, "the end of the line");
 }
 
-static int blank(char c)
+/* the input without the mark that some editors set before a text */
+static struct word unmarked(const struct bytes *input)
 {
-    return c == ' ' || c == '\t' || c == '\r';
-}
-
-/* the words before a comment; more than any statement has are not told apart */
-static unsigned split(const char *s, const char *end, struct word *w)
-{
-    unsigned words = 0;
-    while (words < MOST_WORDS) {
-        while (s < end && blank(*s))
-            s++;
-        if (s == end || *s == '#')
-            break;
-        w[words].at = s;
-        while (s < end && !blank(*s) && *s != '#')
-            s++;
-        w[words].len = (size_t)(s - w[words].at);
-        words++;
+    struct word s = {input->at, input->len};
+    if (s.len >= 3 && memcmp(s.at, "\xEF\xBB\xBF", 3) == 0) {
+        s.at += 3;
+        s.len -= 3;
     }
-    return words;
+    if (s.len >= 2 && (memcmp(s.at, "\xFF\xFE", 2) == 0 || memcmp(s.at, "\xFE\xFF", 2) == 0))
+        give_up("line 1: the text is in UTF-16; save it as UTF-8");
+    if (s.len >= HEAD_BYTES && memcmp(s.at, "GM\1", HEAD_BYTES) == 0)
+        give_up("line 1: this is a table and no text; 'tabletext text' reads it");
+    return s;
 }
 
-static struct bytes table_of(const struct bytes *input)
+/* the line that begins here, without its comment */
+static void begin_line(struct text *t, const char *s, size_t len)
+{
+    const char *comment = memchr(s, '#', len);
+    t->line++;
+    t->rest.at = s;
+    t->rest.len = comment == NULL ? len : (size_t)(comment - s);
+}
+
+static void end_text(struct text *t)
+{
+    t->line++;
+    if (t->due < DUE_CYCLE)
+        wrong(t, "the text ends before '%s'", t->due == DUE_NODES ? "nodes" : "founding");
+    if (t->due == DUE_REPEATED) {
+        t->line = t->repeat_line;
+        wrong(t, "expected 'cycle' after 'repeat', but the text ends");
+    }
+    close_cycle(t);
+    free(t->record.at);
+}
+
+static void read_text(struct word input, int writes)
 {
     struct text t = {0};
-    const char *s = input->at, *end = s + input->len;
+    const char *s = input.at, *end = s + input.len;
+    t.writes = writes;
     while (s < end) {
         const char *newline = memchr(s, '\n', (size_t)(end - s)), *stop = newline == NULL ? end : newline;
-        struct word w[MOST_WORDS];
-        unsigned words = split(s, stop, w);
-        t.line++;
-        if (words > 0)
-            statement(&t, w, words);
+        begin_line(&t, s, (size_t)(stop - s));
+        if (next(&t).len > 0)
+            statement(&t);
         s = newline == NULL ? end : newline + 1;
     }
-    t.line++;
-    if (t.due < DUE_CYCLE)
-        wrong(&t, "the text ends before %s", t.due == DUE_NODES ? "'nodes'" : "'founding'");
-    close_cycle(&t);
-    return t.table;
+    end_text(&t);
+}
+
+/* all of the text is found right before its table is written */
+static void write_table(const struct bytes *input)
+{
+    struct word text = unmarked(input);
+    read_text(text, 0);
+    read_text(text, 1);
 }
 
 /* ---- from a table */
 
-/* what is left of a table, from the record that is looked at */
+/* what is left of a table, from the record that is looked at, which comes after so many cycles; it has `n` nodes */
 struct rest {
     const unsigned char *at;
     size_t offset, len;
+    unsigned long cycles;
+    unsigned n;
 };
 
-static void __attribute__((noreturn)) refuse(const struct rest *r, int number, const char *why)
+static void __attribute__((noreturn, format(printf, 3, 4))) refuse(const struct rest *r, int number, const char *format, ...)
 {
-    fprintf(stderr, "byte %zu: refused %d: %s\n", r->offset, number, why);
-    exit(1);
+    char why[MESSAGE_ROOM], record[40] = "";
+    va_list rest;
+    va_start(rest, format);
+    vsnprintf(why, sizeof why, format, rest);
+    va_end(rest);
+    if (r->offset > 0)
+        snprintf(record, sizeof record, "cycle %lu: ", r->cycles + 1);
+    give_up("byte %zu: refused %d: %s%s", r->offset, number, record, why);
 }
 
 static uint64_t mask_at(const unsigned char *s)
@@ -388,20 +531,28 @@ static uint64_t mask_at(const unsigned char *s)
     return m;
 }
 
-static void check_head(const struct rest *r, unsigned kind)
-{
-    if (r->len < HEAD_BYTES)
-        refuse(r, 11, r->len == 0 ? "the file is empty" : "the file ends inside a record");
-    if (r->at[0] != 0x47 || r->at[1] != 0x4D)
-        refuse(r, 12, "the record does not begin with the mark 47 4D");
-    if (r->at[2] != kind)
-        refuse(r, 12, kind == 1 ? "the first record is not of kind 1" : "a later record is not of kind 2");
-}
-
 static void check_length(const struct rest *r, size_t len)
 {
+    if (r->len == 0)
+        refuse(r, 11, "the file is empty");
     if (r->len < len)
-        refuse(r, 11, "the file ends inside a record");
+        refuse(r, 11, "the file ends inside the record: %zu bytes are there, %zu are due", r->len, len);
+}
+
+static void check_head(const struct rest *r, unsigned kind)
+{
+    const unsigned char *s = r->at;
+    check_length(r, HEAD_BYTES);
+    if (s[0] != 'G' || s[1] != 'M' || s[2] != kind)
+        refuse(r, 12, "the record begins with the bytes %02X %02X %02X, not with 47 4D %02X%s", s[0], s[1], s[2], kind,
+               r->offset == 0 ? "; 'tabletext table' reads a text" : "");
+}
+
+static void check_nodes(const struct rest *r, uint64_t set, const char *where)
+{
+    uint64_t above = set & ~all_below(r->n);
+    if (above != 0)
+        refuse(r, 13, "%s names node %u, and the nodes are 0 to %u", where, lowest(above), r->n - 1);
 }
 
 static void advance(struct rest *r, size_t len)
@@ -430,72 +581,90 @@ static void put_list(struct bytes *b, uint64_t set)
     }
 }
 
-static unsigned first_text(struct rest *r, struct bytes *b)
+static void first_text(struct rest *r, struct bytes *b)
 {
-    unsigned n;
     uint64_t set;
     check_head(r, 1);
     check_length(r, FIRST_BYTES);
-    n = r->at[3];
+    r->n = r->at[3];
     set = mask_at(r->at + 4);
-    if (n < 2 || n > NODES)
-        refuse(r, 1, "the number of nodes is not 2 to 64");
-    if (set == 0 || (set & ~all_below(n)) != 0)
-        refuse(r, 13, set == 0 ? "the founding set is empty" : "a founding node is not below the number of nodes");
+    if (r->n < 2 || r->n > NODES)
+        refuse(r, 1, "the number of nodes is %u, not 2 to %d", r->n, NODES);
+    if (set == 0)
+        refuse(r, 13, "the founding set is empty");
+    check_nodes(r, set, "the founding set");
     put_words(b, "nodes ");
-    put_number(b, n);
+    put_number(b, r->n);
     put_words(b, "\nfounding");
     put_list(b, set);
     put_words(b, "\n");
     advance(r, FIRST_BYTES);
-    return n;
 }
 
-static void read_entry(const struct rest *r, unsigned n, const unsigned char *entry, int last, struct cycle *c)
+/* entry k; of the one before it the first byte is known, or -1 */
+static void read_entry(const struct rest *r, unsigned k, int before, struct cycle *c)
 {
-    unsigned receiver = entry[0] & 0x3F;
+    const unsigned char *entry = r->at + CYCLE_BYTES + ENTRY_BYTES * (size_t)k;
+    unsigned receiver = entry[0] & 0x3F, phase = entry[0] >> 7;
     uint64_t missed = mask_at(entry + 1);
+    char where[24];
+    snprintf(where, sizeof where, "entry %u", k + 1);
     if (entry[0] & 0x40)
-        refuse(r, 13, "an entry has bit 6 set");
-    if (receiver >= n || (missed & ~all_below(n)) != 0)
-        refuse(r, 13, "a node of an entry is not below the number of nodes");
+        refuse(r, 13, "%s begins with the byte %02X, whose bit 6 is not 0", where, entry[0]);
+    check_nodes(r, only(receiver) | missed, where);
     if (missed == 0)
-        refuse(r, 13, "an entry has an empty mask");
+        refuse(r, 13, "%s names no sender that node %u misses", where, receiver);
     if (in(missed, receiver))
-        refuse(r, 13, "an entry has its own receiver in its mask");
-    if (entry[0] <= last)
-        refuse(r, 13, "the entries do not ascend");
-    c->missed[entry[0] >> 7][receiver] = missed;
+        refuse(r, 13, "%s: node %u cannot miss its own %s", where, receiver, phase_names[phase]);
+    if (entry[0] <= before)
+        refuse(r, 13, "%s begins with the byte %02X, which is not above the %02X of the entry before it", where, entry[0], (unsigned)before);
+    c->missed[phase][receiver] = missed;
 }
 
-static void read_masks(const struct rest *r, unsigned n, struct cycle *c)
+static void read_masks(const struct rest *r, struct cycle *c)
 {
     for (unsigned k = 0; k < MASKS; k++) {
+        char where[24];
+        snprintf(where, sizeof where, "'%s'", mask_names[k]);
         c->masks[k] = mask_at(r->at + HEAD_BYTES + 8 * k);
-        if ((c->masks[k] & ~all_below(n)) != 0)
-            refuse(r, 13, "a node of a mask is not below the number of nodes");
+        check_nodes(r, c->masks[k], where);
     }
 }
 
-static void read_cycle(struct rest *r, unsigned n, uint32_t cycles_before, struct cycle *c)
+/* the faults of the next cycle; the answer is the length of its record */
+static size_t read_cycle(const struct rest *r, struct cycle *c)
 {
     unsigned count;
-    int last = -1;
+    size_t len;
+    int before = -1;
     check_head(r, 2);
     check_length(r, CYCLE_BYTES);
     count = r->at[CYCLE_BYTES - 1];
-    check_length(r, CYCLE_BYTES + ENTRY_BYTES * (size_t)count);
+    len = CYCLE_BYTES + ENTRY_BYTES * (size_t)count;
+    check_length(r, len);
     if (count > MOST_ENTRIES)
-        refuse(r, 13, "a cycle has more than 128 entries");
-    if (cycles_before == UINT32_MAX)
-        refuse(r, 13, "a cycle after number 4294967295");
-    read_masks(r, n, c);
+        refuse(r, 13, "there are %u entries, and a cycle has at most %d", count, MOST_ENTRIES);
+    if (r->cycles == most_cycles)
+        refuse(r, 13, "a table has at most %lu cycles", most_cycles);
+    read_masks(r, c);
     for (unsigned k = 0; k < count; k++) {
-        const unsigned char *entry = r->at + CYCLE_BYTES + ENTRY_BYTES * (size_t)k;
-        read_entry(r, n, entry, last, c);
-        last = entry[0];
+        read_entry(r, k, before, c);
+        before = r->at[CYCLE_BYTES + ENTRY_BYTES * (size_t)k];
     }
-    advance(r, CYCLE_BYTES + ENTRY_BYTES * (size_t)count);
+    return len;
+}
+
+/* how many records like this one follow each other; they are passed */
+static unsigned long pass_equal(struct rest *r, size_t len)
+{
+    const unsigned char *record = r->at;
+    unsigned long times = 0;
+    do {
+        advance(r, len);
+        r->cycles++;
+        times++;
+    } while (r->cycles < most_cycles && r->len >= len && memcmp(r->at, record, len) == 0);
+    return times;
 }
 
 /* neighbouring receivers that miss the same stand on one line */
@@ -517,8 +686,13 @@ static void put_missed(struct bytes *b, unsigned phase, const uint64_t *missed)
     }
 }
 
-static void put_cycle(struct bytes *b, const struct cycle *c)
+static void put_cycle(struct bytes *b, const struct cycle *c, unsigned long times)
 {
+    if (times > 1) {
+        put_words(b, "repeat ");
+        put_number(b, times);
+        put_words(b, "\n");
+    }
     put_words(b, "cycle\n");
     for (unsigned k = 0; k < MASKS; k++)
         if (c->masks[k] != 0) {
@@ -530,31 +704,43 @@ static void put_cycle(struct bytes *b, const struct cycle *c)
         put_missed(b, phase, c->missed[phase]);
 }
 
-static struct bytes text_of(const struct bytes *input)
+static void write_text(const struct bytes *input)
 {
-    struct rest r = {(const unsigned char *)input->at, 0, input->len};
+    struct rest r = {(const unsigned char *)input->at, 0, input->len, 0, 0};
     struct bytes b = {NULL, 0, 0};
-    unsigned n = first_text(&r, &b);
-    for (uint32_t cycles = 0; r.len > 0; cycles++) {
+    first_text(&r, &b);
+    while (r.len > 0) {
         struct cycle c = {{0}, {{0}}};
-        read_cycle(&r, n, cycles, &c);
-        put_cycle(&b, &c);
+        size_t len = read_cycle(&r, &c);
+        put_cycle(&b, &c, pass_equal(&r, len));
     }
-    return b;
+    write_bytes(b.at, b.len);
+    free(b.at);
+}
+
+static void convert(void (*write)(const struct bytes *))
+{
+    struct bytes input = read_input();
+    write(&input);
+    free(input.at);
 }
 
 int main(int argc, char **argv)
 {
-    struct bytes input, output;
-    int to_table = argc == 2 && strcmp(argv[1], "table") == 0;
-    if (!to_table && (argc != 2 || strcmp(argv[1], "text") != 0)) {
-        fputs("usage: tabletext table < x.txt > x.tab\n       tabletext text < x.tab > x.txt\n", stderr);
-        return 1;
-    }
-    input = read_input();
-    output = to_table ? table_of(&input) : text_of(&input);
-    write_output(&output);
-    free(input.at);
-    free(output.at);
+    const char *what = argc == 2 ? argv[1] : "";
+    if (argc != 2)
+        give_up("expected one argument, 'table', 'text', '--help' or '--version'; the input is read from standard input");
+    if (strcmp(what, "table") == 0)
+        convert(write_table);
+    else if (strcmp(what, "text") == 0)
+        convert(write_text);
+    else if (strcmp(what, "--help") == 0)
+        write_bytes(help, strlen(help));
+    else if (strcmp(what, "--version") == 0)
+        printf("tabletext %s\n", VERSION);
+    else
+        give_up("expected 'table', 'text', '--help' or '--version', not '%s'", what);
+    if (fflush(stdout) != 0)
+        give_up("the output cannot be written");
     return 0;
 }
