@@ -30,7 +30,7 @@ refused() { # MESSAGE TABLE
 }
 # the text gives a table whose text is the other
 becomes() { # OTHER TEXT
-    printf "$2" | "$tool" table | "$tool" text >"$out"
+    printf "$2" | "$tool" table | "$tool" text >"$out" || fail "'$2' is refused"
     printf "$1" | cmp -s - "$out" || fail "'$2' comes back as another text: $(<"$out")"
 }
 
@@ -38,7 +38,7 @@ examples_come_back() {
     local text
     texts=0
     for text in "$here"/../examples/p*.txt; do
-        "$tool" table <"$text" | "$tool" text >"$out"
+        "$tool" table <"$text" | "$tool" text >"$out" || fail "$text is refused"
         grep -v '^#' "$text" | cmp -s - "$out" || fail "$text comes back as another text"
         texts=$((texts + 1))
     done
