@@ -266,4 +266,7 @@ gcc -std=c99 -g -O1 -fsanitize=address,undefined -fno-sanitize-recover=all -DVER
 for tool in "$built" "$checked"; do
     all_checks
 done
+# sanitizers need much memory themselves
+tool=$built
+(ulimit -v 30000 && errs "much input in little memory" "out of memory" text < <(head -c 100000000 /dev/zero))
 echo "tests/text: $texts texts and $whole tables come back, $refusals stored tables and $errors texts and tables are refused with their place; also under sanitizers"
