@@ -138,11 +138,9 @@ compare-test: compare
 bench: archive $(GROUPRUN) $(PLAIN) $(PLAINLIB) $(TABLEGEN) $(MEASURE)
 	@bench/speed.sh $(GROUPRUN) $(PLAIN) $(TABLEGEN) $(MEASURE) $(BUILD)
 
-# the deepest stack use of an entry, in bytes
+# the deepest stack of an entry, in bytes: as a walk of the archive's code finds it, with the functions that go so deep, and as sampled
 stack: archive
-	@mkdir -p $(BUILD)
-	@gcc -std=gnu99 -O2 -Iinclude tests/stack.c $(ARCHIVE) -pthread -o $(BUILD)/stack
-	@$(BUILD)/stack
+	@tests/stack.sh $(ARCHIVE) $(BUILD) -v
 
 # every file stands in the layout that `rt fmt` gives
 format:

@@ -53,8 +53,6 @@ printf '#include "gm_refusal.h"\nint main() { uint8_t s[1] = {0}; return gm_refu
 g++ -Wall -Wextra -Werror -pedantic -Iinclude "$build/cpp.cc" "$archive" -o "$build/cpp"
 "$build/cpp" || fail "the C++ caller got another answer"
 
-gcc -std=gnu99 -Wall -Wextra -Werror -O2 -Iinclude tests/stack.c "$archive" -pthread -o "$build/stack"
-read -r node row <<<"$("$build/stack")"
-[ "$node" -le "$(constant GM_STACK_BYTES)" ] || fail "an entry on a node used $node bytes of stack, more than the header says"
-[ "$row" -le "$(constant GM_ROW_STACK_BYTES)" ] || fail "an entry on a row used $row bytes of stack, more than the header says"
-echo "archive: $called entries, $statuses statuses with a sentence, version $version, needs ${needed:-nothing}, no writable data, deepest stack $node bytes on a node, $row on a row"
+tests/stackwalk.sh "$build"
+tests/stack.sh "$archive" "$build"
+echo "archive: $called entries, $statuses statuses with a sentence, version $version, needs ${needed:-nothing}, no writable data"

@@ -1,5 +1,6 @@
 /*
- * Measures the deepest stack use of an entry: a thread runs each entry on a stack that was painted, and looks how far down the paint is gone.
+ * Samples the deepest stack of an entry: a thread runs each entry on a stack that was painted, and looks how far down below the caller's stack pointer the paint is
+ * gone. The stack pointer is that of `mark_origin` only if every call is made at the same depth: tests/stack.sh has the compiler see to it.
  * Prints two figures in bytes: the deepest of the entries on one node, and of those on a row.
  */
 #include "gm.h"
@@ -15,6 +16,7 @@ static uint8_t *stack;
 static uint8_t state[GM_STATE_BYTES], joiner[GM_STATE_BYTES], votes[GM_VOTES_BYTES], beat[GM_HEARTBEAT_BYTES], frame[GM_VOTE_FRAME_BYTES];
 static uint8_t payload[GM_VOTE_BYTES];
 static uint8_t row[64 * GM_STATE_BYTES], frames[GM_FRAMES_BYTES];
+static uint8_t *origin;
 static size_t deepest;
 
 /* 64 nodes, all founders but node 63; in the first cycle it starts and node 0 stops, then two clean cycles */
@@ -28,11 +30,18 @@ static void fill_table(void)
     table[12 + 11] = 0x80;
 }
 
+/* the stack pointer of whoever calls it */
+static void __attribute__((noinline)) mark_origin(void)
+{
+    origin = __builtin_dwarf_cfa();
+}
+
 static void run_entry(unsigned which)
 {
     const uint64_t all = ~(uint64_t)0;
     uint64_t mask = 0;
     uint32_t number = 0;
+    mark_origin();
     switch (which) {
     case 0: gm_begin(64, 3, all, state, sizeof state); break;
     case 1: gm_begin(64, 4, 8, joiner, sizeof joiner); break;
@@ -65,8 +74,8 @@ static void *measure(void *arg)
     run_entry(*(unsigned *)arg);
     while (i < here && stack[i] == PAINT)
         i++;
-    if (here - i > deepest)
-        deepest = here - i;
+    if ((size_t)(origin - stack) - i > deepest)
+        deepest = (size_t)(origin - stack) - i;
     return NULL;
 }
 

@@ -1,0 +1,62 @@
+#!/usr/bin/env bash
+# Whether the walk of the stack (tests/stackwalk.awk) is right: on functions whose frames the compiler states (-fstack-usage) it comes to the sum of these along
+# its chain, and what it cannot know it refuses. Usage: stackwalk.sh BUILD-FOLDER
+set -euo pipefail
+build=$1/stackwalk
+mkdir -p "$build"
+fail() { echo "stackwalk: $*" >&2; exit 1; }
+
+walk() { # NAME OPTION..: of the C on standard input
+    gcc -std=c11 -Wall -Wextra -Werror -Wno-infinite-recursion -O2 -fno-inline -fstack-usage "${@:2}" -c -x c - -o "$build/$1.o"
+    objdump -drz --no-show-raw-insn "$build/$1.o" | awk -v outside=memset -f tests/stackwalk.awk
+}
+is() { # NAME FUNCTION BYTES: as walked
+    local bytes
+    bytes=$(awk -v name="$2" '$1 == name { print $2 }' "$build/$1.out")
+    [ "$bytes" = "$3" ] || fail "$1: $2 comes to $bytes bytes, not $3"
+}
+
+# pushed registers, arrays, arguments on the stack, calls from several depths and in a loop, calls of a function outside
+cat >"$build/frames.c" <<'C'
+#include <string.h>
+int leaf(int a) { return 3 * a; }
+int room(int a) { volatile char bytes[100]; bytes[a] = 1; return bytes[0]; }
+int clear(int a) { char bytes[5000]; memset(bytes, a, 8 * (unsigned)a); return room(bytes[a]) + 1; }
+int many(int a, int b, int c, int d, int e, int f, int g, int h) { return room(a + b) + c * d * e * f * g * h; }
+int instead(int a) { return clear(a + 1); }
+int either(int a) { return a > 3 ? clear(a) : a < 0 ? instead(a) : many(a, a, a, a, a, a, a, leaf(a)); }
+int loops(int a) { int sum = 0; while (a-- > 0) sum += either(a) + leaf(sum) + instead(a); return sum; }
+C
+walk frames -mno-red-zone -maccumulate-outgoing-args -fno-optimize-sibling-calls <"$build/frames.c" >"$build/frames.out"
+while read -r name bytes chain; do
+    sum=0
+    for part in $chain; do
+        # what the compiler states has the return address in it, which is all that is counted of a function outside
+        frame=$(awk -F '[:\t]' -v name="$part" '$4 == name { print $5 }' "$build/frames.su")
+        sum=$((sum + ${frame:-8}))
+    done
+    is frames "$name" "$sum"
+done <"$build/frames.out"
+[ "$(wc -l <"$build/frames.out")" = 7 ] || fail "frames: not every function was walked"
+
+# a jump in place of a call takes no bytes, and one who uses bytes below the stack pointer is counted with all that it may use
+walk jumps -foptimize-sibling-calls <"$build/frames.c" >"$build/jumps.out"
+is jumps instead "$(awk '$1 == "clear" { print $2 }' "$build/jumps.out")"
+is jumps room $((8 + 128))
+
+refused() { # NAME MESSAGE C
+    if walk "$1" <<<"$3" >"$build/$1.out" 2>"$build/$1.err"; then fail "$1: is not refused"; fi
+    grep -q "^stackwalk: .*$2" "$build/$1.err" || fail "$1: is refused otherwise: $(cat "$build/$1.err")"
+}
+refused recursion 'calls itself' 'int f(int n) { return n < 2 ? n : f(n - 1) * f(n - 2); }'
+refused circle 'calls itself' 'int g(int); int f(int n) { return n * g(n - 1); } int g(int n) { return n < 2 ? n : n + f(n / 2); }'
+refused pointer 'where it leads is not known' 'int f(int (*g)(int)) { return g(1) + 1; }'
+refused jump 'where it leads is not known' 'int f(int (*g)(int)) { return g(1); }'
+refused alloca 'the stack pointer is not known' 'int g(char *p) { return p[1]; } int f(int n) { char bytes[n]; bytes[1] = 2; return g(bytes) + 1; }'
+refused aligned 'the stack pointer is not known' 'int g(char *p) { return p[1]; } int f(void) { _Alignas(64) char b[64]; b[1] = 2; return g(b) + 1; }'
+refused outside 'leads to no function here' 'int g(int); int f(int n) { return g(n) + 1; }'
+refused left 'with 8 bytes on the stack' '__asm__("f: push %rax\n ret");'
+refused ways 'bytes on the stack one way' '__asm__("f: test %rdi,%rdi\n je 1f\n push %rax\n 1: ret");'
+refused end 'a way leads out of it' '__asm__("f: ret\n .globl g\n g: nop");'
+refused unreached 'no way leads here' '__asm__("f: ret\n mov %rax,%rbx\n ret");'
+echo "stackwalk: frames as the compiler states them, 11 kinds of code refused"
