@@ -166,7 +166,11 @@ extern "C" {
 #define GM_REFUSED_KIND 12U  /* a wrong mark or kind, a first record not of kind 1, a later one of kind 1 */
 #define GM_REFUSED_LIMIT 13U /* a founding set that is empty or has a bit at n or above; in a record, any bit, receiver, count or entry beyond its limit; a cycle after number 4294967295 */
 
-/* no entry on one node, and none on a row, uses more stack, in bytes: 2216 and 30344 as measured (make stack), with some to spare */
+/*
+ * No entry on one node, and none on a row, takes more bytes of stack below its caller's stack pointer: 2232 and 30328 by a walk of the archive's code
+ * (make stack), rounded up. Of memset and memcpy the walk counts the return address: glibc's take no more. They must be bound before the first call,
+ * statically or by -Wl,-z,now: where the dynamic linker binds one inside a call, that call takes some 3 KiB more.
+ */
 #define GM_STACK_BYTES 2560U
 #define GM_ROW_STACK_BYTES 40960U
 

@@ -21,7 +21,7 @@ deepest() {
 report() { # WHAT CONSTANT SAMPLED, and the declarations on standard input
     local walked chain stated
     read -r _ walked chain <<<"$(deepest)"
-    stated=$(awk -v name="$2" '$2 == name { print $3 }' include/gm.h)
+    stated=$(awk -v name="$2" '$2 == name { print $3 + 0 }' include/gm.h)
     echo "stack: an entry on $1 takes at most $walked bytes as walked, took $3 as sampled; $2 is $stated"
     [ "$verbose" != -v ] || echo "    ${chain// / > }"
     [ "$walked" -le "$stated" ] || fail "an entry on $1 takes $walked bytes, more than the header says"
