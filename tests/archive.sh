@@ -53,6 +53,14 @@ printf '#include "gm_refusal.h"\nint main() { uint8_t s[1] = {0}; return gm_refu
 g++ -Wall -Wextra -Werror -pedantic -Iinclude "$build/cpp.cc" "$archive" -o "$build/cpp"
 "$build/cpp" || fail "the C++ caller got another answer"
 
+# a host that makes the calls of a cycle on one node and links with --gc-sections has nothing of the other entries
+cycle=$(printf 'gm_%s\n' begin decide receive_heartbeat receive_vote send_heartbeat send_vote start stop)
+ld --gc-sections --unresolved-symbols=ignore-all -e gm_decide $(printf -- '-u %s ' $cycle) "$archive" -o "$build/cycle"
+kept=$(nm "$build/cycle" | awk '$2 == "T" && $3 ~ /^gm_/ { print $3 }' | sort)
+[ "$kept" = "$cycle" ] || fail "linked for the calls of a cycle it has $kept"
+bytes() { size "$1" | awk 'END { print $1 }'; }
+
 tests/stackwalk.sh "$build"
 tests/stack.sh "$archive" "$build"
-echo "archive: $called entries, $statuses statuses with a sentence, version $version, needs ${needed:-nothing}, no writable data"
+echo "archive: version $version, $called entries in $(bytes "$archive") bytes, those of a cycle on one node in $(bytes "$build/cycle"); $statuses statuses with a sentence;" \
+    "needs ${needed:-nothing}, no writable data"

@@ -201,6 +201,72 @@ fn decide(decision: &Decision, n: usize) {
     });
 }
 
+/// a cycle of the last node of N in which all agree: its state, and both copies of the frames of all others
+struct UnitCycle {
+    n: usize,
+    state: Vec<u8>,
+    heartbeats: Vec<[Vec<u8>; 2]>,
+    votes: Vec<[Vec<u8>; 2]>,
+}
+
+impl UnitCycle {
+    const LEN: usize = IMAGE_BYTES + 2 * HEARTBEAT_BYTES + 2 * VOTE_FRAME_BYTES + VOTES_BYTES;
+
+    fn of(n: usize) -> UnitCycle {
+        let copies = |frame: &dyn Fn(usize, u32) -> Vec<u8>| (0..n - 1).map(|q| [0, 1].map(|channel| frame(q, channel))).collect();
+        UnitCycle {
+            n,
+            state: image(&Unit { n, node: n - 1, state: State::Member(group(all(n))) }).to_vec(),
+            heartbeats: copies(&|q, channel| heartbeat(q, false, false, false, CYCLE, channel)),
+            votes: copies(&|q, channel| vote_frame(q, &agreeing(n), CYCLE, channel)),
+        }
+    }
+
+    /// the members heard
+    fn heard(&self, hand: &dyn NodeEnd) -> Set {
+        let mut members = 0;
+        for (q, [a, b]) in self.heartbeats.iter().enumerate() {
+            let mut heard = 0;
+            assert_eq!(hand.receive_heartbeat(self.n as u32, q as u32, CYCLE, a, b, &mut heard), 0);
+            members |= Set::from(heard == 1) << q;
+        }
+        members
+    }
+
+    /// the votes that arrived, in their slots
+    fn arrived(&self, hand: &dyn NodeEnd, slots: &mut [u8]) -> Set {
+        let mut arrived = 0;
+        for (q, [a, b]) in self.votes.iter().enumerate() {
+            assert_eq!(hand.receive_vote(self.n as u32, q as u32, CYCLE, a, b, slots, &mut arrived), 0);
+        }
+        arrived
+    }
+
+    /// the calls of the cycle in the order of gm.h; what they write is left behind: the state, the frames of both channels, and the slots
+    fn run(&self, hand: &dyn NodeEnd, left: &mut [u8]) -> u32 {
+        let (state, rest) = left.split_at_mut(IMAGE_BYTES);
+        let (heartbeats, rest) = rest.split_at_mut(2 * HEARTBEAT_BYTES);
+        let (votes, slots) = rest.split_at_mut(2 * VOTE_FRAME_BYTES);
+        let mut sent = [0; 4];
+        state.copy_from_slice(&self.state);
+        let (a, b) = heartbeats.split_at_mut(HEARTBEAT_BYTES);
+        hand.send_heartbeat(state, 0, 0, CYCLE, 0, a, &mut sent[0]);
+        hand.send_heartbeat(state, 0, 0, CYCLE, 1, b, &mut sent[1]);
+        let heard = self.heard(hand);
+        let (a, b) = votes.split_at_mut(VOTE_FRAME_BYTES);
+        hand.send_vote(state, heard, 0, CYCLE, 0, a, &mut sent[2]);
+        hand.send_vote(state, heard, 0, CYCLE, 1, b, &mut sent[3]);
+        assert_eq!(sent, [1; 4]);
+        let arrived = self.arrived(hand, slots);
+        hand.decide(state, heard, 0, slots, arrived)
+    }
+}
+
+fn unit_cycle(n: usize) {
+    let cycle = UnitCycle::of(n);
+    call("cycle of one unit by the node entries", n, 0, UnitCycle::LEN, &|hand, left| cycle.run(hand, left));
+}
+
 /// where things are
 struct Places {
     /// grouprun, the paper's run and plain C's
@@ -331,6 +397,7 @@ fn main() {
     for decision in &DECISIONS {
         COUNTS.into_iter().for_each(|n| decide(decision, n));
     }
+    COUNTS.into_iter().for_each(unit_cycle);
     on_tables(&places, single_cycles);
     on_tables(&places, run);
     on_tables(&places, framed_run);
