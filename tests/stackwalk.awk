@@ -172,16 +172,25 @@ function deepest(f,    k, bytes, most) {
     return result[f] = most
 }
 
+function walk(f) {
+    reach(f, first[f], 0)
+    while (ways > 0)
+        step(f, waiting[ways--])
+}
+
+# filling between functions is no code
+function refuse_unreached(    i) {
+    for (i = 1; i <= count; i++)
+        if (!(i in depth) && opcode[i] !~ /^(nop[wl]?|xchg|int3)$/)
+            fail_at(i, "no way leads here")
+}
+
 END {
     if (failed)
         exit 1
     for (k = 1; k <= many; k++)
-        reach(functions[k], first[functions[k]], 0)
-    for (; ways > 0; step(owner[i], i))
-        i = waiting[ways--]
-    for (i = 1; i <= count; i++)
-        if (!(i in depth) && opcode[i] !~ /^(nop[wl]?|xchg|int3)$/)
-            fail_at(i, "no way leads here")
+        walk(functions[k])
+    refuse_unreached()
     for (k = 1; k <= many; k++)
         print functions[k], deepest(functions[k]), chain[functions[k]]
 }

@@ -7,8 +7,8 @@ mkdir -p "$build"
 fail() { echo "stackwalk: $*" >&2; exit 1; }
 
 walk() { # NAME OPTION..: of the C on standard input
-    gcc -std=c11 -Wall -Wextra -Werror -Wno-infinite-recursion -O2 -fno-inline -fstack-usage "${@:2}" -c -x c - -o "$build/$1.o"
-    objdump -drz --no-show-raw-insn "$build/$1.o" | awk -v outside=memset -f tests/stackwalk.awk
+    gcc -std=c11 -Wall -Wextra -Werror -Wno-infinite-recursion -O2 -fno-inline -fstack-usage "${@:2}" -c -x c - -o "$build/$1.o" &&
+        objdump -drz --no-show-raw-insn "$build/$1.o" | awk -v outside=memset -f tests/stackwalk.awk
 }
 is() { # NAME FUNCTION BYTES: as walked
     local bytes
