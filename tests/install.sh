@@ -34,6 +34,11 @@ builds_host() {
     "$work/host" | cmp - examples/host.out || fail "the host prints another run"
 }
 
+# the C library's functions are bound before the first call, on which the header's stack figures rest
+binds_now() {
+    readelf -d "$1" | grep -q 'FLAGS.* NOW' || fail "a host is not linked with -z now"
+}
+
 check_host() {
     builds_host "-I$prefix/include" "-L$prefix/lib" -lgm
     tried+=("a host")
@@ -48,6 +53,7 @@ check_pkg_config() {
     [ "$version" = "$(sed -n 's/^VERSION = //p' Makefile)" ] || fail "gm.pc has version $version, the Makefile another"
     read -ra flags <<<"$(pkg-config --cflags --libs gm)"
     builds_host "${flags[@]}"
+    binds_now "$work/host"
     tried+=("gm.pc")
 }
 
@@ -63,6 +69,7 @@ check_cmake() {
     cmake -S "$work/project" -B "$work/cmake" -DCMAKE_PREFIX_PATH="$prefix" -DWANTED="${version%.*}" >"$log" 2>&1 || fail "CMake: $(<"$log")"
     cmake --build "$work/cmake" >"$log" 2>&1 || fail "CMake's build: $(<"$log")"
     "$work/cmake/host" | cmp - examples/host.out || fail "the host that CMake builds prints another run"
+    binds_now "$work/cmake/host"
     ! cmake -S "$work/project" -B "$work/later" -DCMAKE_PREFIX_PATH="$prefix" -DWANTED="${version%.*}.99" >"$log" 2>&1 || fail "a later version is found"
     grep -q "version: $version" "$log" || fail "CMake refuses a later version for another reason: $(<"$log")"
     tried+=("CMake files")
