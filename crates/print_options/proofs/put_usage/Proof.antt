@@ -1,0 +1,22 @@
+-- `print_options::put_usage` meets its contract. Assumes nothing.
+use borrow.Author.Needs.{needs}
+use Rattle.print_text.specs.Text.{ascii}
+use Rattle.print_options.specs.Options.{usageLine}
+use Rattle.print_options.proofs.put_usage.Statement.{statement}
+use Rattle.print_options.proofs.put_usage.Tie as tie
+
+slice-aggregate-put : tie.Need-slice-aggregate-put
+slice-aggregate-put c = search needs
+
+put-requires : tie.Need-put-requires
+put-requires c κs = search needs
+
+same-length : tie.Need-same-length
+same-length c = search needs
+
+returns : tie.Need-returns
+unfolding usageLine ascii
+returns c = c .before .before .put .ensures
+
+pub put-usage-spec : {M : Type 1} → statement M
+put-usage-spec = tie.close (tie.spec slice-aggregate-put put-requires same-length returns)

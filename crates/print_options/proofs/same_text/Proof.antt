@@ -1,0 +1,70 @@
+-- `print_options::same_text` meets its contract. The loop's invariant: what is left to be compared decides. Assumes nothing.
+use mathlib.Core.Path.{_≡_, refl, sym, _∙_}
+use Prim.Native.Nat.{_-_, _≤_}
+use native.Mathlib.Omega.{arith}
+use denote.Ref.{now}
+use lib.ListN.{length, drop}
+use Rattle.print_options.specs.Options.{sameText}
+use Rattle.print_options.proofs.Same.{other-length, equal-next, other-byte, none-left}
+use Rattle.print_options.proofs.same_text.Statement.{statement}
+use Rattle.print_options.proofs.same_text.Tie as tie
+
+abbrev Inv-loop : tie.InvT-loop
+Inv-loop s word i₀ i = (i ≤ length s) × (sameText s word ≡ sameText (drop i s) (drop i word))
+
+abbrev μ-loop : tie.MeasureT-loop
+μ-loop s word i₀ i = length s - i
+
+returns : tie.Need-returns Inv-loop μ-loop
+returns c = let a = c .before .args in sym (other-length (now (a .s)) (now (a .word)) (c .if1 .taken))
+
+loop-holds : tie.Need-loop-holds Inv-loop μ-loop
+loop-holds c = (omega arith, refl)
+
+shared-slice-read-if2 : tie.Need-shared-slice-read-if2 Inv-loop μ-loop
+shared-slice-read-if2 c = omega arith
+
+shared-slice-read-if2-2 : tie.Need-shared-slice-read-if2-2 Inv-loop μ-loop
+shared-slice-read-if2-2 c = omega arith
+
+returns-2 : tie.Need-returns-2 Inv-loop μ-loop
+returns-2 c =
+    let l = c .before .before .before .before in
+    let a = l .before .before .args in
+    sym (l .loop .inv .1 ∙ other-byte (now (a .s)) (now (a .word)) (l .loop .i) (omega arith) (omega arith) (c .if2 .taken))
+
+add-i : tie.Need-add-i Inv-loop μ-loop
+add-i c = omega arith
+
+loop-less : tie.Need-loop-less Inv-loop μ-loop
+loop-less c = omega arith
+
+loop-again : tie.Need-loop-again Inv-loop μ-loop
+loop-again c =
+    let l = c .before .before .before .before in
+    let a = l .before .before .args in (
+      omega arith,
+      l .loop .inv .1 ∙ equal-next (now (a .s)) (now (a .word)) (l .loop .i) (omega arith) (omega arith) (c .if2 .left),
+    )
+
+returns-3 : tie.Need-returns-3 Inv-loop μ-loop
+returns-3 c =
+    let l = c .before in
+    let a = l .before .before .args in
+    sym (l .loop .inv .1 ∙ none-left (now (a .s)) (now (a .word)) (l .loop .i) (omega arith) (omega arith))
+
+pub same-text-spec : {M : Type 1} → statement M
+same-text-spec =
+    tie.close
+    (tie.spec
+    Inv-loop
+    μ-loop
+    returns
+    loop-holds
+    shared-slice-read-if2
+    shared-slice-read-if2-2
+    returns-2
+    add-i
+    loop-less
+    loop-again
+    returns-3)

@@ -1,0 +1,111 @@
+// What the program's arguments ask for, and the text that answers each.
+ghost use mathlib.Core.Path.{_≡_};
+ghost use Prim.Native.Nat.{_+_, _≤_};
+ghost use lib.ListN.{length};
+ghost use Rattle.print_text.specs.Text.{Appended};
+ghost use Rattle.print_options.specs.Options.{sameText, askedBy, usageLine, helpText, answerText, goesAside};
+
+// What is asked for: the run of a table, the help, the version, or nothing that there is.
+pub enum Asked {
+    Run,
+    Help,
+    Version,
+    Wrong,
+}
+
+// Whether the two are the same bytes, none more and none fewer.
+fn same_text(s: &[u8], word: &[u8]) -> bool
+    ensures { λ r. ⌜ r ≡ sameText (now (s .entry)) (now (word .entry)) ⌝ }
+{
+    if s.len() != word.len() {
+        return false;
+    }
+    let mut i = 0;
+    while i < s.len() {
+        if s[i] != word[i] {
+            return false;
+        }
+        i += 1;
+    }
+    true
+}
+
+// What is asked for by so many arguments, the program's name among them, the one after the name being `first`.
+pub fn asked_by(count: usize, first: &[u8]) -> Asked
+    ensures { λ r. ⌜ r ≡ askedBy count (now (first .entry)) ⌝ }
+{
+    if count < 2 {
+        return Asked::Run;
+    }
+    if count > 2 {
+        return Asked::Wrong;
+    }
+    if same_text(first, b"--help") {
+        return Asked::Help;
+    }
+    if same_text(first, b"--version") {
+        return Asked::Version;
+    }
+    Asked::Wrong
+}
+
+fn put_usage(out: &mut [u8], at: usize) -> usize
+    requires { ⌜ at + 44 ≤ length (now out) ⌝ }
+    ensures { λ r. ⌜ Appended (now (out .entry)) at usageLine (now (out .exit)) r ⌝ }
+{
+    print_text::put(out, at, b"usage: grouprun [--help | --version] <table\n")
+}
+
+fn put_help(out: &mut [u8], at: usize) -> usize
+    requires { ⌜ at + 768 ≤ length (now out) ⌝ }
+    ensures { λ r. ⌜ Appended (now (out .entry)) at helpText (now (out .exit)) r ⌝ }
+{
+    let usage = put_usage(out, at);
+    print_text::put(
+        out,
+        usage,
+        b"\n\
+        Reads a fault table from standard input and prints its run: for each cycle\n\
+        whether the promise is kept, the group of record, who halted and who entered.\n\
+        \n\
+        \t--help     print this text, and read no table\n\
+        \t--version  print the version, and read no table\n\
+        \n\
+        A table is bytes; tabletext makes one from a text:\n\
+        \ttabletext table <press.txt | grouprun\n\
+        Input that is no table ends in a line 'refused' with a number. The byte where\n\
+        the refused record begins, and what is wrong with it, are told by\n\
+        \ttabletext text <press.tab\n\
+        The exit status is always 0: look for 'refused', and at standard error.\n\
+        The manual page is grouprun(1); see also tabletext(1).\n",
+    )
+}
+
+// The text that answers what is asked for.
+pub fn put_answer(out: &mut [u8], at: usize, a: Asked) -> usize
+    requires { ⌜ at + 768 ≤ length (now out) ⌝ }
+    ensures { λ r. ⌜ Appended (now (out .entry)) at (answerText a) (now (out .exit)) r ⌝ }
+{
+    match a {
+        Asked::Run => print_text::put(
+            out,
+            at,
+            b"grouprun: a table is expected on standard input, which is a terminal; see grouprun --help\n",
+        ),
+        Asked::Help => put_help(out, at),
+        Asked::Version => print_text::put(out, at, b"grouprun 0.2.0\n"),
+        Asked::Wrong => put_usage(out, at),
+    }
+}
+
+// Whether that text goes to standard error, and not to standard output.
+pub fn goes_aside(a: Asked) -> bool
+    ensures { λ r. ⌜ r ≡ goesAside a ⌝ }
+{
+    match a {
+        Asked::Run => true,
+        Asked::Help => false,
+        Asked::Version => false,
+        Asked::Wrong => true,
+    }
+}
