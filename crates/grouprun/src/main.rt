@@ -1,4 +1,4 @@
-// Reads a table from standard input and prints its run: read, call, write, and tell what failed.
+// Reads a table from standard input and prints its run: read, call, write, and tell what failed; or answers its arguments.
 ghost use mathlib.Core.Path.{_≡_};
 ghost use mathlib.Core.Bool.{false};
 ghost use Prim.Native.Nat.{_+_, _*_, _≤_, _<_};
@@ -8,6 +8,7 @@ ghost use Rattle.grouprun.specs.Run.{Ready, Goes, hasEnded, Ended};
 use libc::STDERR_FILENO;
 use libc::STDIN_FILENO;
 use libc::STDOUT_FILENO;
+use print_options::Asked;
 use print_stream::Taken;
 
 // A run between two reads: what the last call left, how many reads there were, and whether the last read or the last write failed.
@@ -137,7 +138,7 @@ fn tell(unread: bool, lost: bool) {
     }
 }
 
-fn main() {
+fn print_table() {
     let mut input = [0u8; 32768];
     let mut out = [0u8; 131072];
     let mut numbers = [0u32; 64];
@@ -145,4 +146,35 @@ fn main() {
     let mut bases = [0u64; 64];
     let run = print(&mut input, &mut out, &mut numbers, &mut sets, &mut bases);
     tell(run.unread, run.lost);
+}
+
+// What the arguments ask for. One that is longer than the buffer comes as empty, and no option is.
+fn read_arguments() -> Asked {
+    let mut first = [0u8; 16];
+    let length = os::arg(1, &mut first);
+    print_options::asked_by(os::arg_count(), &first[..length])
+}
+
+// Writes the answer, and says whether all of it was written.
+fn answer(asked: Asked) -> bool {
+    let mut text = [0u8; 768];
+    let end = print_options::put_answer(&mut text, 0, asked);
+    if print_options::goes_aside(asked) {
+        io::write_all(STDERR_FILENO, &text[..end])
+    } else {
+        io::write_all(STDOUT_FILENO, &text[..end])
+    }
+}
+
+fn main() {
+    let asked = read_arguments();
+    if let Asked::Run = asked {
+        if libc::isatty(STDIN_FILENO) == 1 {
+            answer(asked);
+        }
+        print_table();
+    } else {
+        let done = answer(asked);
+        tell(false, !done);
+    }
 }
