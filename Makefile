@@ -1,5 +1,5 @@
 # The commands of this repository. They need the Rattle kit's `rt` on the path, and gcc and g++ for the C side.
-# The version of the delivery; include/gm.h says it again, and tests/archive.sh holds the two equal.
+# The version of the delivery; include/gm.h and what `grouprun --version` prints say it again, and tests/archive.sh and arguments-test hold them equal.
 VERSION = 0.2.0
 PREFIX = /usr/local
 ARCHIVE = target/staticlib/libgm.a
@@ -32,7 +32,7 @@ INSTALLED = $(call below,bin,$(PROGRAMS)) lib/libgm.a $(HEADERS) $(PACKAGES) $(c
 TO = $(DESTDIR)$(PREFIX)
 
 .PHONY: run test host archive compare bench stack format edits install uninstall load load-test load-full load-program load-archive
-.PHONY: archive-test compare-test examples-test vectors-test badinput-test text-test trace-test install-test
+.PHONY: archive-test compare-test examples-test vectors-test badinput-test text-test arguments-test trace-test install-test
 
 # the run that the product paper prints: its table is made from a text, and its lines must be those of the paper
 run: $(GROUPRUN) $(TABLETEXT)
@@ -42,7 +42,7 @@ run: $(GROUPRUN) $(TABLETEXT)
 
 # the whole gate; its last line is 'N passed, 0 failed'
 test: format trace-test archive
-	@$(MAKE) --no-print-directory -j2 --output-sync archive-test host run examples-test vectors-test badinput-test text-test install-test
+	@$(MAKE) --no-print-directory -j2 --output-sync archive-test host run examples-test vectors-test badinput-test text-test arguments-test install-test
 	@$(MAKE) --no-print-directory -j2 --output-sync compare-test load-test
 	rt ci
 
@@ -107,6 +107,10 @@ examples-test: $(GROUPRUN) $(TABLETEXT)
 # texts and tables turn into each other and back
 text-test: $(TABLETEXT)
 	@tests/text.sh $(TABLETEXT) $(BUILD)
+
+# arguments are answered, and read no table; on a terminal there is a hint
+arguments-test: $(GROUPRUN) $(TABLETEXT)
+	@tests/arguments.sh $(GROUPRUN) $(TABLETEXT) $(VERSION) $(BUILD)
 
 # what the program does with slow, closed, full and failing ends and with a table of BYTES bytes, and the archive in threads and under memory checkers
 load: load-program load-archive

@@ -16,7 +16,7 @@ abbrev μ-loop : tie.MeasureT-loop
 μ-loop s word i₀ i = length s - i
 
 returns : tie.Need-returns Inv-loop μ-loop
-returns c = let a = c .before .args in sym (other-length (now (a .s)) (now (a .word)) (c .if1 .taken))
+returns c = let a = c .before .args in sym (other-length (now (a .s)) (now (a .word)) (λ e. omega (arith, e, c .if1 .taken)))
 
 loop-holds : tie.Need-loop-holds Inv-loop μ-loop
 loop-holds c = (omega arith, refl)

@@ -1,0 +1,106 @@
+#!/usr/bin/env bash
+# What grouprun does with arguments and on a terminal, and the line of its manual page that turns a run into an exit status.
+# Usage: arguments.sh GROUPRUN TABLETEXT VERSION BUILD-FOLDER
+set -euo pipefail
+grouprun=$(realpath "$1") tabletext=$(realpath "$2") version=$3 here=$(realpath "$(dirname "$0")")
+work=$(mktemp -d -p "$4")
+trap 'rm -rf "$work"' EXIT
+manual=$here/../man/grouprun.1 table=$work/p1.tab out=$work/out message=$work/message rest=$work/rest
+unwritten="grouprun: the output could not be written" count=0
+fail() { echo "tests/arguments: $*" >&2; exit 1; }
+"$tabletext" table <"$here/../examples/p1.txt" >"$table"
+
+# runs a case with the table as standard input: status 0, and nothing of the table is read
+answers() { # ARGUMENT..
+    name="'$*'" name=${name:0:80}
+    { timeout 20 "$grouprun" "$@" >"$out" 2>"$message" && cat >"$rest"; } <"$table" || fail "$name: status $?"
+    cmp -s "$rest" "$table" || fail "$name reads the table"
+    count=$((count + 1))
+}
+silent() { [ ! -s "$1" ] || fail "$2: '$(head -c 80 "$1")' where nothing is expected"; }
+says() { [ "$(<"$message")" = "$1" ] || fail "$2: '$(<"$message")' on standard error instead of '$1'"; }
+
+# ---- what can be asked for
+answers --version
+silent "$message" --version
+echo "grouprun $version" | cmp -s - "$out" || fail "--version prints '$(<"$out")', and the Makefile's version is $version"
+answers --help
+silent "$message" --help
+cp "$out" "$work/help"
+usage=$(head -n 1 "$work/help")
+[[ $usage == "usage: grouprun "* ]] || fail "the help begins with '$usage'"
+for word in --help --version table refused tabletext 'grouprun(1)'; do
+    grep -qF -e "$word" "$work/help" || fail "the help does not name $word"
+done
+expand "$work/help" | awk 'length > 80 { exit 1 }' || fail "a line of the help has more than 80 columns"
+# the manual page has the options of the help, and no others
+diff <(sed -nE 's/^\t(--[a-z]+) .*/\1/p' "$work/help") <(sed -nE '/^\.SH OPTIONS/,/^\.SH [^O]/s/^\.B \\-\\-/--/p' "$manual") ||
+    fail "the options of the help (<) are not those of the manual page (>)"
+
+# ---- everything else: one line on standard error, and nothing on standard output
+wrong() { # ARGUMENT..
+    answers "$@"
+    silent "$out" "$name"
+    says "$usage" "$name"
+    [ "$(wc -l <"$message")" -eq 1 ] || fail "$name: not one line on standard error"
+}
+long=$(printf 'x%.0s' {1..100000})
+for one in '' - -- -h -V --hel --helpx --Help help --versio --version=1 ' --help' $'--help\n' "$table" --help/5678901234 --help/56789012345 "--version$long" "$long"; do
+    wrong "$one"
+done
+wrong --help x
+wrong --version --help
+wrong --help ''
+wrong '' ''
+wrong a b c
+
+# ---- what is asked for, and cannot be written
+for option in --help --version; do
+    "$grouprun" "$option" >/dev/full 2>"$message" || fail "$option, full output: status $?"
+    says "$unwritten" "$option, full output"
+    "$grouprun" "$option" >&- 2>"$message" || fail "$option, closed output: status $?"
+    says "$unwritten" "$option, closed output"
+    count=$((count + 2))
+done
+"$grouprun" x >"$out" 2>&- || fail "a wrong argument, closed standard error: status $?"
+silent "$out" "a wrong argument, closed standard error"
+
+# ---- no argument: the run, with a hint before it where the table would have to be typed
+"$grouprun" <"$table" >"$out" 2>"$message"
+silent "$message" "a run"
+cmp -s "$out" "$here/../examples/p1.out" || fail "without an argument another run is printed"
+: | "$grouprun" >"$out" 2>"$message"
+silent "$message" "an empty pipe"
+script -qec "'$grouprun' >'$work/typed' 2>'$message'" /dev/null </dev/null
+cmp -s "$out" "$work/typed" || fail "a terminal without input prints another run than an empty pipe"
+[[ $(<"$message") == "grouprun: a table is expected "*"grouprun --help" && $(wc -l <"$message") -eq 1 ]] || fail "a terminal: '$(<"$message")' on standard error"
+script -qec "'$grouprun' --version 2>&1 >'$out' | cmp - /dev/null" /dev/null </dev/null || fail "--version on a terminal is answered with a hint"
+count=$((count + 6))
+
+# ---- the shell of the manual page that turns a run into a status: 0 for a whole run alone
+judge=$(sed -n '/^\$ \\fBerr=/,/\\fP$/p' "$manual" | sed -e 's/^\$ \\fB//' -e 's/\\fP$//' -e 's/\\-/-/g' -e "s/\\\\(aq/'/g")
+[ -n "$judge" ] || fail "the manual page has no shell that begins with err="
+press=$work/press.tab run=$work/run.txt
+status() { (cd "$work" && PATH=$(dirname "$grouprun"):$PATH "$1" -c "$2$judge" 2>/dev/null) && echo whole || echo not; } # SHELL BEFORE
+judged() { # NAME EXPECTED [BEFORE]
+    local shell
+    for shell in sh bash; do [ "$(status "$shell" "${3-}")" = "$2" ] || fail "$1, in $shell: the shell of the manual page does not say $2"; done
+    count=$((count + 1))
+}
+cp "$table" "$press"
+judged "a whole run" whole
+cmp -s "$run" "$here/../examples/p1.out" || fail "the shell of the manual page keeps another run"
+judged "a run ended by a signal" not 'ulimit -f 0; '
+judged "a run that reaches the limit of a file" not "trap '' XFSZ; ulimit -f 0; "
+ln -sf /dev/full "$run"
+judged "a run that cannot be written" not
+rm "$run"
+head -c 100 "$table" >"$press"
+judged "a refused table" not
+: >"$press"
+judged "an empty table" not
+rm "$press"
+judged "no table" not
+mkdir "$press"
+judged "a table that cannot be read" not
+echo "tests/arguments: $count cases as named; the version is $version"
