@@ -1,5 +1,5 @@
 #!/usr/bin/env bash
-# What grouprun does with arguments and on a terminal, and the line of its manual page that turns a run into an exit status.
+# What grouprun does with arguments and on a terminal, and the shell of its manual page that turns a run into an exit status.
 # Usage: arguments.sh GROUPRUN TABLETEXT VERSION BUILD-FOLDER
 set -euo pipefail
 grouprun=$(realpath "$1") tabletext=$(realpath "$2") version=$3 here=$(realpath "$(dirname "$0")")

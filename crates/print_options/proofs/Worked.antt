@@ -1,4 +1,4 @@
--- What some arguments ask for and how that is answered, by computation; and what holds of every answer. Assumes nothing.
+-- What some arguments ask for, by computation; and what holds of every answer. Assumes nothing.
 use mathlib.Core.Path.{_≡_, refl}
 use mathlib.Core.Bool.{Bool, true, false, not, _&&_, _||_}
 use mathlib.Core.List.{List, [], _∷_, map}
