@@ -52,7 +52,7 @@ helpText =
     ++ (ascii "\t--version  print the version, and read no table\n"
     ++ (ascii "\n"
     ++ (ascii "A table is bytes; tabletext makes one from a text:\n"
-    ++ (ascii "\ttabletext table <press.txt | grouprun\n"
+    ++ (ascii "\ttabletext table <press.txt >press.tab && grouprun <press.tab\n"
     ++ (ascii "Input that is no table ends in a line 'refused' with a number. The byte where\n"
     ++ (ascii "the refused record begins, and what is wrong with it, are told by\n"
     ++ (ascii "\ttabletext text <press.tab\n"

@@ -72,7 +72,7 @@ fn put_help(out: &mut [u8], at: usize) -> usize
         \t--version  print the version, and read no table\n\
         \n\
         A table is bytes; tabletext makes one from a text:\n\
-        \ttabletext table <press.txt | grouprun\n\
+        \ttabletext table <press.txt >press.tab && grouprun <press.tab\n\
         Input that is no table ends in a line 'refused' with a number. The byte where\n\
         the refused record begins, and what is wrong with it, are told by\n\
         \ttabletext text <press.tab\n\
