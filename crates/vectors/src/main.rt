@@ -1,4 +1,6 @@
-// Published values of the two checks, and frames made by other code: what is printed here must be the stored output.
+// Published values of the frame check, and header checks and frames made by other code: what is printed here must be the stored output.
+// Published are the checks of the digits 1 to 9, as CRC-24/FLEXRAY-A and -B. The header checks and frames are those of the plain C in bench/plain and of the
+// Rust in tests/host, which agree.
 ghost use Prim.Native.Nat.{_<_};
 use libc::STDOUT_FILENO;
 use rules::Vote;
@@ -39,14 +41,45 @@ fn show_bytes(s: &[u8]) {
     end_line();
 }
 
-fn show_vote(channel: u32) {
-    let group = Group {
+// The frames of one vote on both channels.
+fn show_vote(q: u32, vote: Vote, cycle: u32)
+    requires { ⌜ q < 64 ⌝ }
+    requires { ⌜ cycle < 64 ⌝ }
+{
+    let a = frame_writing::write_vote(q, vote, cycle, 0);
+    show_bytes(&a);
+    let b = frame_writing::write_vote(q, vote, cycle, 1);
+    show_bytes(&b);
+}
+
+// A founding member's first vote, and one in which no byte stands twice: there no two of G, M, B and V can change places unseen.
+fn show_votes() {
+    let founding = Group {
         number: 0,
         set: 0x1f,
         base: 0x1f,
     };
-    let frame = frame_writing::write_vote(0, Vote { group, view: 0x1f }, 0, channel);
-    show_bytes(&frame);
+    show_vote(
+        0,
+        Vote {
+            group: founding,
+            view: 0x1f,
+        },
+        0,
+    );
+    let group = Group {
+        number: 0x3c5a7e91,
+        set: 0x0123456789abcdef,
+        base: 0x1133557799bbddff,
+    };
+    show_vote(
+        15,
+        Vote {
+            group,
+            view: 0xf0e1d2c3b4a59687,
+        },
+        42,
+    );
 }
 
 fn show_headers() {
@@ -67,12 +100,11 @@ fn show_frames() {
     show_bytes(&joining);
     let starting = frame_writing::write_heartbeat(63, 0, 1, 1, 9, 0);
     show_bytes(&starting);
-    show_vote(0);
-    show_vote(1);
 }
 
 fn main() {
     show_headers();
     show_check(b"123456789");
     show_frames();
+    show_votes();
 }
