@@ -1,6 +1,7 @@
 #!/usr/bin/env bash
-# Whether docs/TRACE.md is whole: every sentence of the product paper has its row, no cell is empty, every name that a row cites is there, and every
-# must-fail edit is cited, and names in its line `refused by:` a law or contract that is there. Usage: trace.sh [FILE], by default docs/TRACE.md
+# Whether docs/TRACE.md is whole: every sentence of the product paper has its row, no cell is empty and no row too long to read, every name that a row cites
+# is there, and every must-fail edit is cited, and names in its line `refused by:` a law or contract that is there. Usage: trace.sh [FILE], by default
+# docs/TRACE.md
 set -euo pipefail
 root=$(cd "$(dirname "$0")/.." && pwd)
 file=$(realpath "${1:-$root/docs/TRACE.md}")
@@ -9,52 +10,21 @@ cd "$root"
 # how many sentences each section of the paper has, by the section's short name; the examples are counted from 0
 declare -A sentences=([product]=12 [state]=5 [cycle]=16 [faults]=9 [frames]=12 [table]=5 [refused]=16 [printed]=5 [examples]=10 [mistakes]=4
     [forms]=16 [questions]=20)
+# what a reader takes in at once: characters of a row, names of a cell
+longest=420 most=4
 declare -A there=() cited=() last=()
 rows=0 wrong=0
 complain() { echo "tests/trace: $*" >&2; wrong=$((wrong + 1)); }
 [ -f "$file" ] || { complain "no file $file"; exit 1; }
 
-# what can be cited, but for files: one name a line, in the form in which it is cited
-declarations() { # of definitions and theorems
-    find crates -name '*.antt' -print0 | xargs -0 awk '
-        { i = 1 }
-        $i == "unfoldable" || $i == "abbrev" { i++ }
-        $i == "pub" { i++ }
-        ($i == "record" || $i == "data") && NF > i { print substr(FILENAME, 8) ": " $(i + 1); next }
-        $(i + 1) == ":" || $(i + 1) ~ /^\{/ { print substr(FILENAME, 8) ": " $i }'
-}
-contracts() { # functions with an ensures, and types
-    awk '
-        FNR == 1 { split(FILENAME, path, "/"); name = "" }
-        match($0, /^(pub )?(struct|enum) [A-Za-z]+/) { n = split(substr($0, 1, RLENGTH), word, " "); print path[2] "::" word[n] }
-        match($0, /fn [a-z_0-9]+[(<]/) { name = substr($0, RSTART + 3, RLENGTH - 4) }
-        $1 == "ensures" && name != "" { print path[2] "::" name }
-        /^[{}]/ { name = "" }' crates/*/src/*.rt
-}
-functions() { # of the programs of the tests
-    local source
-    for source in tests/*.sh tests/*.c examples/*.c; do
-        sed -nE "s#^([a-z_]+)\(\) .*#$source: \1#p; s#^[a-z].*[ *]([a-z_0-9]+)\([^;]*\$#$source: \1#p" "$source"
-    done
-    find tests/host/src -name '*.rs' | while read -r source; do sed -nE "s#^.*fn ([a-z_0-9]+)[<(].*#$source: \1#p" "$source"; done
-}
-edits() { find crates -path '*/must-fail/*.edit' | sed -E 's#^crates/([^/]+)/must-fail/(.*)\.edit$#\1/\2#' | sort; }
-index() {
-    declarations
-    contracts
-    functions
-    edits
-    sed -nE 's/^#define ([A-Z_]+) .*/gm.h: \1/p; s/^uint32_t ([a-z_]+)\(.*/gm.h: \1/p' include/gm.h
-    sed -nE 's/^([0-9]+)\. .*/DECISIONS \1/p' docs/DECISIONS.md
-}
-
 # The cells of every row: line, column and text, divided by tabs; a row that is none is one line with the column `row`. The line before a line of dashes
 # names the columns, of a table of sentences or of edits.
 cells() {
-    awk -v OFS='\t' '
+    awk -v OFS='\t' -v longest="$longest" '
         function trim(s) { gsub(/^ +| +$/, "", s); return s }
         function flush(  i, n, c) {
             n = split(row, c, "|") - 2
+            if (length(row) > longest) print at, "row", length(row) " characters, and at most " longest " may be"
             if (row != "" && n != columns) print at, "row", n " cells, and not " columns
             else for (i = 1; i <= n; i++) print at, title[i], trim(c[i + 1])
             row = ""
@@ -73,24 +43,29 @@ cells() {
         END { flush() }' "$file"
 }
 
-# a name in backticks must have one of the forms, and be there
-form='^([a-z_]+/(specs|proofs)/[^ ]+\.antt: [^ ]+|[a-z_]+::[A-Za-z_0-9]+|gm\.h: [A-Za-z_]+|DECISIONS [0-9]+|[a-z.][^ :]*/[^ :]+(: [a-z_0-9]+)?)$'
+# a name in backticks must be there, stand for one place, and be of the kind of its column
 name() { # LINE COLUMN NAME
-    [[ $3 =~ $form ]] || { complain "line $1, $2: \`$3\` has a form that is not known"; return; }
+    local place=${there[$3]-}
     cited[$3]=yes
-    [ -n "${there[$3]+yes}" ] || [[ $3 == */* && -e $3 ]] || complain "line $1, $2: \`$3\` is not there"
+    case $2:$place in
+        *:) complain "line $1, $2: \`$3\` is not there" ;;
+        *:several) complain "line $1, $2: \`$3\` stands for several places" ;;
+        definition:crates/*/proofs/* | "theorem or contract":crates/*/specs/*) complain "line $1, $2: \`$3\` is no $2: $place" ;;
+    esac
 }
 
-# a cell is not empty, and its names are there; where no edit is named, it says so
+# a cell is not empty, and its few names are there; where no edit is named, it says so
 cell() { # LINE COLUMN TEXT
-    local rest=$3 found= one
+    local rest=$3 found= one count=0
     [ -n "$3" ] || complain "line $1, $2: an empty cell"
     while [[ $rest == *\`*\`* ]]; do
         rest=${rest#*\`} one=${rest%%\`*} rest=${rest#*\`}
         name "$1" "$2" "$one"
-        [ ! -f "crates/${one%%/*}/must-fail/${one#*/}.edit" ] || found=yes
+        count=$((count + 1))
+        [[ ${there[$one]-} != */must-fail/* ]] || found=yes
     done
     [[ $rest != *\`* ]] || complain "line $1, $2: a backtick too many"
+    [ "$count" -le "$most" ] || complain "line $1, $2: $count names, and at most $most may be"
     [ "$2" != "must-fail edit" ] || [ -n "$found" ] || [[ $3 == none:* ]] || complain "line $1, $2: neither an edit nor 'none:'"
 }
 
@@ -104,7 +79,23 @@ key() { # LINE TEXT
     last[$section]=$number rows=$((rows + 1))
 }
 
-while read -r one; do there[$one]=yes; done < <(index)
+# an edit is cited, and what refuses it, a contract or a law by its whole path, is of its own crate
+edit() { # NAME FILE
+    local crate=${1%%/*} refuser law
+    [ -n "${cited[$1]+yes}" ] || complain "no row cites the edit \`$1\`"
+    refuser=$(sed -n 's/^refused by: //p' "$2")
+    [ -n "$refuser" ] || { complain "the edit \`$1\` has no line 'refused by:'"; return; }
+    law=${refuser#"$crate/proofs/"}
+    case $refuser in
+        "$crate::"*) [ -n "${there[$refuser]+yes}" ] && return ;;
+        "$crate/proofs/"*) [ -n "${there[$crate/${law/.antt: /: }]+yes}" ] && return ;;
+    esac
+    complain "the edit \`$1\` is refused by \`$refuser\`, which is no law or contract of its crate"
+}
+
+while IFS=$'\t' read -r one place line; do
+    [ -z "${there[$one]+yes}" ] && there[$one]=$place:$line || there[$one]=several
+done < <(tools/names.sh)
 while IFS=$'\t' read -r line column text; do
     [ "$column" != row ] || { complain "line $line: $text"; continue; }
     [ "$column" != sentence ] || key "$line" "$text"
@@ -113,11 +104,11 @@ done < <(cells)
 for section in "${!sentences[@]}"; do
     [ "${last[$section]:-none}" = "${sentences[$section]}" ] || complain "the last sentence of $section is not ${sentences[$section]}"
 done
-while read -r one; do
-    [ -n "${cited[$one]+yes}" ] || complain "no row cites the edit \`$one\`"
-    refuser=$(sed -n 's/^refused by: //p' "crates/${one%/*}/must-fail/${one#*/}.edit")
-    [ -n "$refuser" ] || { complain "the edit \`$one\` has no line 'refused by:'"; continue; }
-    [[ $refuser == "${one%/*}"[:/]* && -n "${there[$refuser]+yes}" ]] || complain "the edit \`$one\` is refused by \`$refuser\`, which is no law or contract of its crate"
-done < <(edits)
+edits=0
+for one in crates/*/must-fail/*.edit; do
+    label=${one#crates/} label=${label%.edit}
+    edit "${label/\/must-fail\///}" "$one"
+    edits=$((edits + 1))
+done
 [ "$wrong" -eq 0 ] || exit 1
-echo "trace: $rows sentences, ${#cited[@]} names, $(edits | wc -l) edits, all there"
+echo "trace: $rows sentences, ${#cited[@]} names, $edits edits, all there"
