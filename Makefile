@@ -31,7 +31,7 @@ INSTALLED = $(call below,bin,$(PROGRAMS)) lib/libgm.a $(HEADERS) $(PACKAGES) $(c
     $(call below,share/man/man3,$(LIBRARY_MANUALS)) $(call below,share/doc/gm,$(DOCUMENTS)) $(call below,share/doc/gm/examples,$(EXAMPLES))
 TO = $(DESTDIR)$(PREFIX)
 
-.PHONY: run test host archive compare bench stack format edits install uninstall load load-test load-full load-program load-archive
+.PHONY: run test host archive compare bench stack format trace edits install uninstall load load-test load-full load-program load-archive
 .PHONY: archive-test compare-test examples-test vectors-test badinput-test text-test arguments-test trace-test install-test
 
 # the run that the product paper prints: its table is made from a text, and its lines must be those of the paper
@@ -150,9 +150,15 @@ stack: archive
 format:
 	rt fmt --check
 
-# docs/TRACE.md names what is there, and every wrong edit, and each of these names what refuses it; docs/DEMANDS.md quotes what is there; what is listed by hand is whole
-trace-test:
+# docs/TRACE.md for a browser: every name is a link to its file and line
+trace:
+	@tools/trace.sh
+
+# docs/TRACE.md names what is there, and every wrong edit, and each of these names what refuses it; its page leads to what it names; docs/DEMANDS.md quotes what is
+# there; what is listed by hand is whole
+trace-test: trace
 	@tests/trace.sh
+	@tests/links.sh
 	@tests/lists.sh
 	@tests/demands.sh
 
