@@ -3,15 +3,15 @@
 set -euo pipefail
 cd "$(dirname "$0")/.."
 
-# files and folders, each by the end of its path that no other has, a folder by two parts of it or more
+# Files and folders, each by the end of its path that no other has, a folder by two parts of it or more. The path comes with its type before it, d for a folder.
 places() {
     find tests examples crates/*/stdout -name target -prune -o -printf '%y/%p\n' | awk -F / '
         function end(parts, n, k,  i, s) { s = parts[n]; for (i = 1; i < k; i++) s = parts[n - i] "/" s; return s }
-        { all[NR] = $0; for (k = 1; k < NF; k++) { split($0, parts, "/"); count[end(parts, NF, k)]++ } }
+        { all[NR] = $0; split($0, parts, "/"); for (k = 1; k < NF; k++) count[end(parts, NF, k)]++ }
         END {
             for (i = 1; i <= NR; i++) {
                 n = split(all[i], parts, "/")
-                k = parts[1] == "d" ? 2 : 1
+                k = parts[1] == "d" && n > 2 ? 2 : 1
                 while (k < n - 1 && count[end(parts, n, k)] > 1) k++
                 print end(parts, n, k) "\t" end(parts, n, n - 1) "\t" 1
             }

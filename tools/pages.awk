@@ -3,7 +3,8 @@
 BEGIN {
     style = "body { font: 15px/1.4 sans-serif; margin: 1.5em; color: #222 }\n" \
         "pre { counter-reset: line; white-space: pre-wrap }\n" \
-        "pre span::before { counter-increment: line; content: counter(line); display: inline-block; width: 3em; margin-right: 1em; text-align: right; color: #999 }\n" \
+        "pre span::before { counter-increment: line; content: counter(line); display: inline-block; width: 3em; margin-right: 1em;\n" \
+        "    text-align: right; color: #999 }\n" \
         "pre span:target { background: #fff3c4 }\n"
 }
 

@@ -9,7 +9,8 @@ BEGIN {
         "tr:target td { background: #fff3c4 }\n" \
         "code { font-size: 88% }\n" \
         "a { color: #0645ad; text-decoration: none }\n" \
-        "a:hover { text-decoration: underline }\n"
+        "a:hover { text-decoration: underline }\n" \
+        "td a { display: inline-block; max-width: 100% }\n"
 }
 
 # a name is a link to its place; other code is only shown
