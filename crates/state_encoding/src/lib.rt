@@ -7,7 +7,7 @@ use state::Node;
 use state::Reason;
 use state::State;
 
-fn reason_code(r: Reason) -> u8
+pub fn reason_code(r: Reason) -> u8
     ensures { λ c. ⌜ c ≡ reasonCode r ⌝ }
 {
     match r {
@@ -18,7 +18,7 @@ fn reason_code(r: Reason) -> u8
 }
 
 // What stands in the image of a node with no group.
-fn no_group() -> Group
+pub fn no_group() -> Group
     ensures { λ r. ⌜ r ≡ noGroup ⌝ }
 {
     Group {
