@@ -5,7 +5,6 @@ use Prim.Native.Nat.{ℕ}
 use native.Mathlib.Omega.{arith}
 use Rattle.bigendian.proofs.Laws.{Bytes}
 use Rattle.state.specs.declared.Group.{Group}
-use Rattle.state.specs.declared.Node.{Node}
 use Rattle.state.specs.declared.Decoded.{Decoded}
 use Rattle.state.specs.declared.Decoded.the-variants.{Good, WrongLength, Malformed}
 use Rattle.state.specs.Image.{layout, imageOf, decoded, refusal}
@@ -19,16 +18,12 @@ laidOut s kind reason node n g =
     layout (kindLeft s kind) (reasonLeft s reason) (nodeLeft s node) (countLeft s n)
     (record { number = numberLeft s (g .number); set = setLeft s (g .set); base = baseLeft s (g .base) })
 
-of-node : (s : List ℕ) (found : Node) (kind reason node n : ℕ) (g : Group) → decoded s ≡ Good found → laidOut s kind reason node n g ≡ imageOf found
-unfolding kindLeft reasonLeft nodeLeft countLeft numberLeft setLeft baseLeft imageOf
-of-node s found kind reason node n g e = simp e
-
 -- of every image that is accepted
 pub whole-again : (s : List ℕ) (kind reason node n : ℕ) (g : Group) → Bytes s → imageStatus s ≡ 0 → laidOut s kind reason node n g ≡ s
-unfolding imageStatus
+unfolding imageStatus kindLeft reasonLeft nodeLeft countLeft numberLeft setLeft baseLeft imageOf
 whole-again s kind reason node n g b accepted = go (decoded s) refl
   where
     go : (d : Decoded) → decoded s ≡ d → laidOut s kind reason node n g ≡ s
-    go (Good found) e = of-node s found kind reason node n g e ∙ image-back s found b e
+    go (Good found) e = simp e (image-back s found b e)
     go WrongLength e = let z : _≡_ {A = ℕ} 3 0 = sym (ap refusal e) ∙ accepted in absurd (omega arith)
     go Malformed e = let z : _≡_ {A = ℕ} 4 0 = sym (ap refusal e) ∙ accepted in absurd (omega arith)

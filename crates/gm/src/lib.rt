@@ -5,6 +5,7 @@ ghost use lib.ListN.{length};
 ghost use Rattle.state.specs.Image.{decoded};
 ghost use Rattle.entry_lent.specs.Refusals.{imageStatus};
 ghost use Rattle.entry_stop_start.specs.StopStart.{stopLeft, startLeft};
+ghost use Rattle.entry_state.specs.Apart.{kindLeft, reasonLeft, nodeLeft, countLeft, numberLeft, setLeft, baseLeft};
 ghost use Rattle.entry_begin.specs.Begin.{beginStatus, beginLeft};
 ghost use Rattle.entry_write_heartbeat.specs.Heartbeats.{writeHeartbeatStatus, writeHeartbeatLeft};
 ghost use Rattle.entry_send_heartbeat.specs.Beating.{sendHeartbeatStatus, sendHeartbeatLeft, sendHeartbeatSent};
@@ -41,6 +42,30 @@ pub extern "C" fn gm_start(state: &mut [u8]) -> u32
     ensures { λ _. ⌜ now (state .exit) ≡ startLeft (now (state .entry)) ⌝ }
 {
     entry_stop_start::start(state)
+}
+
+// A state taken apart into its numbers.
+#[no_mangle]
+pub extern "C" fn gm_state(
+    state: &[u8],
+    kind: &mut u32,
+    reason: &mut u32,
+    node: &mut u32,
+    n: &mut u32,
+    number: &mut u32,
+    set: &mut u64,
+    base: &mut u64,
+) -> u32
+    ensures { λ r. ⌜ r ≡ imageStatus (now (state .entry)) ⌝ }
+    ensures { λ _. ⌜ now (kind .exit) ≡ kindLeft (now (state .entry)) (now (kind .entry)) ⌝ }
+    ensures { λ _. ⌜ now (reason .exit) ≡ reasonLeft (now (state .entry)) (now (reason .entry)) ⌝ }
+    ensures { λ _. ⌜ now (node .exit) ≡ nodeLeft (now (state .entry)) (now (node .entry)) ⌝ }
+    ensures { λ _. ⌜ now (n .exit) ≡ countLeft (now (state .entry)) (now (n .entry)) ⌝ }
+    ensures { λ _. ⌜ now (number .exit) ≡ numberLeft (now (state .entry)) (now (number .entry)) ⌝ }
+    ensures { λ _. ⌜ now (set .exit) ≡ setLeft (now (state .entry)) (now (set .entry)) ⌝ }
+    ensures { λ _. ⌜ now (base .exit) ≡ baseLeft (now (state .entry)) (now (base .entry)) ⌝ }
+{
+    entry_state::read(state, kind, reason, node, n, number, set, base)
 }
 
 // A heartbeat from numbers, into 10 bytes.
