@@ -46,6 +46,56 @@ static void states(void)
     expect("gm_start", gm_start(other, sizeof other), GM_REFUSED_STATE);
 }
 
+/* the seven numbers of a state, in the order of its image */
+struct numbers {
+    uint32_t kind, reason, node, n, number;
+    uint64_t set, base;
+};
+
+static uint32_t take_apart(const uint8_t *bytes, size_t len, struct numbers *x)
+{
+    return gm_state(bytes, len, &x->kind, &x->reason, &x->node, &x->n, &x->number, &x->set, &x->base);
+}
+
+static void holds(const struct numbers *x, const struct numbers *y)
+{
+    if (x->kind != y->kind || x->reason != y->reason || x->node != y->node || x->n != y->n || x->number != y->number || x->set != y->set
+        || x->base != y->base) {
+        fprintf(stderr, "gm_state left other numbers\n");
+        exit(1);
+    }
+}
+
+/* states of each kind and reason as bytes, beside their numbers; each is refused when it is cut, and with a kind that is none */
+static void states_apart(void)
+{
+    static const struct {
+        uint8_t bytes[GM_STATE_BYTES];
+        struct numbers held;
+    } known[] = {
+        {{0, 0, 4, 5}, {0, 0, 4, 5, 0, 0, 0}},
+        {{0, 1, 0, 2}, {0, 1, 0, 2, 0, 0, 0}},
+        {{0, 2, 63, 64}, {0, 2, 63, 64, 0, 0, 0}},
+        {{1, 0, 9, 17}, {1, 0, 9, 17, 0, 0, 0}},
+        {{2, 0, 3, 64, 0xA1, 0xA2, 0xA3, 0xA4, 1, 2, 3, 4, 5, 6, 7, 8, 0xF1, 0xF2, 0xF3, 0xF4, 0xF5, 0xF6, 0xF7, 0xF8},
+         {2, 0, 3, 64, 0xA1A2A3A4, 0x0102030405060708, 0xF1F2F3F4F5F6F7F8}},
+    };
+    static const struct numbers before = {91, 92, 93, 94, 95, 96, 97};
+    const unsigned count = sizeof known / sizeof known[0];
+    for (unsigned k = 0; k < count; k++) {
+        struct numbers got = before;
+        uint8_t wrong[GM_STATE_BYTES];
+        memcpy(wrong, known[k].bytes, sizeof wrong);
+        wrong[0] = 3;
+        expect("gm_state", take_apart(known[k].bytes, GM_STATE_BYTES - 1, &got), GM_REFUSED_LENGTH);
+        expect("gm_state", take_apart(wrong, sizeof wrong, &got), GM_REFUSED_STATE);
+        holds(&got, &before);
+        expect("gm_state", take_apart(known[k].bytes, GM_STATE_BYTES, &got), 0);
+        holds(&got, &known[k].held);
+    }
+    entries -= count - 1;
+}
+
 static void heartbeats(void)
 {
     uint32_t sent = 7, join = 7, heard = 7;
@@ -170,6 +220,7 @@ static void rows(void)
 int main(void)
 {
     states();
+    states_apart();
     heartbeats();
     views_and_votes();
     rows();

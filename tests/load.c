@@ -21,7 +21,7 @@
 enum { NODES = 64, CHANNELS = 2, COUNTS = 64, PAGE = 4096, MOST_TABLES = 64 };
 enum { FIRST_BYTES = 12, CYCLE_BYTES = 36, ENTRY_BYTES = 9, ENTRIES_AT = 35, LONGEST_FRAME = 64, HEADER_BYTES = 5, NULL_FRAME = 0x20 };
 enum { HEARTBEAT, VOTE, PHASES };
-enum { BEGIN, STOP, START, WRITE_HEARTBEAT, SEND_HEARTBEAT, READ_HEARTBEAT, RECEIVE_HEARTBEAT, VIEW };
+enum { BEGIN, STOP, START, STATE, WRITE_HEARTBEAT, SEND_HEARTBEAT, READ_HEARTBEAT, RECEIVE_HEARTBEAT, VIEW };
 enum { WRITE_VOTE = VIEW + 1, SEND_VOTE, READ_VOTE, RECEIVE_VOTE, DECIDE, CYCLE, RUN, RUN_FRAMES, ENTRIES };
 
 /* `before` is what the host wrote into it, or NULL */
@@ -91,6 +91,7 @@ static const struct {
     {"gm_begin", NUMBERS | BIT(GM_REFUSED_LENGTH) | BIT(GM_REFUSED_LIMIT)},
     {"gm_stop", STATES},
     {"gm_start", STATES},
+    {"gm_state", STATES},
     {"gm_write_heartbeat", NUMBERS | BIT(GM_REFUSED_LENGTH)},
     {"gm_send_heartbeat", BIT(GM_REFUSED_NUMBER) | STATES},
     {"gm_read_heartbeat", NUMBERS | FRAMES},
@@ -403,6 +404,20 @@ static void call_start(struct work *w)
     settle(w, &state, accepted);
 }
 
+/* five numbers and two masks are lent, each in a buffer of its own */
+static void call_state(struct work *w)
+{
+    struct lent state = state_near(w), left[7];
+    int accepted;
+    for (unsigned k = 0; k < 7; k++)
+        left[k] = output(w, k < 5 ? sizeof(uint32_t) : sizeof(uint64_t));
+    accepted = answered(w, STATE, gm_state(state.bytes, state.len, number_in(&left[0]), number_in(&left[1]), number_in(&left[2]), number_in(&left[3]),
+                                           number_in(&left[4]), mask_in(&left[5]), mask_in(&left[6])));
+    for (unsigned k = 0; k < 7; k++)
+        settle(w, &left[k], accepted);
+    settle(w, &state, 0);
+}
+
 static void call_write_heartbeat(struct work *w)
 {
     struct due d = due_near(w);
@@ -608,9 +623,9 @@ static void call_run_frames(struct work *w)
 }
 
 static void (*const calls[ENTRIES])(struct work *) = {
-    call_begin, call_stop,       call_start,     call_write_heartbeat, call_send_heartbeat, call_read_heartbeat, call_receive_heartbeat,
-    call_view,  call_write_vote, call_send_vote, call_read_vote,       call_receive_vote,   call_decide,         call_cycle,
-    call_run,   call_run_frames,
+    call_begin, call_stop,       call_start,     call_state,     call_write_heartbeat, call_send_heartbeat, call_read_heartbeat, call_receive_heartbeat,
+    call_view,  call_write_vote, call_send_vote, call_read_vote, call_receive_vote,    call_decide,         call_cycle,          call_run,
+    call_run_frames,
 };
 
 /* every entry was accepted, and gave each refusal that the header names for it */

@@ -10,13 +10,15 @@
 #include <stdlib.h>
 #include <string.h>
 
-enum { STACK = 1 << 18, PAINT = 0xA5, MARGIN = 256, NODE_CALLS = 15, CALLS = 18 };
+enum { STACK = 1 << 18, PAINT = 0xA5, MARGIN = 256, NODE_CALLS = 16, CALLS = 19 };
 
 static uint8_t *stack;
 static uint8_t state[GM_STATE_BYTES], joiner[GM_STATE_BYTES], votes[GM_VOTES_BYTES], beat[GM_HEARTBEAT_BYTES], frame[GM_VOTE_FRAME_BYTES];
 static uint8_t payload[GM_VOTE_BYTES];
 static uint8_t row[64 * GM_STATE_BYTES], frames[GM_FRAMES_BYTES];
 static uint8_t *origin;
+static uint32_t numbers[4];
+static uint64_t base;
 static size_t deepest;
 
 /* 64 nodes, all founders but node 63; in the first cycle it starts and node 0 stops, then two clean cycles */
@@ -58,9 +60,10 @@ static void run_entry(unsigned which)
     case 12: gm_receive_vote(64, 3, 5, frame, sizeof frame, frame, sizeof frame, votes, sizeof votes, &mask); break;
     case 13: gm_decide(joiner, sizeof joiner, all, 0, votes, sizeof votes, all); break;
     case 14: gm_decide(state, sizeof state, all, 0, votes, sizeof votes, all); break;
-    case 15: gm_run(row, sizeof row, table, sizeof table); break;
-    case 16: gm_run_frames(row, sizeof row, table, sizeof table, frames, sizeof frames); break;
-    case 17: gm_cycle(64, row, sizeof row, table + 12, 36); break;
+    case 15: gm_state(state, sizeof state, numbers, numbers + 1, numbers + 2, numbers + 3, &number, &mask, &base); break;
+    case 16: gm_run(row, sizeof row, table, sizeof table); break;
+    case 17: gm_run_frames(row, sizeof row, table, sizeof table, frames, sizeof frames); break;
+    case 18: gm_cycle(64, row, sizeof row, table + 12, 36); break;
     default: exit(1);
     }
 }

@@ -83,6 +83,22 @@ uint32_t plain_start(uint8_t *state, size_t state_len)
     return refused;
 }
 
+uint32_t plain_state(const uint8_t *state, size_t state_len, uint32_t *kind, uint32_t *reason, uint32_t *node, uint32_t *n, uint32_t *number,
+                     uint64_t *set, uint64_t *base)
+{
+    uint32_t refused = refused_state(state, state_len);
+    if (refused != 0)
+        return refused;
+    *kind = state[0];
+    *reason = state[1];
+    *node = state[2];
+    *n = state[3];
+    *number = word_at(state + 4);
+    *set = mask_at(state + 8);
+    *base = mask_at(state + 16);
+    return 0;
+}
+
 uint32_t plain_send_heartbeat(const uint8_t *state, size_t state_len, uint32_t sync, uint32_t startup, uint32_t cycle, uint32_t channel,
                               uint8_t *frame, size_t frame_len, uint32_t *sent)
 {

@@ -10,6 +10,8 @@ enum { STATE_BYTES = 24, HEARTBEAT_BYTES = 10, VOTE_FRAME_BYTES = 36, VOTE_BYTES
 uint32_t plain_begin(uint32_t n, uint32_t node, uint64_t founding, uint8_t *state, size_t state_len);
 uint32_t plain_stop(uint8_t *state, size_t state_len);
 uint32_t plain_start(uint8_t *state, size_t state_len);
+uint32_t plain_state(const uint8_t *state, size_t state_len, uint32_t *kind, uint32_t *reason, uint32_t *node, uint32_t *n, uint32_t *number,
+                     uint64_t *set, uint64_t *base);
 uint32_t plain_write_heartbeat(uint32_t n, uint32_t node, uint32_t join, uint32_t sync, uint32_t startup, uint32_t cycle, uint32_t channel,
                                uint8_t *frame, size_t frame_len);
 uint32_t plain_send_heartbeat(const uint8_t *state, size_t state_len, uint32_t sync, uint32_t startup, uint32_t cycle, uint32_t channel,

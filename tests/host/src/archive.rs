@@ -1,4 +1,4 @@
-//! The sixteen entries of the archive, as include/gm.h declares them, on slices, and the same entries in plain C, to be timed beside them. A slice's
+//! The seventeen entries of the archive, as include/gm.h declares them, on slices, and the same entries in plain C, to be timed beside them. A slice's
 //! pointer is never null, and two slices of which one is mutable never overlap, which is all that the header asks.
 #![allow(unsafe_code)]
 
@@ -8,7 +8,7 @@ use crate::NodeEnd;
 macro_rules! linked {
     (
         $host:ident:
-        $begin:ident $stop:ident $start:ident $write_heartbeat:ident $send_heartbeat:ident $read_heartbeat:ident
+        $begin:ident $stop:ident $start:ident $state:ident $write_heartbeat:ident $send_heartbeat:ident $read_heartbeat:ident
         $receive_heartbeat:ident $view:ident $write_vote:ident $send_vote:ident $read_vote:ident
         $receive_vote:ident $decide:ident $cycle:ident $run:ident $run_frames:ident
     ) => {
@@ -18,6 +18,17 @@ macro_rules! linked {
             fn $begin(n: u32, node: u32, founding: u64, state: *mut u8, state_len: usize) -> u32;
             fn $stop(state: *mut u8, state_len: usize) -> u32;
             fn $start(state: *mut u8, state_len: usize) -> u32;
+            fn $state(
+                state: *const u8,
+                state_len: usize,
+                kind: *mut u32,
+                reason: *mut u32,
+                node: *mut u32,
+                n: *mut u32,
+                number: *mut u32,
+                set: *mut u64,
+                base: *mut u64,
+            ) -> u32;
             fn $write_heartbeat(
                 n: u32,
                 node: u32,
@@ -99,6 +110,20 @@ macro_rules! linked {
                 unsafe { $start(state.as_mut_ptr(), state.len()) }
             }
 
+            fn state(
+                &self,
+                state: &[u8],
+                kind: &mut u32,
+                reason: &mut u32,
+                node: &mut u32,
+                n: &mut u32,
+                number: &mut u32,
+                set: &mut u64,
+                base: &mut u64,
+            ) -> u32 {
+                unsafe { $state(state.as_ptr(), state.len(), kind, reason, node, n, number, set, base) }
+            }
+
             fn write_heartbeat(&self, n: u32, node: u32, join: u32, sync: u32, startup: u32, cycle: u32, channel: u32, frame: &mut [u8]) -> u32 {
                 unsafe { $write_heartbeat(n, node, join, sync, startup, cycle, channel, frame.as_mut_ptr(), frame.len()) }
             }
@@ -156,7 +181,7 @@ macro_rules! linked {
 
 linked! {
     Archive:
-    gm_begin gm_stop gm_start gm_write_heartbeat gm_send_heartbeat gm_read_heartbeat
+    gm_begin gm_stop gm_start gm_state gm_write_heartbeat gm_send_heartbeat gm_read_heartbeat
     gm_receive_heartbeat gm_view gm_write_vote gm_send_vote gm_read_vote
     gm_receive_vote gm_decide gm_cycle gm_run gm_run_frames
 }
@@ -165,7 +190,7 @@ linked! {
 #[cfg(feature = "speed")]
 linked! {
     Plain:
-    plain_begin plain_stop plain_start plain_write_heartbeat plain_send_heartbeat plain_read_heartbeat
+    plain_begin plain_stop plain_start plain_state plain_write_heartbeat plain_send_heartbeat plain_read_heartbeat
     plain_receive_heartbeat plain_view plain_write_vote plain_send_vote plain_read_vote
     plain_receive_vote plain_decide plain_cycle plain_run plain_run_frames
 }

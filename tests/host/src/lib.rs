@@ -14,11 +14,23 @@ pub fn hex(bytes: &[u8]) -> String {
     bytes.iter().map(|byte| format!("{byte:02x}")).collect()
 }
 
-/// The sixteen entries of include/gm.h, on slices. The paper's implementation and the archive each give them.
+/// The seventeen entries of include/gm.h, on slices. The paper's implementation and the archive each give them.
 pub trait NodeEnd {
     fn begin(&self, n: u32, node: u32, founding: u64, state: &mut [u8]) -> u32;
     fn stop(&self, state: &mut [u8]) -> u32;
     fn start(&self, state: &mut [u8]) -> u32;
+    #[allow(clippy::too_many_arguments)]
+    fn state(
+        &self,
+        state: &[u8],
+        kind: &mut u32,
+        reason: &mut u32,
+        node: &mut u32,
+        n: &mut u32,
+        number: &mut u32,
+        set: &mut u64,
+        base: &mut u64,
+    ) -> u32;
     #[allow(clippy::too_many_arguments)]
     fn write_heartbeat(&self, n: u32, node: u32, join: u32, sync: u32, startup: u32, cycle: u32, channel: u32, frame: &mut [u8]) -> u32;
     #[allow(clippy::too_many_arguments)]

@@ -1,4 +1,4 @@
-//! Compares the sixteen entries of the archive with the paper's implementation: first every length, number and place of damage in turn, then random calls.
+//! Compares the seventeen entries of the archive with the paper's implementation: first every length, number and place of damage in turn, then random calls.
 //! SEED (or the first argument) chooses the calls, CALLS the number of random ones.
 use host::archive::Archive;
 use host::claims::{each_kept_record, Standing};
@@ -16,10 +16,11 @@ use host::random::Random;
 use host::{hex, NodeEnd};
 use std::collections::{BTreeMap, BTreeSet, HashSet};
 
-const ENTRIES: [&str; 16] = [
+const ENTRIES: [&str; 17] = [
     "begin",
     "stop",
     "start",
+    "state",
     "write_heartbeat",
     "send_heartbeat",
     "read_heartbeat",
@@ -37,6 +38,9 @@ const ENTRIES: [&str; 16] = [
 const GUARD: usize = 16;
 /// for the frames of a run, where nothing hangs on what stands in it before
 const FILLED_FRAMES: [u8; FRAMES_BYTES] = [7; FRAMES_BYTES];
+/// for the results of a state taken apart
+const FILLED_NUMBERS: [u32; 5] = [91, 92, 93, 94, 95];
+const FILLED_MASKS: [u64; 2] = [96, 97];
 
 /// a buffer to be lent, at any address, with bytes around it that nobody may write
 #[derive(Clone, PartialEq)]
@@ -75,7 +79,7 @@ struct Outcome {
 struct Compare {
     random: Random,
     /// per entry and status
-    counts: [[u64; 16]; 16],
+    counts: [[u64; 16]; ENTRIES.len()],
     /// moves the buffers of a call to other addresses
     shift: usize,
     /// what accepted calls gave, in words
@@ -138,6 +142,7 @@ impl Compare {
                 (before, after) => format!("{before} to {after}"),
             },
             "receive_heartbeat" => ["missed", "join 0", "join 1"][results[0] as usize].to_string(),
+            "state" => ["out", "joining", "member"][results[0] as usize].to_string(),
             "send_heartbeat" | "send_vote" => ["nothing sent", "sent"][results[0] as usize].to_string(),
             "receive_vote" if before != after => "arrived".to_string(),
             "receive_vote" if results != results_before => "missed, the bit cleared".to_string(),
@@ -162,6 +167,17 @@ impl Compare {
 
     fn start(&mut self, state: &[u8]) {
         self.both("start", &[], &[], &[state], |by, _, b| by.start(b[0].lend()));
+    }
+
+    fn state(&mut self, state: &[u8], numbers: [u32; 5], masks: [u64; 2]) {
+        let results: Vec<u64> = numbers.map(u64::from).into_iter().chain(masks).collect();
+        self.both("state", &[], &results, &[state], |by, r, b| {
+            let [mut kind, mut reason, mut node, mut n, mut number] = numbers;
+            let [mut set, mut base] = masks;
+            let status = by.state(b[0].get(), &mut kind, &mut reason, &mut node, &mut n, &mut number, &mut set, &mut base);
+            r.copy_from_slice(&[kind.into(), reason.into(), node.into(), n.into(), number.into(), set, base]);
+            status
+        });
     }
 
     fn write_heartbeat(&mut self, [n, node, join, sync, startup, cycle, channel]: [u32; 7], frame: &[u8]) {
@@ -371,6 +387,7 @@ fn lengths(compare: &mut Compare) {
         compare.begin(5, 1, 0x1f, &filled);
         compare.stop(&bytes);
         compare.start(&bytes);
+        compare.state(&bytes, FILLED_NUMBERS, FILLED_MASKS);
         compare.view(&bytes, everyone, 7);
         compare.decide(&bytes, everyone, &votes, 0x1f);
         compare.send_heartbeat(&bytes, [1, 1, 5, 0], &[7; 10], 9);
@@ -440,6 +457,7 @@ fn every_bit_of_an_image(compare: &mut Compare) {
                 let (slots, mask) = press.arrived(&mut compare.random, node);
                 compare.stop(&changed);
                 compare.start(&changed);
+                compare.state(&changed, FILLED_NUMBERS, FILLED_MASKS);
                 compare.view(&changed, press.heard[node], 7);
                 compare.send_heartbeat(&changed, [0, 0, 1, 1], &[7; 10], 7);
                 compare.send_vote(&changed, press.heard[node], [1, 1], &[7; 36], 7);
@@ -451,6 +469,7 @@ fn every_bit_of_an_image(compare: &mut Compare) {
                     changed[byte] = value;
                     compare.stop(&changed);
                     compare.start(&changed);
+                    compare.state(&changed, FILLED_NUMBERS, FILLED_MASKS);
                     compare.view(&changed, press.heard[node], 7);
                 }
             }
@@ -543,6 +562,7 @@ fn every_bit_of_a_mask(compare: &mut Compare) {
             compare.read_vote([n as u32, 1, 9, 1], &vote_frame(1, &vote, 9, 1), &[7; 28]);
             let member = image(&Unit { n, node: 1, state: State::Member(vote.group) });
             compare.stop(&member);
+            compare.state(&member, FILLED_NUMBERS, FILLED_MASKS);
             compare.view(&member, Heard { join0: bit, join1: 0 }, 7);
             compare.view(&member, Heard { join0: 0, join1: bit }, 7);
             let masks = [part(0, 0), part(1, 0), part(2, 0), part(3, 0)];
@@ -674,7 +694,7 @@ fn a_node(compare: &mut Compare, press: &Press) {
         flags[1] = 1;
     }
     let junk = random.bits();
-    match random.below(20) {
+    match random.below(21) {
         0 => {
             let founding = if random.once_in(4) { random.mask() } else { make::founding(random, n) };
             let state = lent_buffer(random, 24);
@@ -731,6 +751,7 @@ fn a_node(compare: &mut Compare, press: &Press) {
             let votes = if random.once_in(10) { lent_buffer(random, VOTES_BYTES) } else { vec![junk as u8; VOTES_BYTES] };
             compare.receive_vote([lent_n, lent_node, cycle], &a, &b, &votes, junk);
         }
+        14 => compare.state(&state, [0, 8, 16, 24, 32].map(|by| (junk >> by) as u32), [junk, !junk]),
         _ => a_decision(compare, press, &unit, &state, heard),
     }
 }
@@ -873,7 +894,7 @@ fn main() {
     let seed: u64 = argument.map_or(1, |text| text.parse().expect("SEED is a number"));
     let calls: u64 = std::env::var("CALLS").map_or(300_000, |text| text.parse().expect("CALLS is a number"));
     println!("compare: seed {seed}, {calls} random calls");
-    let mut compare = Compare { random: Random::new(seed), counts: [[0; 16]; 16], shift: 0, given: BTreeMap::new() };
+    let mut compare = Compare { random: Random::new(seed), counts: [[0; 16]; ENTRIES.len()], shift: 0, given: BTreeMap::new() };
     counts_and_numbers(&mut compare);
     lengths(&mut compare);
     lengths_of_frames(&mut compare);

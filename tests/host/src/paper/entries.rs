@@ -1,4 +1,4 @@
-//! The sixteen entries by the paper: "A number is given only where its condition holds, and of several the lowest." "A refusal returns only its number;
+//! The seventeen entries by the paper: "A number is given only where its condition holds, and of several the lowest." "A refusal returns only its number;
 //! states and buffers do not change."
 use super::faults::cycle;
 use super::frames::{
@@ -7,7 +7,7 @@ use super::frames::{
 };
 use super::rules::{decide, rule1, rule2, rule3, rule4, Heard, Vote};
 use super::run::{run, run_frames, FRAMES_BYTES};
-use super::sets::{all, inside, only};
+use super::sets::{self, all, inside, only};
 use super::state::{beginning, image, read_image, read_row, row_image, Group, State, Unit, IMAGE_BYTES};
 use super::table::{cycle_length, cycle_record, table};
 use super::Answer;
@@ -113,6 +113,25 @@ impl NodeEnd for Paper {
 
     fn start(&self, state: &mut [u8]) -> u32 {
         change(state, |unit| rule1(unit.state, false, true))
+    }
+
+    /// "Its image has 24 bytes: kind (0 out, 1 joining, 2 member), reason, node, N, G in 4, M in 8, B in 8."
+    fn state(
+        &self,
+        state: &[u8],
+        kind: &mut u32,
+        reason: &mut u32,
+        node: &mut u32,
+        n: &mut u32,
+        number: &mut u32,
+        set: &mut u64,
+        base: &mut u64,
+    ) -> u32 {
+        status(read_image(state), |_| {
+            [*kind, *reason, *node, *n] = [0, 1, 2, 3].map(|k| state[k].into());
+            *number = sets::number(&state[4..8]) as u32;
+            [*set, *base] = [sets::number(&state[8..16]), sets::number(&state[16..24])];
+        })
     }
 
     fn write_heartbeat(&self, n: u32, node: u32, join: u32, sync: u32, startup: u32, cycle: u32, channel: u32, frame: &mut [u8]) -> u32 {
