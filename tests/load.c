@@ -404,17 +404,23 @@ static void call_start(struct work *w)
     settle(w, &state, accepted);
 }
 
-/* five numbers and two masks are lent, each in a buffer of its own */
+/* room for the numbers of a state: five numbers and two masks, each in a buffer of its own */
+enum { PARTS = 7, MASKS_FROM = 5 };
+static void output_parts(struct work *w, struct lent *parts)
+{
+    for (unsigned k = 0; k < PARTS; k++)
+        parts[k] = output(w, k < MASKS_FROM ? sizeof(uint32_t) : sizeof(uint64_t));
+}
+
 static void call_state(struct work *w)
 {
-    struct lent state = state_near(w), left[7];
+    struct lent state = state_near(w), p[PARTS];
     int accepted;
-    for (unsigned k = 0; k < 7; k++)
-        left[k] = output(w, k < 5 ? sizeof(uint32_t) : sizeof(uint64_t));
-    accepted = answered(w, STATE, gm_state(state.bytes, state.len, number_in(&left[0]), number_in(&left[1]), number_in(&left[2]), number_in(&left[3]),
-                                           number_in(&left[4]), mask_in(&left[5]), mask_in(&left[6])));
-    for (unsigned k = 0; k < 7; k++)
-        settle(w, &left[k], accepted);
+    output_parts(w, p);
+    accepted = answered(w, STATE, gm_state(state.bytes, state.len, number_in(p), number_in(p + 1), number_in(p + 2), number_in(p + 3), number_in(p + 4),
+                                           mask_in(p + MASKS_FROM), mask_in(p + 6)));
+    for (unsigned k = 0; k < PARTS; k++)
+        settle(w, &p[k], accepted);
     settle(w, &state, 0);
 }
 
