@@ -7,11 +7,11 @@
  * between calls, or reads or writes outside the buffers that it is lent; any number and any bytes may be passed. What is promised of each entry is proved
  * for all inputs; CLAIMS.md says by which theorem.
  *
- * BUFFERS. A buffer is a pointer and its length in bytes; it may stand at any address. A pointer is never null, also where the length is 0: there it may
- * point to any object or behind its end, and nothing is read. What an entry only reads (const) may coincide with or overlap anything else that it only
- * reads in that call, such as one frame lent as both copies. A buffer or a result that it writes overlaps nothing else of the call; what happens where it
- * does is outside the promise. Nobody else writes a buffer, or reads one that is written, until the call returns. Entries may be called from several
- * threads at once on buffers of their own.
+ * BUFFERS. A buffer is a pointer and its length in bytes; it may stand at any address. A result is a pointer to an object of its type. No pointer is null,
+ * also where the length is 0: there it may point to any object or behind its end, and nothing is read. What an entry only reads (const) may coincide with
+ * or overlap anything else that it only reads in that call, such as one frame lent as both copies. A buffer or a result that it writes overlaps nothing
+ * else of the call; what happens where it does is outside the promise. Nobody else writes a buffer, or reads one that is written, until the call returns.
+ * Entries may be called from several threads at once on buffers of their own.
  *
  * NUMBERS. A set of nodes is a mask of 64 bits, bit q for node q; nodes are numbered from 0, and n is how many there are. Arguments and results are
  * numbers of the host. In states, votes, frames and tables every number of several bytes stands highest byte first.
@@ -46,8 +46,9 @@
  *   4. gm_send_vote for each channel, with these masks; the host sends the frame if there is one
  *   5. gm_receive_vote for every other node, into the vote buffer, whatever stands in it, and `arrived`
  *   6. gm_decide, with the same heard0 and heard1
- * In 3 and 5 the nodes may come in any order, and the call for a node of which nothing came on both channels may be left out: its bit is then 0, which is
- * why the masks are 0 before the cycle.
+ * In 3 and 5 the nodes may come in any order, and the call for a node of which nothing came on both channels may be left out: its bit is then 0, which is why
+ * the masks are 0 before the cycle. After 6 gm_state tells the node's group. A node that halted is out, reason 1 or 2: it sends nothing and stays so until
+ * gm_start, from which it is joining and comes in by the votes of the others.
  *
  * DUTIES OF THE HOST. No call can see these, and agreement of the units is promised only where they are kept (SAFETY.md has them with their reasons):
  *   - All units begin with the same n and the same founding set, each with a number of its own.
@@ -59,7 +60,7 @@
  *     gm_start, and never by gm_begin alone (gm_begin with a founding set that lacks the node leaves what gm_begin and gm_stop leave).
  *   - gm_begin belongs to the beginning of the press. A founder that restarts by gm_begin alone takes itself for a member of the founding group, number 0.
  *     Where those that do so are more than half of the founding set they can go on as a second group beside the one that runs: units hold different groups,
- *     and no state and no frame shows it; fewer of them halt in that cycle for want of a quorum, unless the group that runs is still that first one.
+ *     and no entry tells; fewer of them halt in that cycle for want of a quorum, unless the group that runs is still that first one.
  *   - The cycle count that is passed is that of the bus cycle, and a frame is handed over in the cycle in which it came.
  *   - From call to call nobody else writes a state or a row.
  *
