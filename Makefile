@@ -1,4 +1,4 @@
-# The commands of this repository. They need the Rattle kit's `rt` on the path, and gcc and g++ for the C side.
+# The commands of this repository; `make help` lists them. They need the Rattle kit's `rt` on the path, and gcc and g++ for the C side.
 # The version of the delivery; include/gm.h and what `grouprun --version` prints say it again, and tests/archive.sh and arguments-test hold them equal.
 VERSION = 0.2.0
 PREFIX = /usr/local
@@ -10,7 +10,11 @@ TABLEGEN = $(BUILD)/table
 PLAIN = $(BUILD)/plainrun
 PLAINLIB = $(BUILD)/libplain.a
 MEASURE = $(BUILD)/measure
-C99 = gcc -std=c99 -Wall -Wextra -Werror -pedantic -O2 -Iinclude
+C99 = $(call needs,gcc)gcc -std=c99 -Wall -Wextra -Werror -pedantic -O2 -Iinclude
+
+SHELL = bash
+.SHELLFLAGS = -euo pipefail -c
+.DEFAULT_GOAL = help
 
 SOURCES = crates.txt $(shell find crates -name '*.rt' -o -name '*.antt')
 ENTRIES = $(notdir $(wildcard crates/entry_*))
@@ -31,20 +35,41 @@ INSTALLED = $(call below,bin,$(PROGRAMS)) lib/libgm.a $(HEADERS) $(PACKAGES) $(c
     $(call below,share/man/man3,$(LIBRARY_MANUALS)) $(call below,share/doc/gm,$(DOCUMENTS)) $(call below,share/doc/gm/examples,$(EXAMPLES))
 TO = $(DESTDIR)$(PREFIX)
 
-.PHONY: run test host archive compare bench stack format trace edits install uninstall load load-test load-full load-program load-archive
-.PHONY: archive-test compare-test examples-test vectors-test badinput-test text-test arguments-test trace-test install-test
+# in the order of `make help`: first the commands, then the parts of `test` and of `load`; the line above a target is what `make help` says of it
+.PHONY: help run archive host test evidence trace edits install uninstall compare bench stack load load-full
+.PHONY: format trace-test commands-test archive-test vectors-test badinput-test examples-test text-test arguments-test install-test compare-test load-test load-program load-archive
 
-# the run that the product paper prints: its table is made from a text, and its lines must be those of the paper
-run: $(GROUPRUN) $(TABLETEXT)
+# a command that is needed and not there is named in one sentence, before anything is done
+called_rt = the Rattle kit
+needs = $(foreach command,$(1),$(if $(shell command -v $(command) || true),,\
+    $(error this needs $(or $(called_$(command)),$(command)): there is no command $(command) on the path)))
+
+# this list
+help:
+	@awk '/^\.PHONY:/ { name[++n] = ""; for (i = 2; i <= NF; i++) name[++n] = $$i } \
+	    /^# / { text = substr($$0, 3); next } \
+	    match($$0, /^[a-z-]+:/) && text != "" { said[substr($$0, 1, RLENGTH - 1)] = text } \
+	    { text = "" } \
+	    END { for (i = 2; i <= n; i++) print name[i] == "" ? "" : sprintf("make %-15s %s", name[i], said[name[i]]) }' Makefile
+
+# build the program grouprun, and print the run of the product paper: its table is made from a text, its lines must be the paper's
+run: $(TABLETEXT) $(GROUPRUN)
 	@$(TABLETEXT) table <examples/p1.txt >$(BUILD)/p1.tab
 	@$(GROUPRUN) <$(BUILD)/p1.tab | tee $(BUILD)/p1.out
 	@diff examples/p1.out $(BUILD)/p1.out
 
-# the whole gate; its last line is 'N passed, 0 failed'
-test: format trace-test archive
+# all tests, then everything proved from nothing and every wrong edit tried; the last line is 'N passed, 0 failed'
+test:
+	@$(call needs,rt cargo gcc g++ git script)echo "make test: about 17 minutes on two idle cores" >&2
+	@tools/evidence.sh begin
+	@$(MAKE) --no-print-directory --silent format trace-test commands-test archive
 	@$(MAKE) --no-print-directory -j2 --output-sync archive-test host run examples-test vectors-test badinput-test text-test arguments-test install-test
-	@$(MAKE) --no-print-directory -j2 --output-sync compare-test load-test
-	rt ci
+	@$(MAKE) --no-print-directory -j2 --output-sync compare-test load-test | tee log/compared.log
+	@tools/kit.sh gate "about 13 minutes on two idle cores" ci
+
+# one text, evidence.txt, for the record of a delivery: kit, commit, sums, and what the last `make test` proved, refused and compared
+evidence: $(if $(wildcard log/gate.log),$(ARCHIVE) $(PROGRAMS))
+	@$(call needs,rt git)tools/evidence.sh $(VERSION) $(ARCHIVE) $(HEADERS) $(PROGRAMS)
 
 # five units run the example of the paper through frames on both channels, beside gm_cycle and over a bus with damage
 host: archive
@@ -53,13 +78,13 @@ host: archive
 	@$(BUILD)/host | tee $(BUILD)/host.out
 	@diff examples/host.out $(BUILD)/host.out
 
-# the archive that a host links, with include/gm.h
+# prove the library, and build the archive that a host links with include/gm.h
 archive: $(ARCHIVE)
 
 # what gm rests on is proved side by side first: `rt staticlib` alone takes one crate after the other
 $(ARCHIVE): $(SOURCES)
-	rt check $(ENTRIES) grouprun
-	rt staticlib gm
+	@$(call needs,rt)tools/kit.sh archive "up to 5 minutes on two cores" check $(ENTRIES) grouprun
+	@tools/kit.sh staticlib "less than a minute" staticlib gm
 
 # header and archive agree
 archive-test: archive
@@ -67,7 +92,7 @@ archive-test: archive
 
 # the program that prints the run of a table
 $(GROUPRUN): $(SOURCES)
-	rt check grouprun
+	@$(call needs,rt)tools/kit.sh run "up to 3 minutes on two cores" check grouprun
 
 # tables as readable text, and back
 $(TABLETEXT): tools/tabletext.c Makefile
@@ -112,35 +137,40 @@ text-test: $(TABLETEXT)
 arguments-test: $(GROUPRUN) $(TABLETEXT)
 	@tests/arguments.sh $(GROUPRUN) $(TABLETEXT) $(VERSION) $(BUILD)
 
-# what the program does with slow, closed, full and failing ends and with a table of BYTES bytes, and the archive in threads and under memory checkers
+# the program with slow, closed, full and failing ends and a table of BYTES bytes; the archive in threads and under memory checkers
 load: load-program load-archive
 
-# the same in less time, and with more bytes than 32 bits count, where every part must run
+# load in less time
 load-test: export BYTES = 16777216
 load-test: export CYCLES = 200
+load-test: load
+
+# load with more bytes than 32 bits count, where every part must run
 load-full: export BYTES = 4300000000
 load-full: export ALL = 1
-load-test load-full: load
+load-full: load
 
+# load of the program alone
 load-program: $(GROUPRUN) $(PLAIN) $(TABLEGEN) $(TABLETEXT) $(MEASURE)
 	@tests/load.sh $(GROUPRUN) $(PLAIN) $(TABLEGEN) $(BUILD)
 
+# load of the archive alone
 load-archive: archive $(TABLEGEN)
 	@tests/memory.sh $(ARCHIVE) $(TABLEGEN) $(BUILD)
 
-# every entry, the printed run and demand 3 itself, beside an implementation of the product paper in plain Rust; and presses of the node entries; needs cargo
+# every entry, the printed run, demand 3 and presses of the node entries, beside an implementation of the paper in plain Rust (needs cargo)
 compare: archive $(GROUPRUN)
-	@tests/host.sh
+	@$(call needs,cargo)tests/host.sh
 
-# a share of it, in less time
+# a share of compare, in less time
 compare-test: export CALLS = 500000
 compare-test: export PRESSES = 500
 compare-test: export TABLES = 500
 compare-test: compare
 
-# one table of times: archive and grouprun beside the paper's implementation in Rust and beside plain C at -O3, on the same data; needs cargo
+# one table of times: archive and grouprun beside that implementation in Rust and beside plain C at -O3 (needs cargo)
 bench: archive $(GROUPRUN) $(PLAIN) $(PLAINLIB) $(TABLEGEN) $(MEASURE)
-	@bench/speed.sh $(GROUPRUN) $(PLAIN) $(TABLEGEN) $(MEASURE) $(BUILD)
+	@$(call needs,cargo)bench/speed.sh $(GROUPRUN) $(PLAIN) $(TABLEGEN) $(MEASURE) $(BUILD)
 
 # the deepest stack of an entry, in bytes: as a walk of the archive's code finds it, with the functions that go so deep, and as sampled
 stack: archive
@@ -148,26 +178,26 @@ stack: archive
 
 # every file stands in the layout that `rt fmt` gives
 format:
-	rt fmt --check
+	@$(call needs,rt)rt fmt --check
 
-# docs/TRACE.md for a browser: every name is a link to its file and line
+# docs/TRACE.html, TRACE for a browser: every name is a link to its file and line
 trace:
 	@tools/trace.sh
 
-# docs/TRACE.md names what is there, and every wrong edit, and each of these names what refuses it; its page leads to what it names; docs/DEMANDS.md quotes what is
-# there; what is listed by hand is whole
+# TRACE names what is there, every wrong edit what refuses it, and its page leads there; DEMANDS quotes what is there; what is listed by hand is whole
 trace-test: trace
 	@tests/trace.sh
 	@tests/links.sh
 	@tests/lists.sh
 	@tests/demands.sh
 
-# each wrong edit was refused first by the law or contract that it names. It reads the logs that `make test` or `rt must-fail` left and proves nothing; no part of
-# `test`, whose last command is `rt ci`: that makes these logs, and its last line is the gate's
+# It reads the logs that `make test` or `rt must-fail` left and proves nothing; no part of `test`, whose last command is `rt ci`: that makes these logs, and its last
+# line is the gate's.
+# after `make test`: each wrong edit was refused first by the law or contract that it names
 edits:
 	@tests/edits.sh
 
-# for builders of hosts: programs, library, manual pages, documents and examples below PREFIX; DESTDIR stands before it where a package is made
+# programs, library, manual pages, documents and examples below PREFIX; DESTDIR stands before it where a package is made
 install: $(PROGRAMS) $(ARCHIVE)
 	@case "$(PREFIX)" in /*) ;; *) echo "PREFIX is '$(PREFIX)', not an absolute path" >&2; exit 1 ;; esac
 	install -D -m 755 -t "$(TO)/bin" $(PROGRAMS)
@@ -180,11 +210,15 @@ install: $(PROGRAMS) $(ARCHIVE)
 	for file in $(PACKAGES); do install -D -m 644 "packages/$${file##*/}.in" "$(TO)/$$file" && \
 	    sed -i -e 's|@PREFIX@|$(PREFIX)|' -e 's|@VERSION@|$(VERSION)|' "$(TO)/$$file" || exit 1; done
 
-# the files that install places and the folders that are its own; folders that others share stay
+# takes away the files that install places, and the folders that are its own
 uninstall:
 	rm -f $(foreach file,$(INSTALLED),"$(TO)/$(file)")
 	for folder in share/doc/gm/examples share/doc/gm lib/cmake/gm; do \
 	    [ ! -d "$(TO)/$$folder" ] || rmdir --ignore-fail-on-non-empty "$(TO)/$$folder"; done
+
+# these commands as a new user meets them: help, progress, what is missing, evidence
+commands-test:
+	@tests/commands.sh
 
 # an installation is whole, is enough for a host, and goes away again
 install-test: $(PROGRAMS) $(ARCHIVE)
