@@ -42,14 +42,13 @@ while read -r word; do complain "'$word' stands in a formula, and the text does 
 
 # ---- names
 
-declares() { # FILE NAME: of antt
-    [ -f "$1" ] && awk -v name="$2" '{ i = 1; while ($i ~ /^(unfoldable|abbrev|pub|record|data)$/) i++ } $i == name { found = 1 } END { exit !found }' "$1"
-}
-is_there() { # NAME, in one of the page's forms
+declare -A places=()
+while IFS=$'\t' read -r name file _; do places[$name]+=" $file "; done < <(tools/names.sh)
+is_there() { # NAME, in one of the page's forms; a definition or theorem stands with its whole path
+    local file=${1%%: *}
     case $1 in
-        */*.antt:\ *) declares "crates/${1%%: *}" "${1#*: }" ;;
-        *::*) grep -qE "fn ${1#*::}[(<]" "crates/${1%%::*}/src/"*.rt ;;
-        *) [ -e "$1" ] || [ -f "crates/${1%%/*}/must-fail/${1#*/}.edit" ] ;;
+        */*.antt:\ *) file=${file%.antt} && [[ ${places[${file%%/*}/${file##*/}: ${1#*: }]-} == *" crates/$file.antt "* ]] ;;
+        *) [ -n "${places[$1]-}" ] || [ -e "$1" ] ;;
     esac
 }
 names=$(part outside | in_backticks | grep -E "$form" | grep -vE '^crates?(/(specs|proofs)/File\.antt: name|::name|/edit|s/crate/must-fail/edit\.edit)$' | sort -u)
