@@ -13,7 +13,7 @@
 #include <stdlib.h>
 #include <string.h>
 
-enum { UNITS = 5, CYCLES = 5, CHANNELS = 2, CYCLE_COUNTS = 64, FOUNDING = 0x1f };
+enum { UNITS = 5, CYCLES = 5, FOUNDING = 0x1f };
 
 /* what can happen to a copy */
 enum { LOST, FLIPPED, LATE, DAMAGES };
@@ -27,8 +27,8 @@ struct unit {
 
 /* a frame on the bus: a copy per channel, of length 0 if none is there */
 struct slot {
-    uint8_t bytes[CHANNELS][GM_VOTE_FRAME_BYTES];
-    size_t len[CHANNELS];
+    uint8_t bytes[GM_CHANNELS][GM_VOTE_FRAME_BYTES];
+    size_t len[GM_CHANNELS];
     int damaged;
 };
 
@@ -85,7 +85,7 @@ static struct parts parts_of(const struct unit *u)
 /* into a record: highest byte first */
 static void put_mask(uint8_t *s, uint64_t mask)
 {
-    for (unsigned i = 8; i-- > 0; mask >>= 8)
+    for (unsigned i = GM_SET_BYTES; i-- > 0; mask >>= 8)
         s[i] = (uint8_t)mask;
 }
 
@@ -114,7 +114,7 @@ static unsigned carry(struct phase *p, uint32_t count)
     unsigned damaged = 0;
     memcpy(p->come, p->sent, sizeof p->come);
     for (unsigned what = LOST; what < DAMAGES; what++)
-        damaged += (unsigned)damage(p, what, (count + what) % UNITS, (count + what) % CHANNELS);
+        damaged += (unsigned)damage(p, what, (count + what) % UNITS, (count + what) % GM_CHANNELS);
     memcpy(p->before, p->sent, sizeof p->before);
     return damaged;
 }
@@ -124,7 +124,7 @@ static unsigned carry(struct phase *p, uint32_t count)
 static void send_heartbeats(struct press *p, uint32_t count, uint64_t lost)
 {
     for (unsigned q = 0; q < UNITS; q++)
-        for (uint32_t ch = 0; ch < CHANNELS; ch++) {
+        for (uint32_t ch = 0; ch < GM_CHANNELS; ch++) {
             struct slot *slot = &p->heartbeats.sent[q];
             uint32_t sent = 0;
             must(gm_send_heartbeat(p->units[q].state, GM_STATE_BYTES, 0, 0, count, ch, slot->bytes[ch], GM_HEARTBEAT_BYTES, &sent),
@@ -156,7 +156,7 @@ static void hear(struct press *p, unsigned self, uint32_t count)
 static void send_votes(struct press *p, uint32_t count, uint64_t lost)
 {
     for (unsigned q = 0; q < UNITS; q++)
-        for (uint32_t ch = 0; ch < CHANNELS; ch++) {
+        for (uint32_t ch = 0; ch < GM_CHANNELS; ch++) {
             const struct unit *u = &p->units[q];
             struct slot *slot = &p->votes.sent[q];
             uint32_t sent = 0;
@@ -257,7 +257,7 @@ int main(void)
     puts("cycle group set halted entered");
     for (uint32_t n = 0; n < CYCLES; n++) {
         uint64_t now = faults[n].heartbeat_lost | faults[n].vote_lost;
-        cycle(&press, &faults[n], n % CYCLE_COUNTS);
+        cycle(&press, &faults[n], n % GM_CYCLE_COUNTS);
         must_agree(&press, &faults[n], n + 1);
         print_cycle(&press, n + 1, now | disturbed);
         disturbed = now;

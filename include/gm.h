@@ -1,70 +1,113 @@
 /*
- * gm.h: proved group membership for a FlexRay cluster of 2 to 64 nodes: the node end, and runs over a fault table.
+ * gm.h: proved group membership for a FlexRay cluster of 2 to 64 nodes: the node end, and runs over a fault
+ * table. The archive libgm.a is for x86-64 Linux; this header is C99 and C++.
  *
- * CALLS. Every entry answers GM_OK, or the number of its refusal (GM_REFUSED_..; gm_refusal.h has a sentence for each). A refusal changes nothing: every
- * buffer and every result is as it came in. Of several refusals the lowest is given, but a table or a record in its order: record by record, and of one
- * record CUT if fewer than 3 bytes are left, KIND, CUT if it is not whole, COUNT, LENGTH of the row, LIMIT. No entry allocates, blocks, keeps anything
- * between calls, or reads or writes outside the buffers that it is lent; any number and any bytes may be passed. What is promised of each entry is proved
- * for all inputs; CLAIMS.md says by which theorem.
+ * CALLS. Every entry answers GM_OK, or the number of its refusal (GM_REFUSED_..; gm_refusal.h has a
+ * sentence for each). A refusal changes nothing: every buffer and every result is as it came in. Of several
+ * refusals the lowest is given, but a table or a record in its order. Of a table (gm_run, gm_run_frames)
+ * that is record by record, and of one record CUT if fewer than 3 bytes are left, KIND, CUT if it is not
+ * whole, COUNT, LENGTH of the row or of the frames, LIMIT. gm_cycle gives COUNT, LENGTH (of the row, or
+ * bytes behind the record), STATE, and then its record's CUT, KIND, CUT, LIMIT. No entry allocates, blocks,
+ * keeps anything between calls, or reads or writes outside the buffers that it is lent; any number and any
+ * bytes may be passed. What is promised of each entry is proved for all inputs; CLAIMS.md says by which
+ * theorem.
  *
- * BUFFERS. A buffer is a pointer and its length in bytes; it may stand at any address. A result is a pointer to an object of its type. No pointer is null,
- * also where the length is 0: there it may point to any object or behind its end, and nothing is read. What an entry only reads (const) may coincide with
- * or overlap anything else that it only reads in that call, such as one frame lent as both copies. A buffer or a result that it writes overlaps nothing
- * else of the call; what happens where it does is outside the promise. Nobody else writes a buffer, or reads one that is written, until the call returns.
- * Entries may be called from several threads at once on buffers of their own.
+ * BUFFERS. A buffer is a pointer and its length in bytes; it may stand at any address. A result is a
+ * pointer to an object of its type, and every result is asked for, also those that the host does not need.
+ * No pointer is null, also where the length is 0: there it may point to any object or behind its end, and
+ * nothing is read. A null pointer is outside the promise even where it seems to work: for a copy that did
+ * not come lend the other one's pointer with length 0. What an entry only reads (const) may coincide with
+ * or overlap anything else that it only reads in that call, such as one frame lent as both copies. A buffer
+ * or a result that it writes overlaps nothing else of the call, no other result either; what happens where
+ * it does is outside the promise. Nobody else writes a buffer, or reads one that is written, until the call
+ * returns. Entries may be called from several threads at once on buffers of their own.
  *
- * NUMBERS. A set of nodes is a mask of 64 bits, bit q for node q; nodes are numbered from 0, and n is how many there are. Arguments and results are
- * numbers of the host. In states, votes, frames and tables every number of several bytes stands highest byte first.
+ * NUMBERS. A set of nodes is a mask of 64 bits, bit q for node q; nodes are numbered from 0, and n is how
+ * many there are. Arguments and results are numbers of the host. In states, votes, frames and tables every
+ * number of several bytes stands highest byte first.
  *
- * A STATE is 24 bytes, which the host keeps from cycle to cycle and never changes itself; gm_state takes it apart, GM_STATE_AT_.. are the places:
- *   byte 0        kind: GM_KIND_OUT, GM_KIND_JOINING or GM_KIND_MEMBER
- *   byte 1        reason of a node that is out, GM_REASON_..; else 0
- *   byte 2        the node's number, below n
- *   byte 3        n, 2 to 64
- *   bytes 4-7     group number of a member; else 0
- *   bytes 8-15    set of a member: the present group, the node in it; else 0
- *   bytes 16-23   base of a member: the present and the previous group together; else 0
+ * A STATE is 24 bytes, which the host keeps from cycle to cycle and never changes itself. gm_state takes it
+ * apart; GM_STATE_AT_.. are the places:
+ *     byte 0: kind, GM_KIND_OUT, GM_KIND_JOINING or GM_KIND_MEMBER
+ *     byte 1: reason of a node that is out, GM_REASON_..; else 0
+ *     byte 2: the node's number, below n
+ *     byte 3: n, 2 to 64
+ *     bytes 4-7: group number of a member, which grows by one with every change of its set, 0 following
+ *     4294967295; else 0
+ *     bytes 8-15: set of a member, the present group, the node in it; else 0
+ *     bytes 16-23: base of a member, the present group and that of one cycle earlier together; else 0
  *
- * A VOTE is 28 bytes (GM_VOTE_AT_..): bytes 0-3 group number, 4-11 set, 12-19 base, 20-27 view, the nodes that its sender heard. The vote buffer has one
- * for each of 64 nodes, that of node q at byte 28 q, and a mask `arrived` beside it.
+ * A VOTE is 28 bytes (GM_VOTE_AT_..): bytes 0-3 group number, 4-11 set, 12-19 base, 20-27 view, the nodes
+ * that its sender heard. The vote buffer has one for each of 64 nodes, that of node q at byte 28 q, and a
+ * mask `arrived` beside it.
  *
- * FRAMES are as ISO 17458-2 lays them out: 5 header bytes, the payload, 3 check bytes, which differ between the channels. The heartbeat of node q goes in
- * slot q + 1 (GM_HEARTBEAT_SLOT) and has 10 bytes, one word of payload, of which bit 7 of the first byte is 1 for a node that is joining and all else 0.
- * Its vote goes in slot q + 65 (GM_VOTE_SLOT) and has 36 bytes, the payload a vote. The slot is the frame number of the header. The cycle count is that
- * of the bus, 0 to 63. A host may set sync and startup in heartbeats (startup only with sync); in votes both are 0.
+ * FRAMES are as ISO 17458-2 lays them out: 5 header bytes, the payload, 3 check bytes, which differ between
+ * the channels; the entries write and read them whole. The heartbeat of node q goes in slot q + 1
+ * (GM_HEARTBEAT_SLOT) and has 10 bytes, one word of payload, of which bit 7 of the first byte is 1 for a
+ * node that is joining and all else 0. Its vote goes in slot q + 65 (GM_VOTE_SLOT) and has 36 bytes, the
+ * payload a vote. So heartbeats have one length, as static slots ask, and votes another, as dynamic slots
+ * allow. The slot is the frame number of the header. The cycle count is that of the bus, 0 to 63. A host
+ * may set sync and startup in heartbeats (startup only with sync); in votes both are 0.
  *
  * A TABLE is records, one behind the other, each beginning with GM_MARK_0, GM_MARK_1 and its kind:
- *   GM_RECORD_START, first and only once, 12 bytes (GM_START_AT_..): byte 3 n, bytes 4-11 founding set
- *   GM_RECORD_CYCLE, 36 bytes and its entries (GM_CYCLE_AT_..): bytes 3-10 stop, 11-18 start, 19-26 heartbeats lost in sending, 27-34 votes lost in
- *   sending, byte 35 the count of entries, 0 to 128. An entry is 9 bytes: bit 7 of the first is 0 for heartbeats and 1 for votes (GM_ENTRY_VOTE), bit 6
- *   is 0, bits 0-5 are the receiver; then the senders that it misses, not empty and without the receiver. First bytes ascend, and no two are equal.
+ *   - GM_RECORD_START, first and only once, 12 bytes (GM_START_AT_..): byte 3 n, bytes 4-11 founding set
+ *   - GM_RECORD_CYCLE, 36 bytes and its entries (GM_CYCLE_AT_..): bytes 3-10 stop, 11-18 start, 19-26
+ *     heartbeats lost in sending, 27-34 votes lost in sending, byte 35 the count of entries, 0 to 128. An
+ *     entry is 9 bytes (GM_ENTRY_..): bit 7 of the first is 0 for heartbeats and 1 for votes, bit 6 is 0,
+ *     bits 0-5 are the receiver; then the senders that it misses, not empty and without the receiver. First
+ *     bytes ascend, and no two are equal.
  *
  * ONE CYCLE of a node, heard0, heard1 and arrived being 0 before it:
  *   1. gm_stop, gm_start where the host wants it
  *   2. gm_send_heartbeat for each channel; the host sends the frame if there is one
- *   3. gm_receive_heartbeat for every other node; GM_HEARD_MEMBER goes into heard0, GM_HEARD_JOINING into heard1
+ *   3. gm_receive_heartbeat for every other node; GM_HEARD_MEMBER goes into heard0, GM_HEARD_JOINING into
+ *      heard1
  *   4. gm_send_vote for each channel, with these masks; the host sends the frame if there is one
  *   5. gm_receive_vote for every other node, into the vote buffer, whatever stands in it, and `arrived`
  *   6. gm_decide, with the same heard0 and heard1
- * In 3 and 5 the nodes may come in any order, and the call for a node of which nothing came on both channels may be left out: its bit is then 0, which is why
- * the masks are 0 before the cycle. After 6 gm_state tells the node's group. A node that halted is out, reason 1 or 2: it sends nothing and stays so until
- * gm_start, from which it is joining and comes in by the votes of the others.
+ * In 3 and 5 the nodes may come in any order, and the call for a node of which nothing came on both
+ * channels may be left out: its bit is then 0, which is why the masks are 0 before the cycle. After 6
+ * gm_state tells what the node holds. A node that halted is out, reason 1 or 2: it sends nothing and stays
+ * so until gm_start, from which it is joining and comes in by the votes of the others. Where no member is
+ * left nobody comes in any more: all units have to begin anew together, and how they agree on that is the
+ * host's to say.
  *
- * DUTIES OF THE HOST. No call can see these, and agreement of the units is promised only where they are kept (SAFETY.md has them with their reasons):
- *   - All units begin with the same n and the same founding set, each with a number of its own.
- *   - Every call of a cycle is made, in the order above, and each answered GM_OK.
- *   - gm_send_vote, on both channels, and gm_decide get the same heard0 and heard1: the decision makes the node's own vote from them again.
- *   - No cycle is skipped: a unit that slept through one and goes on with its old state holds a state that the rules do not give. Only a node that is out,
- *     and neither stopped nor started, may make no calls at all, and one that is stopped and not started none but gm_stop.
- *   - A unit that lost its state, or its power, counts as stopped in that cycle. It comes back, in that cycle or a later one, by gm_begin, gm_stop and
- *     gm_start, and never by gm_begin alone (gm_begin with a founding set that lacks the node leaves what gm_begin and gm_stop leave).
- *   - gm_begin belongs to the beginning of the press. A founder that restarts by gm_begin alone takes itself for a member of the founding group, number 0.
- *     Where those that do so are more than half of the founding set they can go on as a second group beside the one that runs: units hold different groups,
- *     and no entry tells; fewer of them halt in that cycle for want of a quorum, unless the group that runs is still that first one.
- *   - The cycle count that is passed is that of the bus cycle, and a frame is handed over in the cycle in which it came.
+ * AGREEMENT. A node is touched in a cycle if it is stopped in it, one of its frames is lost in sending, or
+ * it misses a frame of another node. As long as in every cycle more than half of the present group and that
+ * of one cycle earlier together are present members untouched in it and in the cycle before, all members
+ * that were untouched in a cycle hold after it one set and number, the group of record. A member that was
+ * touched may hold another set for one cycle, ALSO UNDER THE SAME NUMBER, and halts or is stopped in the
+ * next; it cannot tell. So compare sets and not numbers alone. From the first cycle in which it is half or
+ * fewer nothing more is promised, and no entry reports it: grouprun(1) does, of a table of faults. Of a
+ * group of two, neither may be touched.
+ *
+ * DUTIES OF THE HOST. No call can see these, and agreement is promised only where they are kept (SAFETY.md
+ * has them with their reasons):
+ *   - All units begin with the same n and the same founding set, each with a number of its own, and n of a
+ *     receiving entry is the n of the state.
+ *   - Every call of a cycle is made, in the order above, and each answered GM_OK. If one is refused, the
+ *     unit sends nothing more in that cycle and counts as having lost its state.
+ *   - gm_send_vote, on both channels, and gm_decide get the same heard0 and heard1: the decision makes the
+ *     node's own vote from them again.
+ *   - No cycle is skipped: a unit that slept through one and goes on with its old state holds a state that
+ *     the rules do not give. Only a node that is out, and neither stopped nor started, may make no calls at
+ *     all, and one that is stopped and not started none but gm_stop.
+ *   - A unit that lost its state, or its power, before its heartbeat went out counts as stopped in that
+ *     cycle; one that loses it later as one whose frames are lost from then on and which is stopped in the
+ *     next. It comes back, in the cycle in which it counts as stopped or a later one, by gm_begin, gm_stop
+ *     and gm_start in step 1, and never by gm_begin alone (gm_begin with a founding set that lacks the node
+ *     leaves what gm_begin and gm_stop leave).
+ *   - gm_begin belongs to the beginning of the press. A founder that restarts by gm_begin alone takes
+ *     itself for a member of the founding group, number 0. Where those that do so are more than half of the
+ *     founding set they can go on as a second group beside the one that runs: units hold different groups,
+ *     and no entry reports it. Fewer of them halt in that cycle for want of a quorum, unless the group that
+ *     runs is still that first one.
+ *   - The cycle count that is passed is that of the bus cycle, and a frame is handed over in the cycle in
+ *     which it came.
  *   - From call to call nobody else writes a state or a row.
  *
- * gm_cycle, gm_run and gm_run_frames work on a row: the states of all n nodes, one after the other, node q at byte 24 q. They are for a test stand.
+ * gm_cycle, gm_run and gm_run_frames work on a row: the states of all n nodes, one after the other, node q
+ * at byte 24 q. They are for a test stand.
  */
 #ifndef GM_H
 #define GM_H
@@ -82,11 +125,14 @@ extern "C" {
 #define GM_VERSION_PATCH 0U
 #define GM_VERSION "0.2.0"
 
-/* how many nodes there can be */
+/* how many nodes, channels and cycle counts there can be */
 #define GM_NODES_MIN 2U
 #define GM_NODES_MAX 64U
+#define GM_CHANNELS 2U
+#define GM_CYCLE_COUNTS 64U
 
 /* sizes of buffers, in bytes */
+#define GM_SET_BYTES 8U
 #define GM_STATE_BYTES 24U
 #define GM_HEARTBEAT_BYTES 10U
 #define GM_VOTE_FRAME_BYTES 36U
@@ -94,7 +140,7 @@ extern "C" {
 #define GM_VOTES_BYTES 1792U
 #define GM_FRAMES_BYTES 9216U
 
-/* where the numbers of a state stand, how many bytes they have is said above; and the values of the first two */
+/* where the numbers of a state stand, and the values of the first two */
 #define GM_STATE_AT_KIND 0U
 #define GM_STATE_AT_REASON 1U
 #define GM_STATE_AT_NODE 2U
@@ -129,6 +175,7 @@ extern "C" {
 #define GM_HEARD_JOINING 2U
 
 /* records of a table: mark and kind, then where the parts of each stand */
+#define GM_RECORD_AT_MARK 0U
 #define GM_MARK_0 0x47U
 #define GM_MARK_1 0x4DU
 #define GM_RECORD_AT_KIND 2U
@@ -143,151 +190,203 @@ extern "C" {
 #define GM_CYCLE_AT_VOTE_LOST 27U
 #define GM_CYCLE_AT_COUNT 35U
 #define GM_CYCLE_AT_ENTRIES 36U
-#define GM_ENTRY_BYTES 9U
-#define GM_ENTRY_AT_MISSED 1U
-#define GM_ENTRY_VOTE 0x80U
 #define GM_ENTRIES_MAX 128U
+#define GM_ENTRY_BYTES 9U
+#define GM_ENTRY_AT_RECEIVER 0U /* bits 0-5, with GM_ENTRY_VOTE added where votes are missed */
+#define GM_ENTRY_VOTE 0x80U
+#define GM_ENTRY_AT_MISSED 1U
+#define GM_RECORD_BYTES_MAX 1188U
+
+/*
+ * the four parts of the frames that gm_run_frames hands out, each with a slot of GM_VOTE_FRAME_BYTES for
+ * each of 64 nodes
+ */
+#define GM_FRAMES_AT_HEARTBEATS_A 0U
+#define GM_FRAMES_AT_HEARTBEATS_B 2304U
+#define GM_FRAMES_AT_VOTES_A 4608U
+#define GM_FRAMES_AT_VOTES_B 6912U
 
 /* the status of a call that was accepted */
 #define GM_OK 0U
-/* refusals: of the caller's numbers and buffers */
-#define GM_REFUSED_COUNT 1U  /* n outside 2 to 64 */
-#define GM_REFUSED_NUMBER 2U /* a node not below n, a cycle count above 63, a channel above 1; to be written: join, sync or startup above 1, startup without sync */
-#define GM_REFUSED_LENGTH 3U /* a buffer of another length than its entry names, or a row not of n states */
-#define GM_REFUSED_STATE 4U  /* a state that is not well formed, or in a row a state q that is not node q of n */
-/* of a frame */
-#define GM_REFUSED_FRAME_LENGTH 5U /* fewer than 8 bytes, or not 8 plus twice the length field */
+/* refusals, of the caller's numbers and buffers: n outside 2 to 64 */
+#define GM_REFUSED_COUNT 1U
+/*
+ * a node not below n, a cycle count above 63, a channel above 1; to be written: join, sync or startup above
+ * 1, startup without sync
+ */
+#define GM_REFUSED_NUMBER 2U
+/* a buffer of another length than its entry names, or a row not of n states */
+#define GM_REFUSED_LENGTH 3U
+/* a state that is not well formed, or in a row a state q that is not node q of n */
+#define GM_REFUSED_STATE 4U
+/* of a frame: fewer than 8 bytes, or not 8 plus twice the length field */
+#define GM_REFUSED_FRAME_LENGTH 5U
 #define GM_REFUSED_HEADER_CHECK 6U
 #define GM_REFUSED_FRAME_CHECK 7U
 #define GM_REFUSED_NULL_FRAME 8U
-#define GM_REFUSED_NOT_DUE 9U  /* another frame number, cycle count, payload length, indicator or reserved bit than due */
-#define GM_REFUSED_CONTENT 10U /* heartbeat bits that must be 0; a vote whose set or view lacks the sender, whose base lacks part of the set, or with a bit at n or above */
-/* of a table or a record of it */
-#define GM_REFUSED_CUT 11U   /* it ends inside a record, or is empty */
-#define GM_REFUSED_KIND 12U  /* a wrong mark or kind, a first record not of kind 1, a later one of kind 1 */
-#define GM_REFUSED_LIMIT 13U /* a founding set that is empty or has a bit at n or above; in a record, any bit, receiver, count or entry beyond its limit; a cycle after number 4294967295 */
+/* another frame number, cycle count, payload length, indicator or reserved bit than due */
+#define GM_REFUSED_NOT_DUE 9U
+/*
+ * heartbeat bits that must be 0; a vote whose set or view lacks the sender, whose base lacks part of the
+ * set, or with a bit at n or above
+ */
+#define GM_REFUSED_CONTENT 10U
+/* of a table or a record of it: it ends inside a record, or is empty */
+#define GM_REFUSED_CUT 11U
+/* a wrong mark or kind, a first record not of kind 1, a later one of kind 1 */
+#define GM_REFUSED_KIND 12U
+/*
+ * a founding set that is empty or has a bit at n or above; in a record a bit, receiver, count or entry
+ * beyond its limit; a cycle of a table above number 4294967295
+ */
+#define GM_REFUSED_LIMIT 13U
 
 /*
- * No entry on one node, and none on a row, takes more bytes of stack below its caller's stack pointer: 2232 and 30328 by a walk of the archive's code
- * (make stack), rounded up. Of memset and memcpy the walk counts the return address: glibc's take no more. They must be bound before the first call,
- * statically or by -Wl,-z,now: where the dynamic linker binds one inside a call, that call takes some 3 KiB more.
+ * The stack that an entry takes at most, on one node and on a row, in bytes below its caller's stack
+ * pointer: 2232 and 30328 by a walk of the archive's code, rounded up. Of memset and memcpy the walk counts
+ * the return address: glibc's take no more. They must be bound before the first call, statically or by
+ * -Wl,-z,now: where the dynamic linker binds one inside a call, that call takes some 3 KiB more.
  */
 #define GM_STACK_BYTES 2560U
 #define GM_ROW_STACK_BYTES 40960U
 
 /*
- * Puts node `node` of `n` at the beginning, for the founding set `founding`: a member with group number 0 if it is in the set, else out.
+ * Puts node `node` of `n` at the beginning, for the founding set `founding`: a member with group number 0
+ * if it is in the set, else out.
  * state: GM_STATE_BYTES. Refusals: COUNT, NUMBER, LENGTH, LIMIT.
  */
 uint32_t gm_begin(uint32_t n, uint32_t node, uint64_t founding, uint8_t *state, size_t state_len);
 
 /*
- * Stops the node: out, reason 0. state: GM_STATE_BYTES. Refusals: LENGTH, STATE.
+ * Stops the node: out, reason 0.
+ * state: GM_STATE_BYTES. Refusals: LENGTH, STATE.
  */
 uint32_t gm_stop(uint8_t *state, size_t state_len);
 
 /*
- * Starts the node: a node that is out becomes joining, others do not change. state: GM_STATE_BYTES. Refusals: LENGTH, STATE.
+ * Starts the node: a node that is out becomes joining, others do not change.
+ * state: GM_STATE_BYTES. Refusals: LENGTH, STATE.
  */
 uint32_t gm_start(uint8_t *state, size_t state_len);
 
 /*
- * Takes a state apart: *kind is GM_KIND_.., *reason GM_REASON_.. (of a node that is out, else 0), *node and *n the node's number and how many there are,
- * *number, *set and *base those of a member, else 0. state: GM_STATE_BYTES. Refusals: LENGTH, STATE.
+ * Takes a state apart: *kind is GM_KIND_.., *reason GM_REASON_.. (of a node that is out, else 0), *node and
+ * *n the node's number and how many there are, *number, *set and *base those of a member, else 0.
+ * state: GM_STATE_BYTES. Refusals: LENGTH, STATE.
  */
-uint32_t gm_state(const uint8_t *state, size_t state_len, uint32_t *kind, uint32_t *reason, uint32_t *node, uint32_t *n, uint32_t *number,
-                  uint64_t *set, uint64_t *base);
+uint32_t gm_state(const uint8_t *state, size_t state_len, uint32_t *kind, uint32_t *reason, uint32_t *node,
+                  uint32_t *n, uint32_t *number, uint64_t *set, uint64_t *base);
 
 /*
- * Writes the heartbeat of a node from numbers. frame: GM_HEARTBEAT_BYTES. Refusals: COUNT, NUMBER, LENGTH.
+ * Writes the heartbeat of a node from numbers.
+ * frame: GM_HEARTBEAT_BYTES. Refusals: COUNT, NUMBER, LENGTH.
  */
-uint32_t gm_write_heartbeat(uint32_t n, uint32_t node, uint32_t join, uint32_t sync, uint32_t startup, uint32_t cycle, uint32_t channel,
-                            uint8_t *frame, size_t frame_len);
+uint32_t gm_write_heartbeat(uint32_t n, uint32_t node, uint32_t join, uint32_t sync, uint32_t startup,
+                            uint32_t cycle, uint32_t channel, uint8_t *frame, size_t frame_len);
 
 /*
- * Writes the heartbeat that a node sends in its state: *sent is 1, or 0 if it sends none, and frame is then as it came in.
+ * Writes the heartbeat that a node sends in its state: *sent is 1, or 0 if it sends none, and frame is then
+ * as it came in.
  * state: GM_STATE_BYTES, frame: GM_HEARTBEAT_BYTES. Refusals: NUMBER, LENGTH, STATE.
  */
-uint32_t gm_send_heartbeat(const uint8_t *state, size_t state_len, uint32_t sync, uint32_t startup, uint32_t cycle, uint32_t channel,
-                           uint8_t *frame, size_t frame_len, uint32_t *sent);
+uint32_t gm_send_heartbeat(const uint8_t *state, size_t state_len, uint32_t sync, uint32_t startup,
+                           uint32_t cycle, uint32_t channel, uint8_t *frame, size_t frame_len,
+                           uint32_t *sent);
 
 /*
  * Reads one copy of the heartbeat of `node`, due in cycle count `cycle` on `channel`: *join is 0 or 1.
- * frame: of any length. Refusals: COUNT, NUMBER, FRAME_LENGTH, HEADER_CHECK, FRAME_CHECK, NULL_FRAME, NOT_DUE, CONTENT.
+ * frame: of any length. Refusals: COUNT, NUMBER, FRAME_LENGTH, HEADER_CHECK, FRAME_CHECK, NULL_FRAME,
+ * NOT_DUE, CONTENT.
  */
-uint32_t gm_read_heartbeat(uint32_t n, uint32_t node, uint32_t cycle, uint32_t channel, const uint8_t *frame, size_t frame_len,
-                           uint32_t *join);
+uint32_t gm_read_heartbeat(uint32_t n, uint32_t node, uint32_t cycle, uint32_t channel,
+                           const uint8_t *frame, size_t frame_len, uint32_t *join);
 
 /*
- * Receives the heartbeat of `node` from its copies on channels A and B (length 0 where none came): *heard is GM_MISSED, GM_HEARD_MEMBER or
- * GM_HEARD_JOINING. One good copy counts; two count if their payloads are equal. a, b: of any length. Refusals: COUNT, NUMBER.
+ * Receives the heartbeat of `node` from its copies on channels A and B (length 0 where none came): *heard
+ * is GM_MISSED, GM_HEARD_MEMBER or GM_HEARD_JOINING. One good copy counts; two count if their payloads are
+ * equal, else the heartbeat is missed; sync and startup are not compared.
+ * a, b: of any length. Refusals: COUNT, NUMBER.
  */
-uint32_t gm_receive_heartbeat(uint32_t n, uint32_t node, uint32_t cycle, const uint8_t *a, size_t a_len, const uint8_t *b, size_t b_len,
-                              uint32_t *heard);
+uint32_t gm_receive_heartbeat(uint32_t n, uint32_t node, uint32_t cycle, const uint8_t *a, size_t a_len,
+                              const uint8_t *b, size_t b_len, uint32_t *heard);
 
 /*
- * The view of a node from what it heard: *view holds the node itself if it is a member, and is 0 if it is not.
+ * The view of a node from what it heard: *view holds the node itself if it is a member, and is 0 if it is
+ * not.
  * state: GM_STATE_BYTES. Refusals: LENGTH, STATE.
  */
 uint32_t gm_view(const uint8_t *state, size_t state_len, uint64_t heard0, uint64_t heard1, uint64_t *view);
 
 /*
- * Writes the vote of a node from numbers. frame: GM_VOTE_FRAME_BYTES. Refusals: COUNT, NUMBER, LENGTH, CONTENT.
+ * Writes the vote of a node from numbers.
+ * frame: GM_VOTE_FRAME_BYTES. Refusals: COUNT, NUMBER, LENGTH, CONTENT.
  */
-uint32_t gm_write_vote(uint32_t n, uint32_t node, uint32_t number, uint64_t set, uint64_t base, uint64_t view, uint32_t cycle,
-                       uint32_t channel, uint8_t *frame, size_t frame_len);
+uint32_t gm_write_vote(uint32_t n, uint32_t node, uint32_t number, uint64_t set, uint64_t base,
+                       uint64_t view, uint32_t cycle, uint32_t channel, uint8_t *frame, size_t frame_len);
 
 /*
- * Writes the vote that a node sends in its state, from what it heard: *sent is 1, or 0 if it sends none, and frame is then as it came in.
+ * Writes the vote that a node sends in its state, from what it heard: *sent is 1, or 0 if it sends none,
+ * and frame is then as it came in.
  * state: GM_STATE_BYTES, frame: GM_VOTE_FRAME_BYTES. Refusals: NUMBER, LENGTH, STATE.
  */
-uint32_t gm_send_vote(const uint8_t *state, size_t state_len, uint64_t heard0, uint64_t heard1, uint32_t cycle, uint32_t channel,
-                      uint8_t *frame, size_t frame_len, uint32_t *sent);
+uint32_t gm_send_vote(const uint8_t *state, size_t state_len, uint64_t heard0, uint64_t heard1,
+                      uint32_t cycle, uint32_t channel, uint8_t *frame, size_t frame_len, uint32_t *sent);
 
 /*
- * Reads one copy of the vote of `node`, due in cycle count `cycle` on `channel`, to its payload: number (4 bytes), set, base and view (8 each).
- * frame: of any length, vote: GM_VOTE_BYTES.
- * Refusals: COUNT, NUMBER, LENGTH, FRAME_LENGTH, HEADER_CHECK, FRAME_CHECK, NULL_FRAME, NOT_DUE, CONTENT.
+ * Reads one copy of the vote of `node`, due in cycle count `cycle` on `channel`, to its payload: number (4
+ * bytes), set, base and view (8 each).
+ * frame: of any length, vote: GM_VOTE_BYTES. Refusals: COUNT, NUMBER, LENGTH, FRAME_LENGTH, HEADER_CHECK,
+ * FRAME_CHECK, NULL_FRAME, NOT_DUE, CONTENT.
  */
-uint32_t gm_read_vote(uint32_t n, uint32_t node, uint32_t cycle, uint32_t channel, const uint8_t *frame, size_t frame_len,
-                      uint8_t *vote, size_t vote_len);
+uint32_t gm_read_vote(uint32_t n, uint32_t node, uint32_t cycle, uint32_t channel, const uint8_t *frame,
+                      size_t frame_len, uint8_t *vote, size_t vote_len);
 
 /*
- * Receives the vote of `node` from its copies on channels A and B (length 0 where none came): into its slot of the vote buffer, its bit of *arrived
- * set; or it is missed, the buffer is as it came in and the bit cleared. a, b: of any length, votes: GM_VOTES_BYTES. Refusals: COUNT, NUMBER, LENGTH.
+ * Receives the vote of `node` from its copies on channels A and B (length 0 where none came): into its slot
+ * of the vote buffer, its bit of *arrived set; or it is missed, the buffer is as it came in and the bit
+ * cleared. One good copy counts; two count if their payloads are equal, else the vote is missed.
+ * a, b: of any length, votes: GM_VOTES_BYTES. Refusals: COUNT, NUMBER, LENGTH.
  */
-uint32_t gm_receive_vote(uint32_t n, uint32_t node, uint32_t cycle, const uint8_t *a, size_t a_len, const uint8_t *b, size_t b_len,
-                         uint8_t *votes, size_t votes_len, uint64_t *arrived);
+uint32_t gm_receive_vote(uint32_t n, uint32_t node, uint32_t cycle, const uint8_t *a, size_t a_len,
+                         const uint8_t *b, size_t b_len, uint8_t *votes, size_t votes_len,
+                         uint64_t *arrived);
 
 /*
- * Decides: the node's next state, from what it heard and the votes that arrived. A slot whose vote is not sound counts as not arrived, and so does a
- * bit at n or above; the node's own bit is not looked at. state: GM_STATE_BYTES, votes: GM_VOTES_BYTES. Refusals: LENGTH, STATE.
+ * Decides: the node's next state, from what it heard and the votes that arrived. A slot whose vote is not
+ * sound counts as not arrived, and so does a bit at n or above; the node's own bit is not looked at.
+ * state: GM_STATE_BYTES, votes: GM_VOTES_BYTES. Refusals: LENGTH, STATE.
  */
-uint32_t gm_decide(uint8_t *state, size_t state_len, uint64_t heard0, uint64_t heard1, const uint8_t *votes, size_t votes_len,
-                   uint64_t arrived);
+uint32_t gm_decide(uint8_t *state, size_t state_len, uint64_t heard0, uint64_t heard1, const uint8_t *votes,
+                   size_t votes_len, uint64_t arrived);
 
 /*
  * One cycle of all n nodes under the faults of one record of kind 2, on the row as it is lent.
- * row: n times GM_STATE_BYTES, record: exactly one record. Refusals: COUNT, LENGTH, STATE, CUT, KIND, LIMIT.
+ * row: n times GM_STATE_BYTES, record: exactly one record. Refusals: COUNT, LENGTH, STATE, CUT, KIND,
+ * LIMIT.
  */
 uint32_t gm_cycle(uint32_t n, uint8_t *row, size_t row_len, const uint8_t *record, size_t record_len);
 
 /*
- * A table's run: sets the row to the beginning of the table and runs its cycles. The whole table is looked at before the row changes.
- * row: as many times GM_STATE_BYTES as the table has nodes, in any state; table: of any length. Refusals: CUT, KIND, COUNT, LENGTH, LIMIT, record by record.
+ * A table's run: sets the row to the beginning of the table and runs its cycles. The whole table is looked
+ * at before the row changes.
+ * row: as many times GM_STATE_BYTES as the table has nodes, in any state; table: of any length. Refusals:
+ * CUT, KIND, COUNT, LENGTH, LIMIT, record by record.
  */
 uint32_t gm_run(uint8_t *row, size_t row_len, const uint8_t *table, size_t table_len);
 
 /*
- * The same run through frames: in every cycle each node writes its frames for both channels, and reads those of the others. It leaves what gm_run leaves,
- * and in `frames` what an analyser at the senders would show of the last cycle: heartbeats on A, heartbeats on B, votes on A, votes on B, each of these four
- * parts 64 slots of GM_VOTE_FRAME_BYTES. The frame that node q sent stands at the front of slot q, whether or not it reached anybody; zeros stand behind
- * it, and where nothing was sent. Cycle n of the run has cycle count n - 1 modulo 64, and its heartbeats have sync and startup 0. A table without cycles
- * leaves `frames` as it came in. Fixed are the states of every cycle and the frames of the last: that the earlier cycles go through frames too is so, but
- * no promise about results can say it.
- * row, table: as for gm_run; frames: GM_FRAMES_BYTES, another length being refused where the row's is. Refusals: those of gm_run.
+ * The same run through frames: in every cycle each node writes its frames for both channels, and reads
+ * those of the others. It leaves what gm_run leaves, and in `frames` what an analyser at the senders would
+ * show of the last cycle: heartbeats on A, heartbeats on B, votes on A, votes on B, each of these four
+ * parts 64 slots of GM_VOTE_FRAME_BYTES. The frame that node q sent stands at the front of slot q, whether
+ * or not it reached anybody; zeros stand behind it, and where nothing was sent. Cycle n of the run has
+ * cycle count n - 1 modulo 64, and its heartbeats have sync and startup 0. A table without cycles leaves
+ * `frames` as it came in.
+ * row, table: as for gm_run; frames: GM_FRAMES_BYTES, another length being refused where the row's is.
+ * Refusals: those of gm_run.
  */
-uint32_t gm_run_frames(uint8_t *row, size_t row_len, const uint8_t *table, size_t table_len, uint8_t *frames, size_t frames_len);
+uint32_t gm_run_frames(uint8_t *row, size_t row_len, const uint8_t *table, size_t table_len,
+                       uint8_t *frames, size_t frames_len);
 
 #ifdef __cplusplus
 }

@@ -94,10 +94,16 @@ check_manuals() {
 # "DECLARATION" and "ENTRY REFUSALS" of every entry, a line each: by the header, where both stand together, and by the library's page
 of_header() {
     awk '
-        /^ \* / { if (match($0, /Refusals: /)) refusals = substr($0, RSTART + 10) }
+        /^\/\*$/ { comment = "" }
+        sub(/^ \* /, "") { comment = comment " " $0; next }
         /^uint32_t gm_/ { declaration = "" }
-        /^uint32_t gm_/, /;$/ { sub(/^ +/, ""); declaration = declaration (declaration == "" ? "" : " ") $0
-            if (/;$/) { print declaration; match(declaration, /gm_[a-z_]+/); print substr(declaration, RSTART, RLENGTH), refusals } }' include/gm.h
+        /^uint32_t gm_/, /;$/ { sub(/^ +/, ""); declaration = declaration (declaration == "" ? "" : " ") $0 }
+        /;$/ && match(declaration, /gm_[a-z_]+/) {
+            print declaration
+            sub(/.* Refusals: /, "", comment)
+            print substr(declaration, RSTART, RLENGTH), comment
+            declaration = ""
+        }' include/gm.h
 }
 of_page() {
     awk '

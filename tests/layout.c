@@ -33,8 +33,8 @@ static void member(uint8_t *state)
     state[GM_STATE_AT_NODE] = 3;
     state[GM_STATE_AT_N] = 9;
     put(state + GM_STATE_AT_NUMBER, 4, 0x01020304);
-    put(state + GM_STATE_AT_SET, 8, 0x0F8);
-    put(state + GM_STATE_AT_BASE, 8, 0x1F9);
+    put(state + GM_STATE_AT_SET, GM_SET_BYTES, 0x0F8);
+    put(state + GM_STATE_AT_BASE, GM_SET_BYTES, 0x1F9);
 }
 
 static void states(void)
@@ -57,9 +57,9 @@ static void reasons(void)
     hold(state[GM_STATE_AT_REASON] == GM_REASON_NO_QUORUM, "its reason is another");
     gm_begin(3, 0, 7, state, sizeof state);
     for (size_t q = 1; q < 3; q++) {
-        put(votes + q * GM_VOTE_BYTES + GM_VOTE_AT_SET, 8, 7);
-        put(votes + q * GM_VOTE_BYTES + GM_VOTE_AT_BASE, 8, 7);
-        put(votes + q * GM_VOTE_BYTES + GM_VOTE_AT_VIEW, 8, 6);
+        put(votes + q * GM_VOTE_BYTES + GM_VOTE_AT_SET, GM_SET_BYTES, 7);
+        put(votes + q * GM_VOTE_BYTES + GM_VOTE_AT_BASE, GM_SET_BYTES, 7);
+        put(votes + q * GM_VOTE_BYTES + GM_VOTE_AT_VIEW, GM_SET_BYTES, 6);
     }
     hold(gm_decide(state, sizeof state, 6, 0, votes, sizeof votes, 6) == GM_OK && state[GM_STATE_AT_REASON] == GM_REASON_OUTVOTED, "nobody is outvoted");
     hold(gm_start(state, sizeof state) == GM_OK && state[GM_STATE_AT_KIND] == GM_KIND_JOINING, "a start does not make it joining");
@@ -81,9 +81,9 @@ static void frames(void)
     hold(slot_of(frame) == GM_VOTE_SLOT + 3U, "a vote has another slot");
     hold(gm_read_vote(9, 3, 5, GM_CHANNEL_B, frame, sizeof frame, vote, sizeof vote) == GM_OK, "a vote is not read");
     put(due + GM_VOTE_AT_NUMBER, 4, 0x01020304);
-    put(due + GM_VOTE_AT_SET, 8, 0x0F8);
-    put(due + GM_VOTE_AT_BASE, 8, 0x1F9);
-    put(due + GM_VOTE_AT_VIEW, 8, 0x01C);
+    put(due + GM_VOTE_AT_SET, GM_SET_BYTES, 0x0F8);
+    put(due + GM_VOTE_AT_BASE, GM_SET_BYTES, 0x1F9);
+    put(due + GM_VOTE_AT_VIEW, GM_SET_BYTES, 0x01C);
     hold(memcmp(vote, due, sizeof vote) == 0, "the numbers of a vote stand elsewhere");
 }
 
@@ -115,29 +115,71 @@ static uint32_t ran(uint8_t *row, const uint8_t *table)
 /* three units of a table put together from the constants: unit 2 is stopped and started, and unit 1 misses the vote of unit 0 */
 static void tables(void)
 {
-    uint8_t table[GM_START_BYTES + GM_CYCLE_AT_ENTRIES + GM_ENTRY_BYTES] = {GM_MARK_0, GM_MARK_1}, row[3 * GM_STATE_BYTES] = {0};
+    uint8_t table[GM_START_BYTES + GM_CYCLE_AT_ENTRIES + GM_ENTRY_BYTES] = {0}, row[3 * GM_STATE_BYTES] = {0};
     uint8_t *cycle = table + GM_START_BYTES, *entry = cycle + GM_CYCLE_AT_ENTRIES;
+    table[GM_RECORD_AT_MARK] = GM_MARK_0;
+    table[GM_RECORD_AT_MARK + 1U] = GM_MARK_1;
     table[GM_RECORD_AT_KIND] = GM_RECORD_START;
     table[GM_START_AT_N] = 3;
-    put(table + GM_START_AT_FOUNDING, 8, 7);
+    put(table + GM_START_AT_FOUNDING, GM_SET_BYTES, 7);
     memcpy(cycle, table, GM_RECORD_AT_KIND);
     cycle[GM_RECORD_AT_KIND] = GM_RECORD_CYCLE;
-    put(cycle + GM_CYCLE_AT_STOP, 8, 4);
-    put(cycle + GM_CYCLE_AT_START, 8, 4);
+    put(cycle + GM_CYCLE_AT_STOP, GM_SET_BYTES, 4);
+    put(cycle + GM_CYCLE_AT_START, GM_SET_BYTES, 4);
     cycle[GM_CYCLE_AT_COUNT] = 1;
-    entry[0] = GM_ENTRY_VOTE | 1U;
-    put(entry + GM_ENTRY_AT_MISSED, 8, 1);
+    entry[GM_ENTRY_AT_RECEIVER] = GM_ENTRY_VOTE | 1U;
+    put(entry + GM_ENTRY_AT_MISSED, GM_SET_BYTES, 1);
     hold(gm_run(row, sizeof row, table, sizeof table) == GM_OK, "the table is refused");
     hold(row[GM_STATE_AT_KIND] == GM_KIND_MEMBER && row[GM_STATE_AT_SET + 7] == 3, "unit 0 holds another group");
     hold(row[GM_STATE_BYTES + GM_STATE_AT_REASON] == GM_REASON_NO_QUORUM, "unit 1, which counts one vote of three, does not halt");
     hold(row[2 * GM_STATE_BYTES + GM_STATE_AT_KIND] == GM_KIND_JOINING, "unit 2 is not joining");
     cycle[GM_CYCLE_AT_COUNT] = 0;
     hold(ran(row, table) == GM_KIND_MEMBER, "unit 1 halts though it misses nothing");
-    put(cycle + GM_CYCLE_AT_VOTE_LOST, 8, 1);
+    put(cycle + GM_CYCLE_AT_VOTE_LOST, GM_SET_BYTES, 1);
     hold(ran(row, table) == GM_KIND_OUT, "a vote of unit 0 that is lost reaches unit 1");
-    put(cycle + GM_CYCLE_AT_VOTE_LOST, 8, 0);
-    put(cycle + GM_CYCLE_AT_HEARTBEAT_LOST, 8, 1);
+    put(cycle + GM_CYCLE_AT_VOTE_LOST, GM_SET_BYTES, 0);
+    put(cycle + GM_CYCLE_AT_HEARTBEAT_LOST, GM_SET_BYTES, 1);
     hold(ran(row, table) == GM_KIND_OUT, "a heartbeat of unit 0 that is lost reaches unit 1");
+}
+
+/* the frames of unit 1 of two, in a run of one clean cycle, stand in their parts */
+static void shown(void)
+{
+    static uint8_t frames[GM_FRAMES_BYTES];
+    uint8_t table[GM_START_BYTES + GM_CYCLE_AT_ENTRIES] = {GM_MARK_0, GM_MARK_1, GM_RECORD_START, 2, 0, 0, 0, 0, 0, 0, 0, 3, GM_MARK_0, GM_MARK_1, GM_RECORD_CYCLE};
+    uint8_t row[2 * GM_STATE_BYTES] = {0}, vote[GM_VOTE_BYTES];
+    const size_t slot = GM_VOTE_FRAME_BYTES;
+    uint32_t join = 7;
+    hold(gm_run_frames(row, sizeof row, table, sizeof table, frames, sizeof frames) == GM_OK, "a run through frames is refused");
+    hold(gm_read_heartbeat(2, 1, 0, GM_CHANNEL_A, frames + GM_FRAMES_AT_HEARTBEATS_A + slot, GM_HEARTBEAT_BYTES, &join) == GM_OK, "no heartbeat on A");
+    hold(gm_read_heartbeat(2, 1, 0, GM_CHANNEL_B, frames + GM_FRAMES_AT_HEARTBEATS_B + slot, GM_HEARTBEAT_BYTES, &join) == GM_OK, "no heartbeat on B");
+    hold(gm_read_vote(2, 1, 0, GM_CHANNEL_A, frames + GM_FRAMES_AT_VOTES_A + slot, slot, vote, sizeof vote) == GM_OK, "no vote on A");
+    hold(gm_read_vote(2, 1, 0, GM_CHANNEL_B, frames + GM_FRAMES_AT_VOTES_B + slot, slot, vote, sizeof vote) == GM_OK, "no vote on B");
+}
+
+/* the limits: one node, channel, cycle count or entry more is refused, and the last is not */
+static void limits(void)
+{
+    static uint8_t record[GM_RECORD_BYTES_MAX + GM_ENTRY_BYTES] = {GM_MARK_0, GM_MARK_1, GM_RECORD_CYCLE};
+    static uint8_t row[GM_NODES_MAX * GM_STATE_BYTES];
+    uint8_t beat[GM_HEARTBEAT_BYTES];
+    const uint32_t last = GM_NODES_MAX - 1U;
+    hold(gm_write_heartbeat(GM_NODES_MAX, last, 0, 0, 0, GM_CYCLE_COUNTS - 1U, GM_CHANNELS - 1U, beat, sizeof beat) == GM_OK, "a last number is refused");
+    hold(gm_write_heartbeat(GM_NODES_MAX + 1U, last, 0, 0, 0, 0, 0, beat, sizeof beat) == GM_REFUSED_COUNT, "a node too many");
+    hold(gm_write_heartbeat(GM_NODES_MIN - 1U, 0, 0, 0, 0, 0, 0, beat, sizeof beat) == GM_REFUSED_COUNT, "a node too few");
+    hold(gm_write_heartbeat(GM_NODES_MIN, 0, 0, 0, 0, GM_CYCLE_COUNTS, 0, beat, sizeof beat) == GM_REFUSED_NUMBER, "a cycle count too many");
+    hold(gm_write_heartbeat(GM_NODES_MIN, 0, 0, 0, 0, 0, GM_CHANNELS, beat, sizeof beat) == GM_REFUSED_NUMBER, "a channel too many");
+    for (uint32_t q = 0; q < GM_NODES_MAX; q++)
+        gm_begin(GM_NODES_MAX, q, UINT64_MAX, row + q * GM_STATE_BYTES, GM_STATE_BYTES);
+    for (uint32_t k = 0; k < GM_ENTRIES_MAX; k++) {
+        uint8_t *entry = record + GM_CYCLE_AT_ENTRIES + k * GM_ENTRY_BYTES;
+        entry[GM_ENTRY_AT_RECEIVER] = (uint8_t)(k / GM_NODES_MAX * GM_ENTRY_VOTE + k % GM_NODES_MAX);
+        put(entry + GM_ENTRY_AT_MISSED, GM_SET_BYTES, (uint64_t)1 << (k + 1U) % GM_NODES_MAX);
+    }
+    record[GM_CYCLE_AT_COUNT] = GM_ENTRIES_MAX;
+    hold(gm_cycle(GM_NODES_MAX, row, sizeof row, record, GM_RECORD_BYTES_MAX) == GM_OK, "the longest record is refused");
+    record[GM_CYCLE_AT_COUNT]++;
+    hold(gm_cycle(GM_NODES_MAX, row, sizeof row, record, sizeof record) != GM_OK, "an entry too many");
 }
 
 /* every status up to the last has a sentence of its own, and no other number has one */
@@ -159,6 +201,8 @@ int main(void)
     frames();
     coinciding();
     tables();
+    shown();
+    limits();
     sentences();
     printf("%u\n", (unsigned)(GM_REFUSED_LIMIT + 1U));
     return 0;
