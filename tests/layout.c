@@ -105,41 +105,59 @@ static void coinciding(void)
     hold(arrived[0] == 8 && arrived[0] == arrived[1] && memcmp(votes[0], votes[1], sizeof votes[0]) == 0, "one vote lent twice is another vote");
 }
 
-/* the kind of unit 1 after the table's cycle, its record being without entries */
-static uint32_t ran(uint8_t *row, const uint8_t *table)
+/* a copy that is cut, one whose header check is damaged, and one whose frame check is */
+static void damaged(void)
 {
-    hold(gm_run(row, 3 * GM_STATE_BYTES, table, GM_START_BYTES + GM_CYCLE_AT_ENTRIES) == GM_OK, "the table without its entry is refused");
-    return row[GM_STATE_BYTES + GM_STATE_AT_KIND];
+    uint8_t beat[GM_HEARTBEAT_BYTES];
+    uint32_t join = 7;
+    gm_write_heartbeat(9, 3, 1, 0, 0, 5, GM_CHANNEL_A, beat, sizeof beat);
+    hold(gm_read_heartbeat(9, 3, 5, GM_CHANNEL_A, beat, sizeof beat - 1U, &join) == GM_REFUSED_FRAME_LENGTH, "a cut copy is refused otherwise");
+    beat[3] ^= 1U;
+    hold(gm_read_heartbeat(9, 3, 5, GM_CHANNEL_A, beat, sizeof beat, &join) == GM_REFUSED_HEADER_CHECK, "a damaged header is refused otherwise");
+    beat[3] ^= 1U;
+    beat[9] ^= 1U;
+    hold(gm_read_heartbeat(9, 3, 5, GM_CHANNEL_A, beat, sizeof beat, &join) == GM_REFUSED_FRAME_CHECK, "a damaged frame is refused otherwise");
 }
 
-/* three units of a table put together from the constants: unit 2 is stopped and started, and unit 1 misses the vote of unit 0 */
-static void tables(void)
+/* five units after one cycle of a table that is put together from the constants, units 0 to 3 founding */
+static uint8_t row[5 * GM_STATE_BYTES];
+
+static uint32_t kind(size_t q) { return row[q * GM_STATE_BYTES + GM_STATE_AT_KIND]; }
+static uint32_t reason(size_t q) { return row[q * GM_STATE_BYTES + GM_STATE_AT_REASON]; }
+static uint32_t set(size_t q) { return row[q * GM_STATE_BYTES + GM_STATE_AT_SET + GM_SET_BYTES - 1U]; }
+
+/* the cycle has one mask, at the place named, and one entry if `entry` is a length of one */
+static void run(size_t at, uint64_t mask, uint8_t receiver, size_t entry)
 {
-    uint8_t table[GM_START_BYTES + GM_CYCLE_AT_ENTRIES + GM_ENTRY_BYTES] = {0}, row[3 * GM_STATE_BYTES] = {0};
-    uint8_t *cycle = table + GM_START_BYTES, *entry = cycle + GM_CYCLE_AT_ENTRIES;
+    uint8_t table[GM_START_BYTES + GM_CYCLE_AT_ENTRIES + GM_ENTRY_BYTES] = {0};
+    uint8_t *cycle = table + GM_START_BYTES;
     table[GM_RECORD_AT_MARK] = GM_MARK_0;
     table[GM_RECORD_AT_MARK + 1U] = GM_MARK_1;
     table[GM_RECORD_AT_KIND] = GM_RECORD_START;
-    table[GM_START_AT_N] = 3;
-    put(table + GM_START_AT_FOUNDING, GM_SET_BYTES, 7);
+    table[GM_START_AT_N] = 5;
+    put(table + GM_START_AT_FOUNDING, GM_SET_BYTES, 0x0F);
     memcpy(cycle, table, GM_RECORD_AT_KIND);
     cycle[GM_RECORD_AT_KIND] = GM_RECORD_CYCLE;
-    put(cycle + GM_CYCLE_AT_STOP, GM_SET_BYTES, 4);
-    put(cycle + GM_CYCLE_AT_START, GM_SET_BYTES, 4);
-    cycle[GM_CYCLE_AT_COUNT] = 1;
-    entry[GM_ENTRY_AT_RECEIVER] = GM_ENTRY_VOTE | 1U;
-    put(entry + GM_ENTRY_AT_MISSED, GM_SET_BYTES, 1);
-    hold(gm_run(row, sizeof row, table, sizeof table) == GM_OK, "the table is refused");
-    hold(row[GM_STATE_AT_KIND] == GM_KIND_MEMBER && row[GM_STATE_AT_SET + 7] == 3, "unit 0 holds another group");
-    hold(row[GM_STATE_BYTES + GM_STATE_AT_REASON] == GM_REASON_NO_QUORUM, "unit 1, which counts one vote of three, does not halt");
-    hold(row[2 * GM_STATE_BYTES + GM_STATE_AT_KIND] == GM_KIND_JOINING, "unit 2 is not joining");
-    cycle[GM_CYCLE_AT_COUNT] = 0;
-    hold(ran(row, table) == GM_KIND_MEMBER, "unit 1 halts though it misses nothing");
-    put(cycle + GM_CYCLE_AT_VOTE_LOST, GM_SET_BYTES, 1);
-    hold(ran(row, table) == GM_KIND_OUT, "a vote of unit 0 that is lost reaches unit 1");
-    put(cycle + GM_CYCLE_AT_VOTE_LOST, GM_SET_BYTES, 0);
-    put(cycle + GM_CYCLE_AT_HEARTBEAT_LOST, GM_SET_BYTES, 1);
-    hold(ran(row, table) == GM_KIND_OUT, "a heartbeat of unit 0 that is lost reaches unit 1");
+    cycle[GM_CYCLE_AT_COUNT] = (uint8_t)(entry / GM_ENTRY_BYTES);
+    cycle[GM_CYCLE_AT_ENTRIES + GM_ENTRY_AT_RECEIVER] = receiver;
+    put(cycle + at, GM_SET_BYTES, mask);
+    hold(gm_run(row, sizeof row, table, GM_START_BYTES + GM_CYCLE_AT_ENTRIES + entry) == GM_OK, "the table is refused");
+}
+
+static void tables(void)
+{
+    run(GM_CYCLE_AT_STOP, 8, 0, 0);
+    hold(kind(3) == GM_KIND_OUT && reason(3) == GM_REASON_STOPPED && set(0) == 0x07, "unit 3 is not stopped");
+    run(GM_CYCLE_AT_START, 0x10, 0, 0);
+    hold(kind(4) == GM_KIND_MEMBER && set(0) == 0x1F, "unit 4 does not start");
+    run(GM_CYCLE_AT_HEARTBEAT_LOST, 1, 0, 0);
+    hold(kind(0) == GM_KIND_OUT && reason(0) == GM_REASON_OUTVOTED && set(1) == 0x0E, "no heartbeat of unit 0 is lost");
+    run(GM_CYCLE_AT_VOTE_LOST, 1, 0, 0);
+    hold(set(0) == 0x0F && set(1) == 0x0E, "no vote of unit 0 is lost");
+    run(GM_CYCLE_AT_ENTRIES + GM_ENTRY_AT_MISSED, 2, GM_ENTRY_VOTE, GM_ENTRY_BYTES);
+    hold(set(0) == 0x0D && set(1) == 0x0F, "unit 0 misses no vote of unit 1");
+    run(GM_CYCLE_AT_ENTRIES + GM_ENTRY_AT_MISSED, 2, 0, GM_ENTRY_BYTES);
+    hold(kind(0) == GM_KIND_OUT && set(1) == 0x0E, "unit 0 misses no heartbeat of unit 1");
 }
 
 /* the frames of unit 1 of two, in a run of one clean cycle, stand in their parts */
@@ -147,21 +165,19 @@ static void shown(void)
 {
     static uint8_t frames[GM_FRAMES_BYTES];
     uint8_t table[GM_START_BYTES + GM_CYCLE_AT_ENTRIES] = {GM_MARK_0, GM_MARK_1, GM_RECORD_START, 2, 0, 0, 0, 0, 0, 0, 0, 3, GM_MARK_0, GM_MARK_1, GM_RECORD_CYCLE};
-    uint8_t row[2 * GM_STATE_BYTES] = {0}, vote[GM_VOTE_BYTES];
+    uint8_t two[2 * GM_STATE_BYTES] = {0}, vote[GM_VOTE_BYTES];
     const size_t slot = GM_VOTE_FRAME_BYTES;
     uint32_t join = 7;
-    hold(gm_run_frames(row, sizeof row, table, sizeof table, frames, sizeof frames) == GM_OK, "a run through frames is refused");
+    hold(gm_run_frames(two, sizeof two, table, sizeof table, frames, sizeof frames) == GM_OK, "a run through frames is refused");
     hold(gm_read_heartbeat(2, 1, 0, GM_CHANNEL_A, frames + GM_FRAMES_AT_HEARTBEATS_A + slot, GM_HEARTBEAT_BYTES, &join) == GM_OK, "no heartbeat on A");
     hold(gm_read_heartbeat(2, 1, 0, GM_CHANNEL_B, frames + GM_FRAMES_AT_HEARTBEATS_B + slot, GM_HEARTBEAT_BYTES, &join) == GM_OK, "no heartbeat on B");
     hold(gm_read_vote(2, 1, 0, GM_CHANNEL_A, frames + GM_FRAMES_AT_VOTES_A + slot, slot, vote, sizeof vote) == GM_OK, "no vote on A");
     hold(gm_read_vote(2, 1, 0, GM_CHANNEL_B, frames + GM_FRAMES_AT_VOTES_B + slot, slot, vote, sizeof vote) == GM_OK, "no vote on B");
 }
 
-/* the limits: one node, channel, cycle count or entry more is refused, and the last is not */
+/* the limits of numbers: one node, channel or cycle count more is refused, and the last is not */
 static void limits(void)
 {
-    static uint8_t record[GM_RECORD_BYTES_MAX + GM_ENTRY_BYTES] = {GM_MARK_0, GM_MARK_1, GM_RECORD_CYCLE};
-    static uint8_t row[GM_NODES_MAX * GM_STATE_BYTES];
     uint8_t beat[GM_HEARTBEAT_BYTES];
     const uint32_t last = GM_NODES_MAX - 1U;
     hold(gm_write_heartbeat(GM_NODES_MAX, last, 0, 0, 0, GM_CYCLE_COUNTS - 1U, GM_CHANNELS - 1U, beat, sizeof beat) == GM_OK, "a last number is refused");
@@ -169,29 +185,43 @@ static void limits(void)
     hold(gm_write_heartbeat(GM_NODES_MIN - 1U, 0, 0, 0, 0, 0, 0, beat, sizeof beat) == GM_REFUSED_COUNT, "a node too few");
     hold(gm_write_heartbeat(GM_NODES_MIN, 0, 0, 0, 0, GM_CYCLE_COUNTS, 0, beat, sizeof beat) == GM_REFUSED_NUMBER, "a cycle count too many");
     hold(gm_write_heartbeat(GM_NODES_MIN, 0, 0, 0, 0, 0, GM_CHANNELS, beat, sizeof beat) == GM_REFUSED_NUMBER, "a channel too many");
-    for (uint32_t q = 0; q < GM_NODES_MAX; q++)
-        gm_begin(GM_NODES_MAX, q, UINT64_MAX, row + q * GM_STATE_BYTES, GM_STATE_BYTES);
+}
+
+/* a record of as many entries as there may be, and one more */
+static void longest(void)
+{
+    static uint8_t all[GM_NODES_MAX * GM_STATE_BYTES], record[GM_RECORD_BYTES_MAX + GM_ENTRY_BYTES] = {GM_MARK_0, GM_MARK_1, GM_RECORD_CYCLE};
+    uint8_t table[GM_START_BYTES] = {GM_MARK_0, GM_MARK_1, GM_RECORD_START, GM_NODES_MAX, 0xFF};
+    hold(gm_run(all, sizeof all, table, sizeof table) == GM_OK, "a table without cycles is refused");
     for (uint32_t k = 0; k < GM_ENTRIES_MAX; k++) {
         uint8_t *entry = record + GM_CYCLE_AT_ENTRIES + k * GM_ENTRY_BYTES;
         entry[GM_ENTRY_AT_RECEIVER] = (uint8_t)(k / GM_NODES_MAX * GM_ENTRY_VOTE + k % GM_NODES_MAX);
         put(entry + GM_ENTRY_AT_MISSED, GM_SET_BYTES, (uint64_t)1 << (k + 1U) % GM_NODES_MAX);
     }
     record[GM_CYCLE_AT_COUNT] = GM_ENTRIES_MAX;
-    hold(gm_cycle(GM_NODES_MAX, row, sizeof row, record, GM_RECORD_BYTES_MAX) == GM_OK, "the longest record is refused");
+    hold(gm_cycle(GM_NODES_MAX, all, sizeof all, record, GM_RECORD_BYTES_MAX) == GM_OK, "the longest record is refused");
     record[GM_CYCLE_AT_COUNT]++;
-    hold(gm_cycle(GM_NODES_MAX, row, sizeof row, record, sizeof record) != GM_OK, "an entry too many");
+    hold(gm_cycle(GM_NODES_MAX, all, sizeof all, record, sizeof record) != GM_OK, "an entry too many");
 }
+
+/* a word of each sentence, by its status, so that no two are exchanged */
+static const char *const word[] = {
+    [GM_OK] = "accepted", [GM_REFUSED_COUNT] = "number of nodes is not 2 to 64", [GM_REFUSED_NUMBER] = "cycle count is above", [GM_REFUSED_LENGTH] = "buffer",
+    [GM_REFUSED_STATE] = "state is not well formed", [GM_REFUSED_FRAME_LENGTH] = "fewer than 8 bytes", [GM_REFUSED_HEADER_CHECK] = "header check",
+    [GM_REFUSED_FRAME_CHECK] = "frame check is wrong", [GM_REFUSED_NULL_FRAME] = "null frame", [GM_REFUSED_NOT_DUE] = "due", [GM_REFUSED_CONTENT] = "content",
+    [GM_REFUSED_CUT] = "before the record is whole", [GM_REFUSED_KIND] = "mark or kind", [GM_REFUSED_LIMIT] = "beyond its limit"};
+enum { STATUSES = sizeof word / sizeof *word };
 
 /* every status up to the last has a sentence of its own, and no other number has one */
 static void sentences(void)
 {
-    for (uint32_t status = GM_OK; status <= GM_REFUSED_LIMIT; status++) {
+    const char *none = gm_refusal_text(STATUSES);
+    hold(strcmp(none, gm_refusal_text(UINT32_MAX)) == 0, "a number that no entry answers has a sentence of its own");
+    for (uint32_t status = GM_OK; status < STATUSES; status++) {
         const char *text = gm_refusal_text(status);
+        hold(strstr(text, word[status]) != NULL && strstr(none, word[status]) == NULL, "a status has another sentence");
         hold(text[0] >= 'A' && text[0] <= 'Z' && text[strlen(text) - 1] == '.', "a status has no sentence");
-        for (uint32_t other = status + 1; other <= GM_REFUSED_LIMIT + 1U; other++)
-            hold(strcmp(text, gm_refusal_text(other)) != 0, "two statuses have one sentence");
     }
-    hold(strcmp(gm_refusal_text(GM_REFUSED_LIMIT + 1U), gm_refusal_text(UINT32_MAX)) == 0, "a number that no entry answers has a sentence of its own");
 }
 
 int main(void)
@@ -200,10 +230,12 @@ int main(void)
     reasons();
     frames();
     coinciding();
+    damaged();
     tables();
     shown();
     limits();
+    longest();
     sentences();
-    printf("%u\n", (unsigned)(GM_REFUSED_LIMIT + 1U));
+    printf("%u\n", (unsigned)STATUSES);
     return 0;
 }
