@@ -60,8 +60,9 @@ check_pkg_config() {
 # a project of its own that finds the library by its CMake files, in this version and in no later one
 check_cmake() {
     command -v cmake >/dev/null || { tried+=("CMake files NOT TRIED, since cmake is not installed"); return; }
-    local version log=$work/cmake.log
+    local version file log=$work/cmake.log
     version=$(sed -n 's/^VERSION = //p' Makefile)
+    for file in README.md man/gm.3; do grep -qF "find_package(gm ${version%.*} CONFIG REQUIRED)" "$file" || fail "$file asks CMake for another version"; done
     mkdir -p "$work/project"
     cp "$prefix/share/doc/gm/examples/host.c" "$work/project"
     printf '%s\n' 'cmake_minimum_required(VERSION 3.13)' 'project(host C)' 'find_package(gm ${WANTED} CONFIG REQUIRED)' 'add_executable(host host.c)' \
