@@ -54,13 +54,13 @@ g++ -Wall -Wextra -Werror -pedantic -Iinclude "$build/cpp.cc" "$archive" -o "$bu
 "$build/cpp" || fail "the C++ caller got another answer"
 
 # a host that makes the calls of a cycle on one node and links with --gc-sections has nothing of the other entries
-cycle=$(printf 'gm_%s\n' begin decide receive_heartbeat receive_vote send_heartbeat send_vote start stop)
-ld --gc-sections --unresolved-symbols=ignore-all -e gm_decide $(printf -- '-u %s ' $cycle) "$archive" -o "$build/cycle"
-kept=$(nm "$build/cycle" | awk '$2 == "T" && $3 ~ /^gm_/ { print $3 }' | sort)
-[ "$kept" = "$cycle" ] || fail "linked for the calls of a cycle it has $kept"
+"${cc[@]}" tests/onecycle.c "$archive" -o "$build/onecycle"
+"${cc[@]}" -Os -ffunction-sections -fdata-sections -Wl,--gc-sections tests/onecycle.c "$archive" -o "$build/onecycle.small"
+kept=$(nm "$build/onecycle.small" | awk '$2 == "T" && $3 ~ /^gm_/ { print $3 }' | sort)
+[ "$kept" = "$(grep -oE '\bgm_[a-z_]+\(' tests/onecycle.c | tr -d '(' | sort -u)" ] || fail "linked for the calls of a cycle it has $kept"
 bytes() { size "$1" | awk 'END { print $1 }'; }
 
 tests/stackwalk.sh "$build"
 tests/stack.sh "$archive" "$build"
-echo "archive: version $version, $called entries in $(bytes "$archive") bytes, those of a cycle on one node in $(bytes "$build/cycle"); $statuses statuses with a sentence;" \
-    "needs ${needed:-nothing}, no writable data"
+echo "archive: version $version, $called entries in $(bytes "$archive") bytes; $statuses statuses with a sentence; needs ${needed:-nothing}, no writable data"
+echo "archive: text of a host with the calls of one cycle: $(bytes "$build/onecycle") bytes by -O2, $(bytes "$build/onecycle.small") by -Os and --gc-sections"
