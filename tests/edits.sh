@@ -1,6 +1,6 @@
 #!/usr/bin/env bash
 # Whether every must-fail edit was refused for the reason that it names. Each has one line `refused by: NAME`, the name in a form of docs/TRACE.md: a law or theorem
-# (`CRATE/proofs/FILE.antt: NAME`) or a contract (`CRATE::FUNCTION`). Read are the logs that a gate run or `rt must-fail` left in target/must-fail; nothing is proved.
+# (`CRATE/proofs/FILE.antt: NAME`) or a contract (`CRATE::FUNCTION`); where a line `also refused by:` names a law, that refused it too. Read are the logs that a gate run or `rt must-fail` left in target/must-fail; nothing is proved.
 # Usage: edits.sh
 set -euo pipefail
 cd "$(dirname "$0")/.."
@@ -34,6 +34,12 @@ first_refusal() { # CRATE LABEL
 # what the first refusal says where the edit only made the proof unfit: a name or a step that is gone, another shape of code that is walked by hand, a limit reached
 unfit='has no (field )?`|has `\(*(mir\.(Syntax|MapTy|Table)|prog)\.|step limit'
 
+# whether a law named by `also refused by:` is false under the edit too, and not only out of reach
+refuses_too() { # CRATE LABEL LAW
+    local file=${3%%: *} name=${3#*: }
+    grep -aE "/$2/${file#"$1/"}:[0-9]+:[0-9]+: error: \`$name\`" "$logs/$1/$2/.log" | grep -vq 'so this cannot be checked$'
+}
+
 for edit in crates/*/must-fail/*.edit; do
     IFS=/ read -r _ crate _ label <<<"${edit%.edit}"
     edits=$((edits + 1)) log=$logs/$crate/$label/.log
@@ -43,6 +49,8 @@ for edit in crates/*/must-fail/*.edit; do
     named=$(sed -n 's/^refused by: //p' "$edit")
     [ -n "$named" ] || { complain "$crate/$label does not name what refuses it; first did $at"; continue; }
     [ "$at" = "$named" ] || { complain "$crate/$label is refused by $at first, and not by $named"; continue; }
+    also=$(sed -n 's/^also refused by: //p' "$edit")
+    [ -z "$also" ] || refuses_too "$crate" "$label" "$also" || complain "$crate/$label is not refused by $also"
     [[ $at != "$crate/specs/"* && ! $said =~ $unfit ]] || complain "$crate/$label only made a definition or its proof unfit: $at: ${said:0:120}"
 done
 [ "$wrong" -eq 0 ] || exit 1

@@ -81,16 +81,20 @@ key() { # LINE TEXT
 
 # an edit is cited, and what refuses it, a contract or a law by its whole path, is of its own crate
 edit() { # NAME FILE
-    local crate=${1%%/*} refuser law
+    local crate=${1%%/*} refuser
     [ -n "${cited[$1]+yes}" ] || complain "no row cites the edit \`$1\`"
-    refuser=$(sed -n 's/^refused by: //p' "$2")
-    [ -n "$refuser" ] || { complain "the edit \`$1\` has no line 'refused by:'"; return; }
-    law=${refuser#"$crate/proofs/"}
-    case $refuser in
-        "$crate::"*) [ -n "${there[$refuser]+yes}" ] && return ;;
-        "$crate/proofs/"*) [ -n "${there[$crate/${law/.antt: /: }]+yes}" ] && return ;;
+    grep -q '^refused by: ' "$2" || complain "the edit \`$1\` has no line 'refused by:'"
+    while read -r refuser; do
+        refuses "$crate" "$refuser" || complain "the edit \`$1\` is refused by \`$refuser\`, which is no law or contract of its crate"
+    done < <(sed -nE 's/^(also )?refused by: //p' "$2")
+}
+refuses() { # CRATE NAME
+    local law=${2#"$1/proofs/"}
+    case $2 in
+        "$1::"*) [ -n "${there[$2]+yes}" ] ;;
+        "$1/proofs/"*) [ -n "${there[$1/${law/.antt: /: }]+yes}" ] ;;
+        *) false ;;
     esac
-    complain "the edit \`$1\` is refused by \`$refuser\`, which is no law or contract of its crate"
 }
 
 while IFS=$'\t' read -r one place line; do
