@@ -148,9 +148,9 @@ fn print_table() {
     tell(run.unread, run.lost);
 }
 
-// What the arguments ask for. One that is longer than the buffer comes as empty, and no option is.
+// What the arguments ask for. One that is longer than its room comes as empty, which asks for the same.
 fn read_arguments() -> Asked {
-    let mut first = [0u8; 16];
+    let mut first = print_options::argument_room();
     let length = os::arg(1, &mut first);
     print_options::asked_by(os::arg_count(), &first[..length])
 }

@@ -1,16 +1,17 @@
 -- What is asked for, by the number of arguments and by the text of the only one. Assumes nothing.
-use mathlib.Core.Path.{_≡_, refl, sym, _∙_}
+use mathlib.Core.Path.{_≡_, refl, sym, ap, _∙_}
 use mathlib.Core.Bool.{Bool, true, false, cond, true≢false}
-use mathlib.Core.List.{List}
+use mathlib.Core.List.{List, []}
 use Prim.Native.Nat.{ℕ, _≤_, _<_}
 use native.Mathlib.Omega.{arith}
 use lib.Dec.{ltb}
+use lib.ListN.{length}
 use borrow.Author.Tests.{lt-ltb, le-ltb, ltb-true, ltb-false}
 use Rattle.print_text.specs.Text.{ascii}
 use Rattle.print_options.specs.declared.Asked.{Asked}
 use Rattle.print_options.specs.declared.Asked.the-variants.{Run, Help, Version, Wrong}
-use Rattle.print_options.specs.Options.{sameText, askedByOne, askedBy, Known}
-use Rattle.print_options.proofs.Same.{equal-same, same-equal}
+use Rattle.print_options.specs.Options.{sameText, askedByOne, askedBy, argumentRoom, Known}
+use Rattle.print_options.proofs.Same.{equal-same, same-equal, other-length}
 
 pub none-given : (count : ℕ) (first : List ℕ) → count < 2 → askedBy count first ≡ Run
 unfolding askedBy
@@ -36,6 +37,13 @@ module _ (first : List ℕ) where
   pub other-given : sameText first (ascii "--help") ≡ false → sameText first (ascii "--version") ≡ false → askedByOne first ≡ Wrong
   unfolding askedByOne
   other-given e f = rw (e, f)
+
+-- An argument that is longer than its room comes as empty: that asks for the same.
+pub longer-as-empty : (count : ℕ) (first : List ℕ) → argumentRoom < length first → askedBy count first ≡ askedBy count []
+unfolding askedBy askedByOne sameText ascii
+longer-as-empty count first l =
+    ap (λ (a : Asked). cond (ltb count 2) Run (cond (ltb 2 count) Wrong a))
+    (other-given first (other-length first (ascii "--help") (λ e. omega (arith, l, e))) (other-length first (ascii "--version") (λ e. omega (arith, l, e))))
 
 -- Each is asked for by these arguments, and by no others.
 pub known : (count : ℕ) (first : List ℕ) → Known count first (askedBy count first)

@@ -1,10 +1,12 @@
 -- What some arguments ask for, by computation; and what holds of every answer. Assumes nothing.
 use mathlib.Core.Path.{_≡_, refl}
-use mathlib.Core.Bool.{Bool, true, false, not, _&&_, _||_}
+use mathlib.Core.Bool.{Bool, true, false, not, _&&_, _||_, cond}
 use mathlib.Core.List.{List, [], _∷_, map}
 use Prim.Native.Nat.{ℕ}
-use lib.Dec.{eqb}
+use native.Mathlib.Omega.{arith}
+use lib.Dec.{eqb, ltb}
 use lib.ListN.{length, take}
+use borrow.Author.Tests.{eq-eqb, ne-eqb, ltb-true, ltb-false}
 use Rattle.print_text.specs.Text.{ascii}
 use Rattle.print_options.specs.declared.Asked.{Asked}
 use Rattle.print_options.specs.declared.Asked.the-variants.{Run, Help, Version, Wrong}
@@ -48,7 +50,7 @@ isLine (b ∷ (a ∷ t)) = not (eqb b 10) && isLine (a ∷ t)
 
 -- what goes to standard error is one line
 pub aside-is-a-line : (a : Asked) → not (goesAside a) || isLine (answerText a) ≡ true
-unfolding answerText usageLine hintLine ascii
+unfolding answerText usageLine versionLine hintLine ascii
 aside-is-a-line Run = refl
 aside-is-a-line Help = refl
 aside-is-a-line Version = refl
@@ -57,6 +59,24 @@ aside-is-a-line Wrong = refl
 pub version-is-a-line : isLine (answerText Version) ≡ true
 unfolding answerText versionLine ascii
 version-is-a-line = refl
+
+-- an option that stands alone is answered on standard output, and all else on standard error
+pub options-on-output : (count : ℕ) (first : List ℕ)
+    → goesAside (askedBy count first) ≡ not (eqb count 2 && (sameText first (ascii "--help") || sameText first (ascii "--version")))
+unfolding askedBy askedByOne
+options-on-output count first = number (ltb count 2) (ltb 2 count) refl refl
+  where
+    text : (h v : Bool) → goesAside (cond h Help (cond v Version Wrong)) ≡ not (h || v)
+    text true v = refl
+    text false true = refl
+    text false false = refl
+
+    number : (few many : Bool) → ltb count 2 ≡ few → ltb 2 count ≡ many → goesAside (cond few Run (cond many Wrong (askedByOne first)))
+        ≡ not (eqb count 2 && (sameText first (ascii "--help") || sameText first (ascii "--version")))
+    number true many e f = rw (ne-eqb count 2 (λ s. omega (arith, s, ltb-true count 2 e)))
+    number false true e f = rw (ne-eqb count 2 (λ s. omega (arith, s, ltb-true 2 count f)))
+    number false false e f =
+        rw (eq-eqb count 2 (omega (arith, ltb-false count 2 e, ltb-false 2 count f))) (text (sameText first (ascii "--help")) (sameText first (ascii "--version")))
 
 -- the help says the usage first
 pub help-begins : take (length usageLine) (answerText Help) ≡ answerText Wrong

@@ -24,6 +24,10 @@ askedByOne first = cond (sameText first (ascii "--help")) Help (cond (sameText f
 unfoldable pub askedBy : ℕ → List ℕ → Asked
 askedBy count first = cond (ltb count 2) Run (cond (ltb 2 count) Wrong (askedByOne first))
 
+-- the bytes that there are for an argument; a longer one comes as empty
+abbrev pub argumentRoom : ℕ
+argumentRoom = 16
+
 -- what is known of the arguments by what they ask for
 abbrev pub Known : ℕ → List ℕ → Asked → Type 0
 Known count first Run = count < 2

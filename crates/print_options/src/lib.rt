@@ -3,7 +3,7 @@ ghost use mathlib.Core.Path.{_≡_};
 ghost use Prim.Native.Nat.{_+_, _≤_};
 ghost use lib.ListN.{length};
 ghost use Rattle.print_text.specs.Text.{Appended};
-ghost use Rattle.print_options.specs.Options.{sameText, askedBy, usageLine, helpText, answerText, goesAside};
+ghost use Rattle.print_options.specs.Options.{sameText, askedBy, argumentRoom, usageLine, helpText, answerText, goesAside};
 
 // What is asked for: the run of a table, the help, the version, or nothing that there is.
 pub enum Asked {
@@ -28,6 +28,13 @@ fn same_text(s: &[u8], word: &[u8]) -> bool
         i += 1;
     }
     true
+}
+
+// Room for an argument, in which every option fits.
+pub fn argument_room() -> [u8; 16]
+    ensures { λ r. ⌜ argumentRoom ≡ length r ⌝ }
+{
+    [0; 16]
 }
 
 // What is asked for by so many arguments, the program's name among them, the one after the name being `first`.
