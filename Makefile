@@ -95,7 +95,7 @@ $(GROUPRUN): $(SOURCES)
 	@$(call needs,rt)tools/kit.sh run "up to 3 minutes on two cores" check grouprun
 
 # tables as readable text, and back
-$(TABLETEXT): tools/tabletext.c Makefile
+$(TABLETEXT): tools/tabletext.c include/gm.h Makefile
 	@mkdir -p $(BUILD)
 	@$(C99) -DVERSION='"$(VERSION)"' $< -o $@
 

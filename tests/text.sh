@@ -6,14 +6,16 @@ built=$1 build=$2 here=$(dirname "$0")
 version=$(sed -n 's/^VERSION = //p' "$here/../Makefile")
 checked=$build/tabletext.checked
 mkdir -p "$build"
-out=$build/text.result message=$build/text.message input=$build/text.input
-trap 'rm -f "$out" "$message" "$input"' EXIT
+out=$build/text.result message=$build/text.message input=$build/text.input table=$build/text.table
+trap 'rm -f "$out" "$message" "$input" "$table"' EXIT
 fail() { echo "tests/text: ${tool##*/}: $*" >&2; exit 1; }
 
+# A wrong limit in the program may make it write without end: a case gets so much time, and below files get a limit too.
+run() { timeout 30 "$tool" "$@"; }
 # an error has status 1, the message that is named and no output
 errs() { # NAME MESSAGE ARGUMENT..
     local status=0
-    "$tool" "${@:3}" >"$out" 2>"$message" || status=$?
+    run "${@:3}" >"$out" 2>"$message" || status=$?
     [ "$status" -eq 1 ] || fail "$1: status $status"
     [ ! -s "$out" ] || fail "$1: an error, and yet output"
     [ "$(<"$message")" = "tabletext: $2" ] || fail "$1: '$(<"$message")' instead of 'tabletext: $2'"
@@ -30,15 +32,16 @@ refused() { # MESSAGE TABLE
 }
 # the text gives a table whose text is the other
 becomes() { # OTHER TEXT
-    printf "$2" | "$tool" table | "$tool" text >"$out" || fail "'$2' is refused"
-    printf "$1" | cmp -s - "$out" || fail "'$2' comes back as another text: $(<"$out")"
+    printf "$2" | run table >"$table" || fail "'$2' is refused, or gives no table of the size due"
+    run text <"$table" >"$out" || fail "the table of '$2' is refused"
+    printf "$1" | cmp -s - "$out" || fail "'$2' comes back as another text: $(head -c 300 "$out")"
 }
 
 examples_come_back() {
     local text
     texts=0
     for text in "$here"/../examples/p*.txt; do
-        "$tool" table <"$text" | "$tool" text >"$out" || fail "$text is refused"
+        run table <"$text" >"$table" && run text <"$table" >"$out" || fail "$text is refused"
         grep -v '^#' "$text" | cmp -s - "$out" || fail "$text comes back as another text"
         texts=$((texts + 1))
     done
@@ -47,17 +50,17 @@ examples_come_back() {
 
 # a stored table whose run is refused is no table, and is refused with the same number
 tables_come_back() {
-    local table last status
+    local stored last status
     whole=0 refusals=0
-    for table in "$here"/vectors/*/*.tab; do
-        last=$(tail -n 1 "${table%.tab}.out") status=0
+    for stored in "$here"/vectors/*/*.tab; do
+        last=$(tail -n 1 "${stored%.tab}.out") status=0
         if [[ $last == refused* ]]; then
-            "$tool" text <"$table" >"$out" 2>"$message" || status=$?
-            [ "$status" -eq 1 ] && [ ! -s "$out" ] || fail "$table: status $status, or output"
-            [[ $(<"$message") == "tabletext: byte "*": $last: "* ]] || fail "$table: '$(<"$message")' instead of '$last'"
+            run text <"$stored" >"$out" 2>"$message" || status=$?
+            [ "$status" -eq 1 ] && [ ! -s "$out" ] || fail "$stored: status $status, or output"
+            [[ $(<"$message") == "tabletext: record at byte "*": $last: "* ]] || fail "$stored: '$(<"$message")' instead of '$last'"
             refusals=$((refusals + 1))
         else
-            "$tool" text <"$table" | "$tool" table | cmp -s - "$table" || fail "$table comes back as another table"
+            run text <"$stored" >"$out" && run table <"$out" >"$table" && cmp -s "$table" "$stored" || fail "$stored comes back as another table"
             whole=$((whole + 1))
         fi
     done
@@ -83,11 +86,11 @@ free_texts() {
 zero='\0\0\0\0\0\0\0\0' clean="GM\2" first='GM\1\5\0\0\0\0\0\0\0\37'
 clean+=$zero$zero$zero$zero
 bytes_by_hand() {
-    printf 'nodes 5\nfounding all\nrepeat 2\ncycle\nstop 0,3\nmiss vote 4 at 1\n' | "$tool" table >"$out"
+    printf 'nodes 5\nfounding all\nrepeat 2\ncycle\nstop 0,3\nmiss vote 4 at 1\n' | run table >"$out"
     local cycle='GM\2\0\0\0\0\0\0\0\11'$zero$zero$zero'\1\201\0\0\0\0\0\0\0\20'
     printf "$first$cycle$cycle" | cmp -s - "$out" || fail "a table of two cycles has other bytes"
     # as many cycles as a table has are written one after the other, until nobody reads
-    { printf 'nodes 5\nfounding all\nrepeat 4294967295\ncycle\n' | "$tool" table || true; } 2>"$message" | head -c 84 >"$out"
+    { printf 'nodes 5\nfounding all\nrepeat 4294967295\ncycle\n' | run table || true; } 2>"$message" | head -c 84 >"$out"
     printf "$first$clean\0$clean\0" | cmp -s - "$out" || fail "the longest table begins with other bytes"
 }
 
@@ -134,7 +137,9 @@ wrong_lists() {
     wrong "line 2: expected $more, not ','" "$begin 1,,2\n"
     wrong "line 2: expected the last node of the range, 0 to 4, but the line ends" "$begin 0-\n"
     wrong "line 2: expected the last node of the range, 0 to 4, not '5'" "$begin 0-5\n"
-    wrong "line 2: expected the last node of the range, 3 to 4, not '1'" "$begin 3-1\n"
+    wrong "line 2: expected the last node of the range, 3 to 4, not '11'" "$begin 3-11\n"
+    wrong "line 2: the range 3-1 runs backwards; write 1-3" "$begin 3-1\n"
+    wrong "line 2: the range 4-0 runs backwards; write 0-4" "$begin 1,4 - 0\n"
     wrong "line 2: expected the last node of the range, 0 to 4, not 'all'" "$begin 0-all\n"
     wrong "line 2: expected ',' or the end of the line, not '2'" "$begin 1 2\n"
     wrong "line 2: expected ',' or the end of the line, not '-'" "$begin 1-2-3\n"
@@ -186,42 +191,60 @@ wrong_faults() {
 }
 
 refused_records() {
-    refused "byte 0: refused 11: the file is empty" ''
-    refused "byte 0: refused 11: the file ends inside the record: 2 bytes are there, 3 are due" 'no'
-    refused "byte 0: refused 12: the record begins with the bytes 6E 6F 64, not with 47 4D 01; 'tabletext table' reads a text" 'nodes 5\n'
-    refused "byte 0: refused 11: the file ends inside the record: 4 bytes are there, 12 are due" 'GM\1\0'
-    refused "byte 0: refused 1: the number of nodes is 65, not 2 to 64" "GM\1\101$zero"
-    refused "byte 0: refused 1: the number of nodes is 1, not 2 to 64" 'GM\1\1\0\0\0\0\0\0\0\1'
-    refused "byte 0: refused 13: the founding set is empty" "GM\1\5$zero"
-    refused "byte 0: refused 13: the founding set names node 5, and the nodes are 0 to 4" 'GM\1\5\0\0\0\0\0\0\0\77'
-    refused "byte 12: refused 12: cycle 1: the record begins with the bytes 47 4D 01, not with 47 4D 02" "$first$first"
-    refused "byte 48: refused 11: cycle 2: the file ends inside the record: 1 bytes are there, 3 are due" "$first$clean\0G"
-    refused "byte 48: refused 11: cycle 2: the file ends inside the record: 35 bytes are there, 36 are due" "$first$clean\0$clean"
-    refused "byte 12: refused 11: cycle 1: the file ends inside the record: 40 bytes are there, 45 are due" "$first$clean\1\0\0\0\0"
-    refused "byte 48: refused 13: cycle 2: 'lose heartbeat' names node 63, and the nodes are 0 to 4" \
+    local start="record at byte 0: refused" ends="the file ends inside the record:" head
+    refused "$start 11: the file is empty" ''
+    refused "$start 11: $ends 2 bytes are there (6E 6F), 3 are due" 'no'
+    refused "$start 11: $ends 4 bytes are there, 12 are due" 'GM\1\0'
+    refused "$start 1: the number of nodes is 65, not 2 to 64" "GM\1\101$zero"
+    refused "$start 1: the number of nodes is 1, not 2 to 64" 'GM\1\1\0\0\0\0\0\0\0\1'
+    refused "$start 13: the founding set is empty" "GM\1\5$zero"
+    refused "$start 13: the founding set names node 5, and the nodes are 0 to 4" 'GM\1\5\0\0\0\0\0\0\0\77'
+    refused "record at byte 12: refused 12: cycle 1: the record begins with the bytes 47 4D 01, not with 47 4D 02" "$first$first"
+    refused "record at byte 48: refused 11: cycle 2: $ends 1 byte is there (0A), 3 are due" "$first$clean\0\n"
+    refused "record at byte 48: refused 11: cycle 2: $ends 2 bytes are there (0D 0A), 3 are due" "$first$clean\0\r\n"
+    refused "record at byte 48: refused 11: cycle 2: $ends 35 bytes are there, 36 are due" "$first$clean\0$clean"
+    refused "record at byte 12: refused 11: cycle 1: $ends 40 bytes are there, 45 are due" "$first$clean\1\0\0\0\0"
+    refused "record at byte 48: refused 13: cycle 2: 'lose heartbeat' names node 63, and the nodes are 0 to 4" \
         "$first$clean\0GM\2$zero$zero\200\0\0\0\0\0\0\0$zero\0"
 }
 
+# what looks like a text is told where it belongs, and a table with a byte changed is not
+refused_heads() {
+    local begin="record at byte 0: refused 12: the record begins with the bytes" due="not with 47 4D 01" text="; 'tabletext table' reads a text"
+    refused "$begin 6E 6F 64, $due$text" 'nodes 5\n'
+    refused "$begin 23 20 50, $due$text" '# Pr\xC3\xBCfstand 3\r\nnodes 5\n'
+    refused "$begin EF BB BF, $due$text" '\xEF\xBB\xBFnodes 5\nfounding all\n'
+    refused "record at byte 12: refused 12: cycle 1: the record begins with the bytes 6E 6F 64, not with 47 4D 02" "${first}nodes 5\nfounding all\n"
+    refused "$begin 47 4D 02, $due" "GM\2${first#GM?1}"
+    refused "$begin 47 4D 21, $due" "GM!${first#GM?1}"
+    refused "$begin 67 4D 21, $due" 'gM!@\377\377\377\377\377\377\377\377'
+    refused "$begin 00 00 00, $due" '\0\0\0'
+}
+
 refused_entries() {
-    local to_one='\1\0\0\0\0\0\0\0\1' begin="byte 12: refused 13: cycle 1:"
+    local to_one='\1\0\0\0\0\0\0\0\1' begin="record at byte 12: refused 13: cycle 1:"
+    local only="entry 1, at byte 48, of 1 by the count at byte 47," second="entry 2, at byte 57, of 2 by the count at byte 47,"
     printf -v many '%129s' ''
-    refused "$begin there are 129 entries, and a cycle has at most 128" "$first$clean\201${many// /$to_one}"
-    refused "$begin entry 1 begins with the byte 41, whose bit 6 is not 0" "$first$clean\1\101\0\0\0\0\0\0\0\1"
-    refused "$begin entry 1 names node 9, and the nodes are 0 to 4" "$first$clean\1\11\0\0\0\0\0\0\0\1"
-    refused "$begin entry 2 names node 5, and the nodes are 0 to 4" "$first$clean\2$to_one\2\0\0\0\0\0\0\0\40"
-    refused "$begin entry 1 names no sender that node 1 misses" "$first$clean\1\1$zero"
-    refused "$begin entry 2: node 0 cannot miss its own vote" "$first$clean\2$to_one\200\0\0\0\0\0\0\0\1"
-    refused "$begin entry 2 begins with the byte 01, which is not above the 01 of the entry before it" "$first$clean\2$to_one$to_one"
+    refused "$begin the count at byte 47 is 129, and a cycle has at most 128 entries" "$first$clean\201${many// /$to_one}"
+    refused "$begin $only begins with the byte 41, whose bit 6 is not 0" "$first$clean\1\101\0\0\0\0\0\0\0\1"
+    refused "$begin $only names node 9 as receiver, and the nodes are 0 to 4" "$first$clean\1\11\0\0\0\0\0\0\0\1"
+    refused "$begin $second names node 5 as a sender, and the nodes are 0 to 4" "$first$clean\2$to_one\2\0\0\0\0\0\0\0\40"
+    refused "$begin $only names no sender that node 1 misses" "$first$clean\1\1$zero"
+    refused "$begin $second has node 0 miss its own vote" "$first$clean\2$to_one\200\0\0\0\0\0\0\0\1"
+    refused "$begin $second begins with the byte 01, which is not above the 01 of the entry before it" "$first$clean\2$to_one$to_one"
+    refused "record at byte 48: refused 13: cycle 2: entry 1, at byte 84, of 1 by the count at byte 83, names node 63 as receiver, and the nodes are 0 to 4" \
+        "$first$clean\0$clean\1\77\0\0\0\0\0\0\0\1"
 }
 
 arguments() {
-    local one="expected one argument, 'table', 'text', '--help' or '--version'; the input is read from standard input"
+    local file="a file is read by: tabletext table <press.txt >press.tab"
+    local one="expected one argument, 'table', 'text', '--help' or '--version'; $file"
     errs "no argument" "$one"
     errs "two arguments" "$one" table "$input"
-    errs "another argument" "expected 'table', 'text', '--help' or '--version', not 'tables'" tables
-    errs "a folder" "the input cannot be read" table <"$here"
-    [ "$("$tool" --version)" = "tabletext $version" ] || fail "--version is '$("$tool" --version)'"
-    "$tool" --help >"$out"
+    errs "another argument" "expected 'table', 'text', '--help' or '--version', not 'press.txt'; $file" press.txt
+    errs "a folder" "the input could not be read: Is a directory" table <"$here"
+    [ "$(run --version)" = "tabletext $version" ] || fail "--version is '$(run --version)'"
+    run --help >"$out"
     grep -q '^usage: tabletext table ' "$out" || fail "--help does not begin with the usage"
     local statement
     for statement in nodes founding repeat cycle stop start 'lose heartbeat' 'lose vote' 'miss heartbeat' 'miss vote'; do
@@ -232,8 +255,9 @@ arguments() {
 # a device that is full; the message is the only sign
 full() { # ARGUMENT..
     local status=0
-    "$tool" "$@" >/dev/full 2>"$message" || status=$?
-    [ "$status" -eq 1 ] && [ "$(<"$message")" = "tabletext: the output cannot be written" ] || fail "$* to a full device: status $status, '$(<"$message")'"
+    run "$@" >/dev/full 2>"$message" || status=$?
+    [ "$status" -eq 1 ] && [ "$(<"$message")" = "tabletext: the output could not be written: No space left on device" ] ||
+        fail "$* to a full device: status $status, '$(<"$message")'"
 }
 full_outputs() {
     full --help
@@ -241,8 +265,26 @@ full_outputs() {
     full table <"$here/../examples/p1.txt"
     printf 'nodes 5\nfounding all\nrepeat 4294967295\ncycle\n' >"$input"
     full table <"$input"
-    "$tool" table <"$here/../examples/p1.txt" >"$input"
+    run table <"$here/../examples/p1.txt" >"$input"
     full text <"$input"
+}
+
+# where the input would have to be typed there is a hint before the answer, and a terminal is spared the bytes of a table
+on_terminal() { # NAME MESSAGE COMMAND
+    local status=0
+    timeout 30 script -qec "$3 2>'$message'" /dev/null </dev/null >"$out" || status=$?
+    [ "$status" -eq 1 ] && [ ! -s "$out" ] || fail "$1: status $status, or output"
+    [ "$(<"$message")" = "$2" ] || fail "$1: '$(<"$message")' instead of '$2'"
+}
+terminals() {
+    local typed="is expected on standard input, which is a terminal; see tabletext --help" text=$here/../examples/p1.txt
+    on_terminal "a text typed" "tabletext: a text $typed"$'\n'"tabletext: line 1: the text ends before 'nodes'" "'$tool' table >'$table'"
+    on_terminal "a table typed" "tabletext: a table $typed"$'\n'"tabletext: record at byte 0: refused 11: the file is empty" "'$tool' text"
+    on_terminal "a table for a terminal" "tabletext: a table is bytes and is not written to a terminal; write it to a file: tabletext table <press.txt >press.tab" \
+        "'$tool' table <'$text'"
+    run table <"$text" >"$table"
+    timeout 30 script -qec "'$tool' text <'$table' 2>'$message'" /dev/null </dev/null >"$out" || fail "a text for a terminal: status $?"
+    [ ! -s "$message" ] && tr -d '\r' <"$out" | cmp -s - <(grep -v '^#' "$text") || fail "a text for a terminal is another"
 }
 
 all_checks() {
@@ -256,13 +298,17 @@ all_checks() {
     wrong_cycles
     wrong_faults
     refused_records
+    refused_heads
     refused_entries
     arguments
     full_outputs
+    terminals
 }
 
 shopt -s nullglob
-gcc -std=c99 -g -O1 -fsanitize=address,undefined -fno-sanitize-recover=all -DVERSION="\"$version\"" "$here/../tools/tabletext.c" -o "$checked"
+gcc -std=c99 -g -O1 -fsanitize=address,undefined -fno-sanitize-recover=all -I"$here/../include" -DVERSION="\"$version\"" "$here/../tools/tabletext.c" -o "$checked"
+# in KiB: the longest table of a case has 36 MB
+ulimit -f 65536
 for tool in "$built" "$checked"; do
     all_checks
 done

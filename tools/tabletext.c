@@ -2,19 +2,28 @@
  * Fault tables as readable text, and back; `help` below has the statements of a text.
  * An error ends the program with status 1 and nothing written: it names the line, or the byte where the record begins and the table's refusal.
  */
+/* for isatty */
+#define _POSIX_C_SOURCE 200112L
+#include <errno.h>
 #include <stdarg.h>
 #include <stdint.h>
 #include <stdio.h>
 #include <stdlib.h>
 #include <string.h>
+#include <unistd.h>
 
-enum { NODES = 64, HEAD_BYTES = 3, FIRST_BYTES = 12, CYCLE_BYTES = 36, ENTRY_BYTES = 9, MOST_ENTRIES = 128 };
+#include "gm.h"
+
+enum { HEAD_BYTES = GM_RECORD_AT_KIND + 1, RECEIVER_BITS = 0x3F, ZERO_BIT = 0x40 };
 enum { STOP, START, LOSE_HEARTBEAT, LOSE_VOTE, MASKS };
 enum { HEARTBEAT, VOTE, PHASES };
 enum { MOST_SHOWN = 40, SHOWN_ROOM = 4 * MOST_SHOWN + 4, MESSAGE_ROOM = 400 };
 
+#define FROM_FILE "tabletext table <press.txt >press.tab"
+
 static const unsigned long most_cycles = UINT32_MAX;
 static const char *const mask_names[MASKS] = {"stop", "start", "lose heartbeat", "lose vote"};
+static const size_t mask_places[MASKS] = {GM_CYCLE_AT_STOP, GM_CYCLE_AT_START, GM_CYCLE_AT_HEARTBEAT_LOST, GM_CYCLE_AT_VOTE_LOST};
 static const char *const phase_names[PHASES] = {"heartbeat", "vote"};
 
 static const char help[] =
@@ -42,7 +51,7 @@ struct bytes {
 
 /* the faults of one cycle */
 struct cycle {
-    uint64_t masks[MASKS], missed[PHASES][NODES];
+    uint64_t masks[MASKS], missed[PHASES][GM_NODES_MAX];
 };
 
 struct word {
@@ -127,14 +136,14 @@ static struct bytes read_input(void)
         b.len += got;
     } while (got > 0);
     if (ferror(stdin))
-        give_up("the input cannot be read");
+        give_up("the input could not be read: %s", strerror(errno));
     return b;
 }
 
 static void write_bytes(const char *at, size_t len)
 {
     if (fwrite(at, 1, len, stdout) != len)
-        give_up("the output cannot be written");
+        give_up("the output could not be written: %s", strerror(errno));
 }
 
 static uint64_t only(unsigned q)
@@ -149,7 +158,12 @@ static int in(uint64_t set, unsigned q)
 
 static uint64_t all_below(unsigned n)
 {
-    return ~(uint64_t)0 >> (NODES - n);
+    return ~(uint64_t)0 >> (GM_NODES_MAX - n);
+}
+
+static uint64_t range(unsigned from, unsigned to)
+{
+    return all_below(to + 1) & ~(only(from) - 1);
 }
 
 /* of a set that is not empty */
@@ -249,31 +263,43 @@ static void __attribute__((noreturn)) expected(const struct text *t, const char 
     wrong(t, "expected %s, not '%s'%s", what, shown, has_capital(w) ? "; words stand in small letters" : "");
 }
 
-/* a number that is too large stays too large */
-static unsigned long take_number(struct text *t, unsigned long least, unsigned long most, const char *name)
+/* the number that a word is, or one above `most` if it is none or a larger one */
+static uint64_t number_in(struct word w, uint64_t most)
 {
-    struct word w = next(t);
     uint64_t x = 0;
     size_t digits = 0;
+    for (; digits < w.len && digit(w.at[digits]) && x <= most; digits++)
+        x = 10 * x + (uint64_t)(w.at[digits] - '0');
+    return digits > 0 && digits == w.len ? x : most + 1;
+}
+
+static unsigned long take_number(struct text *t, unsigned long least, unsigned long most, const char *name)
+{
+    uint64_t x = number_in(next(t), most);
     char what[MESSAGE_ROOM / 2];
-    for (; digits < w.len && digit(w.at[digits]); digits++)
-        x = x <= most ? 10 * x + (uint64_t)(w.at[digits] - '0') : x;
-    if (digits == 0 || digits < w.len || x < least || x > most) {
+    if (x < least || x > most) {
         snprintf(what, sizeof what, "%s, %lu to %lu", name, least, most);
         expected(t, what);
     }
-    pass(t, w);
+    pass(t, next(t));
     return (unsigned long)x;
 }
 
 /* ---- from text */
 
+/* the node that ends a range */
+static unsigned take_end(struct text *t, unsigned from)
+{
+    unsigned to = (unsigned)number_in(next(t), from);
+    if (to < from)
+        wrong(t, "the range %u-%u runs backwards; write %u-%u", from, to, to, from);
+    return (unsigned)take_number(t, from, t->n - 1, "the last node of the range");
+}
+
 static uint64_t take_range(struct text *t, const char *name)
 {
-    unsigned from = (unsigned)take_number(t, 0, t->n - 1, name), to = from;
-    if (take(t, "-"))
-        to = (unsigned)take_number(t, from, t->n - 1, "the last node of the range");
-    return all_below(to + 1) & ~(only(from) - 1);
+    unsigned from = (unsigned)take_number(t, 0, t->n - 1, name);
+    return range(from, take(t, "-") ? take_end(t, from) : from);
 }
 
 static uint64_t take_list(struct text *t)
@@ -303,24 +329,32 @@ static uint64_t take_last_list(struct text *t)
     return set;
 }
 
-static void put_entries(struct bytes *b, const struct cycle *c)
+static void put_head(struct bytes *b, unsigned kind)
 {
-    for (unsigned phase = 0; phase < PHASES; phase++)
-        for (unsigned q = 0; q < NODES; q++)
-            if (c->missed[phase][q] != 0) {
-                put_byte(b, phase << 7 | q);
-                put_mask(b, c->missed[phase][q]);
-            }
+    put_byte(b, GM_MARK_0);
+    put_byte(b, GM_MARK_1);
+    put_byte(b, kind);
+}
+
+/* `bit` tells the phase */
+static void put_entries(struct bytes *b, unsigned bit, const uint64_t *missed)
+{
+    for (unsigned q = 0; q < GM_NODES_MAX; q++)
+        if (missed[q] != 0) {
+            put_byte(b, bit | q);
+            put_mask(b, missed[q]);
+        }
 }
 
 static void put_record(struct bytes *b, const struct cycle *c)
 {
-    put(b, "GM\2", HEAD_BYTES);
+    put_head(b, GM_RECORD_CYCLE);
     for (unsigned k = 0; k < MASKS; k++)
         put_mask(b, c->masks[k]);
     put_byte(b, 0);
-    put_entries(b, c);
-    b->at[CYCLE_BYTES - 1] = (char)((b->len - CYCLE_BYTES) / ENTRY_BYTES);
+    put_entries(b, 0, c->missed[HEARTBEAT]);
+    put_entries(b, GM_ENTRY_VOTE, c->missed[VOTE]);
+    b->at[GM_CYCLE_AT_COUNT] = (char)((b->len - GM_CYCLE_AT_ENTRIES) / GM_ENTRY_BYTES);
 }
 
 /* the record is whole */
@@ -344,13 +378,13 @@ static void close_cycle(struct text *t)
 
 static void nodes(struct text *t)
 {
-    t->n = (unsigned)take_number(t, 2, NODES, "the number of nodes");
+    t->n = (unsigned)take_number(t, GM_NODES_MIN, GM_NODES_MAX, "the number of nodes");
     t->due = DUE_FOUNDING;
 }
 
 static void founding(struct text *t)
 {
-    put(&t->record, "GM\1", HEAD_BYTES);
+    put_head(&t->record, GM_RECORD_START);
     put_byte(&t->record, t->n);
     put_mask(&t->record, take_last_list(t));
     write_record(t, 1);
@@ -441,6 +475,11 @@ static void statement(struct text *t)
         expected(t, "the end of the line");
 }
 
+static int is_head(const unsigned char *s, unsigned kind)
+{
+    return s[0] == GM_MARK_0 && s[1] == GM_MARK_1 && s[GM_RECORD_AT_KIND] == kind;
+}
+
 /* the input without the mark that some editors set before a text */
 static struct word unmarked(const struct bytes *input)
 {
@@ -451,7 +490,7 @@ static struct word unmarked(const struct bytes *input)
     }
     if (s.len >= 2 && (memcmp(s.at, "\xFF\xFE", 2) == 0 || memcmp(s.at, "\xFE\xFF", 2) == 0))
         give_up("line 1: the text is in UTF-16; save it as UTF-8");
-    if (s.len >= HEAD_BYTES && memcmp(s.at, "GM\1", HEAD_BYTES) == 0)
+    if (s.len >= HEAD_BYTES && is_head((const unsigned char *)s.at, GM_RECORD_START))
         give_up("line 1: this is a table and no text; 'tabletext text' reads it");
     return s;
 }
@@ -511,7 +550,7 @@ struct rest {
     unsigned n;
 };
 
-static void __attribute__((noreturn, format(printf, 3, 4))) refuse(const struct rest *r, int number, const char *format, ...)
+static void __attribute__((noreturn, format(printf, 3, 4))) refuse(const struct rest *r, unsigned number, const char *format, ...)
 {
     char why[MESSAGE_ROOM], record[40] = "";
     va_list rest;
@@ -520,39 +559,55 @@ static void __attribute__((noreturn, format(printf, 3, 4))) refuse(const struct 
     va_end(rest);
     if (r->offset > 0)
         snprintf(record, sizeof record, "cycle %lu: ", r->cycles + 1);
-    give_up("byte %zu: refused %d: %s%s", r->offset, number, record, why);
+    give_up("record at byte %zu: refused %u: %s%s", r->offset, number, record, why);
 }
 
 static uint64_t mask_at(const unsigned char *s)
 {
     uint64_t m = 0;
-    for (unsigned i = 0; i < 8; i++)
+    for (unsigned i = 0; i < GM_SET_BYTES; i++)
         m = m << 8 | s[i];
     return m;
 }
 
 static void check_length(const struct rest *r, size_t len)
 {
+    char shown[3 * HEAD_BYTES + 4] = "";
     if (r->len == 0)
-        refuse(r, 11, "the file is empty");
-    if (r->len < len)
-        refuse(r, 11, "the file ends inside the record: %zu bytes are there, %zu are due", r->len, len);
+        refuse(r, GM_REFUSED_CUT, "the file is empty");
+    if (r->len >= len)
+        return;
+    if (r->len == 1)
+        snprintf(shown, sizeof shown, " (%02X)", r->at[0]);
+    else if (r->len < HEAD_BYTES)
+        snprintf(shown, sizeof shown, " (%02X %02X)", r->at[0], r->at[1]);
+    refuse(r, GM_REFUSED_CUT, "the file ends inside the record: %zu %s there%s, %zu are due", r->len, r->len == 1 ? "byte is" : "bytes are", shown, len);
+}
+
+/* whether a text may begin here: the first record of a table, also with a byte changed, has bytes that a text has not */
+static int like_text(const struct rest *r)
+{
+    size_t i = 0;
+    while (i < r->len && i < GM_START_BYTES && (r->at[i] >= ' ' ? r->at[i] < 0xFF : r->at[i] == '\n' || blank((char)r->at[i])))
+        i++;
+    return r->offset == 0 && (i == r->len || i == GM_START_BYTES);
 }
 
 static void check_head(const struct rest *r, unsigned kind)
 {
     const unsigned char *s = r->at;
     check_length(r, HEAD_BYTES);
-    if (s[0] != 'G' || s[1] != 'M' || s[2] != kind)
-        refuse(r, 12, "the record begins with the bytes %02X %02X %02X, not with 47 4D %02X%s", s[0], s[1], s[2], kind,
-               r->offset == 0 ? "; 'tabletext table' reads a text" : "");
+    if (!is_head(s, kind))
+        refuse(r, GM_REFUSED_KIND, "the record begins with the bytes %02X %02X %02X, not with %02X %02X %02X%s", s[0], s[1], s[2], GM_MARK_0, GM_MARK_1, kind,
+               like_text(r) ? "; 'tabletext table' reads a text" : "");
 }
 
-static void check_nodes(const struct rest *r, uint64_t set, const char *where)
+/* `where` names them, and `as` says what they are there */
+static void check_nodes(const struct rest *r, uint64_t set, const char *where, const char *as)
 {
     uint64_t above = set & ~all_below(r->n);
     if (above != 0)
-        refuse(r, 13, "%s names node %u, and the nodes are 0 to %u", where, lowest(above), r->n - 1);
+        refuse(r, GM_REFUSED_LIMIT, "%s names node %u%s, and the nodes are 0 to %u", where, lowest(above), as, r->n - 1);
 }
 
 static void advance(struct rest *r, size_t len)
@@ -562,21 +617,26 @@ static void advance(struct rest *r, size_t len)
     r->len -= len;
 }
 
+/* the last of the nodes of the set that follow `q` without a gap */
+static unsigned last_beside(uint64_t set, unsigned q)
+{
+    while (q + 1 < GM_NODES_MAX && in(set, q + 1))
+        q++;
+    return q;
+}
+
 static void put_list(struct bytes *b, uint64_t set)
 {
     const char *before = " ";
-    for (unsigned q = 0; q < NODES; q++) {
-        unsigned from = q;
-        if (!in(set, q))
-            continue;
-        while (q + 1 < NODES && in(set, q + 1))
-            q++;
+    while (set != 0) {
+        unsigned from = lowest(set), to = last_beside(set, from);
         put_words(b, before);
         put_number(b, from);
-        if (q > from) {
+        if (to > from) {
             put_words(b, "-");
-            put_number(b, q);
+            put_number(b, to);
         }
+        set &= ~range(from, to);
         before = ",";
     }
 }
@@ -584,40 +644,48 @@ static void put_list(struct bytes *b, uint64_t set)
 static void first_text(struct rest *r, struct bytes *b)
 {
     uint64_t set;
-    check_head(r, 1);
-    check_length(r, FIRST_BYTES);
-    r->n = r->at[3];
-    set = mask_at(r->at + 4);
-    if (r->n < 2 || r->n > NODES)
-        refuse(r, 1, "the number of nodes is %u, not 2 to %d", r->n, NODES);
+    check_head(r, GM_RECORD_START);
+    check_length(r, GM_START_BYTES);
+    r->n = r->at[GM_START_AT_N];
+    set = mask_at(r->at + GM_START_AT_FOUNDING);
+    if (r->n < GM_NODES_MIN || r->n > GM_NODES_MAX)
+        refuse(r, GM_REFUSED_COUNT, "the number of nodes is %u, not %u to %u", r->n, GM_NODES_MIN, GM_NODES_MAX);
     if (set == 0)
-        refuse(r, 13, "the founding set is empty");
-    check_nodes(r, set, "the founding set");
+        refuse(r, GM_REFUSED_LIMIT, "the founding set is empty");
+    check_nodes(r, set, "the founding set", "");
     put_words(b, "nodes ");
     put_number(b, r->n);
     put_words(b, "\nfounding");
     put_list(b, set);
     put_words(b, "\n");
-    advance(r, FIRST_BYTES);
+    advance(r, GM_START_BYTES);
+}
+
+/* where entry k begins in the record */
+static size_t entry_place(unsigned k)
+{
+    return GM_CYCLE_AT_ENTRIES + GM_ENTRY_BYTES * (size_t)k;
 }
 
 /* entry k; of the one before it the first byte is known, or -1 */
 static void read_entry(const struct rest *r, unsigned k, int before, struct cycle *c)
 {
-    const unsigned char *entry = r->at + CYCLE_BYTES + ENTRY_BYTES * (size_t)k;
-    unsigned receiver = entry[0] & 0x3F, phase = entry[0] >> 7;
-    uint64_t missed = mask_at(entry + 1);
-    char where[24];
-    snprintf(where, sizeof where, "entry %u", k + 1);
-    if (entry[0] & 0x40)
-        refuse(r, 13, "%s begins with the byte %02X, whose bit 6 is not 0", where, entry[0]);
-    check_nodes(r, only(receiver) | missed, where);
+    const unsigned char *entry = r->at + entry_place(k);
+    unsigned first = entry[GM_ENTRY_AT_RECEIVER], receiver = first & RECEIVER_BITS, phase = first & GM_ENTRY_VOTE ? VOTE : HEARTBEAT;
+    uint64_t missed = mask_at(entry + GM_ENTRY_AT_MISSED);
+    char where[MESSAGE_ROOM / 2];
+    snprintf(where, sizeof where, "entry %u, at byte %zu, of %u by the count at byte %zu,", k + 1, r->offset + entry_place(k), r->at[GM_CYCLE_AT_COUNT],
+             r->offset + GM_CYCLE_AT_COUNT);
+    if (first & ZERO_BIT)
+        refuse(r, GM_REFUSED_LIMIT, "%s begins with the byte %02X, whose bit 6 is not 0", where, first);
+    check_nodes(r, only(receiver), where, " as receiver");
+    check_nodes(r, missed, where, " as a sender");
     if (missed == 0)
-        refuse(r, 13, "%s names no sender that node %u misses", where, receiver);
+        refuse(r, GM_REFUSED_LIMIT, "%s names no sender that node %u misses", where, receiver);
     if (in(missed, receiver))
-        refuse(r, 13, "%s: node %u cannot miss its own %s", where, receiver, phase_names[phase]);
-    if (entry[0] <= before)
-        refuse(r, 13, "%s begins with the byte %02X, which is not above the %02X of the entry before it", where, entry[0], (unsigned)before);
+        refuse(r, GM_REFUSED_LIMIT, "%s has node %u miss its own %s", where, receiver, phase_names[phase]);
+    if ((int)first <= before)
+        refuse(r, GM_REFUSED_LIMIT, "%s begins with the byte %02X, which is not above the %02X of the entry before it", where, first, (unsigned)before);
     c->missed[phase][receiver] = missed;
 }
 
@@ -626,8 +694,8 @@ static void read_masks(const struct rest *r, struct cycle *c)
     for (unsigned k = 0; k < MASKS; k++) {
         char where[24];
         snprintf(where, sizeof where, "'%s'", mask_names[k]);
-        c->masks[k] = mask_at(r->at + HEAD_BYTES + 8 * k);
-        check_nodes(r, c->masks[k], where);
+        c->masks[k] = mask_at(r->at + mask_places[k]);
+        check_nodes(r, c->masks[k], where, "");
     }
 }
 
@@ -637,19 +705,19 @@ static size_t read_cycle(const struct rest *r, struct cycle *c)
     unsigned count;
     size_t len;
     int before = -1;
-    check_head(r, 2);
-    check_length(r, CYCLE_BYTES);
-    count = r->at[CYCLE_BYTES - 1];
-    len = CYCLE_BYTES + ENTRY_BYTES * (size_t)count;
+    check_head(r, GM_RECORD_CYCLE);
+    check_length(r, GM_CYCLE_AT_ENTRIES);
+    count = r->at[GM_CYCLE_AT_COUNT];
+    len = entry_place(count);
     check_length(r, len);
-    if (count > MOST_ENTRIES)
-        refuse(r, 13, "there are %u entries, and a cycle has at most %d", count, MOST_ENTRIES);
+    if (count > GM_ENTRIES_MAX)
+        refuse(r, GM_REFUSED_LIMIT, "the count at byte %zu is %u, and a cycle has at most %u entries", r->offset + GM_CYCLE_AT_COUNT, count, GM_ENTRIES_MAX);
     if (r->cycles == most_cycles)
-        refuse(r, 13, "a table has at most %lu cycles", most_cycles);
+        refuse(r, GM_REFUSED_LIMIT, "a table has at most %lu cycles", most_cycles);
     read_masks(r, c);
     for (unsigned k = 0; k < count; k++) {
         read_entry(r, k, before, c);
-        before = r->at[CYCLE_BYTES + ENTRY_BYTES * (size_t)k];
+        before = r->at[entry_place(k)];
     }
     return len;
 }
@@ -667,19 +735,36 @@ static unsigned long pass_equal(struct rest *r, size_t len)
     return times;
 }
 
+static void put_masks(struct bytes *b, const uint64_t *masks)
+{
+    for (unsigned k = 0; k < MASKS; k++)
+        if (masks[k] != 0) {
+            put_words(b, mask_names[k]);
+            put_list(b, masks[k]);
+            put_words(b, "\n");
+        }
+}
+
+/* the receivers from `q` on that miss the same, up to the first that misses something else, at which `q` is left */
+static uint64_t alike(const uint64_t *missed, unsigned *q)
+{
+    uint64_t receivers = 0, senders = missed[*q];
+    for (; *q < GM_NODES_MAX && (missed[*q] == 0 || missed[*q] == senders); ++*q)
+        receivers |= missed[*q] == 0 ? 0 : only(*q);
+    return receivers;
+}
+
 /* neighbouring receivers that miss the same stand on one line */
 static void put_missed(struct bytes *b, unsigned phase, const uint64_t *missed)
 {
     unsigned q = 0;
-    while (q < NODES) {
-        uint64_t receivers = 0, senders = missed[q];
-        for (; q < NODES && (missed[q] == 0 || missed[q] == senders); q++)
-            receivers |= missed[q] == 0 ? 0 : only(q);
-        if (senders == 0)
+    while (q < GM_NODES_MAX) {
+        uint64_t receivers = alike(missed, &q);
+        if (receivers == 0)
             continue;
         put_words(b, "miss ");
         put_words(b, phase_names[phase]);
-        put_list(b, senders);
+        put_list(b, missed[lowest(receivers)]);
         put_words(b, " at");
         put_list(b, receivers);
         put_words(b, "\n");
@@ -694,14 +779,9 @@ static void put_cycle(struct bytes *b, const struct cycle *c, unsigned long time
         put_words(b, "\n");
     }
     put_words(b, "cycle\n");
-    for (unsigned k = 0; k < MASKS; k++)
-        if (c->masks[k] != 0) {
-            put_words(b, mask_names[k]);
-            put_list(b, c->masks[k]);
-            put_words(b, "\n");
-        }
-    for (unsigned phase = 0; phase < PHASES; phase++)
-        put_missed(b, phase, c->missed[phase]);
+    put_masks(b, c->masks);
+    put_missed(b, HEARTBEAT, c->missed[HEARTBEAT]);
+    put_missed(b, VOTE, c->missed[VOTE]);
 }
 
 static void write_text(const struct bytes *input)
@@ -718,29 +798,40 @@ static void write_text(const struct bytes *input)
     free(b.at);
 }
 
-static void convert(void (*write)(const struct bytes *))
+static void convert(const char *from, void (*write_other)(const struct bytes *))
 {
-    struct bytes input = read_input();
-    write(&input);
+    struct bytes input;
+    if (isatty(STDIN_FILENO))
+        fprintf(stderr, "tabletext: a %s is expected on standard input, which is a terminal; see tabletext --help\n", from);
+    input = read_input();
+    write_other(&input);
     free(input.at);
+}
+
+/* bytes are nothing for a terminal, and some of them change how it works */
+static void spare_terminal(void)
+{
+    if (isatty(STDOUT_FILENO))
+        give_up("a table is bytes and is not written to a terminal; write it to a file: " FROM_FILE);
 }
 
 int main(int argc, char **argv)
 {
     const char *what = argc == 2 ? argv[1] : "";
     if (argc != 2)
-        give_up("expected one argument, 'table', 'text', '--help' or '--version'; the input is read from standard input");
-    if (strcmp(what, "table") == 0)
-        convert(write_table);
-    else if (strcmp(what, "text") == 0)
-        convert(write_text);
+        give_up("expected one argument, 'table', 'text', '--help' or '--version'; a file is read by: " FROM_FILE);
+    if (strcmp(what, "table") == 0) {
+        spare_terminal();
+        convert("text", write_table);
+    } else if (strcmp(what, "text") == 0)
+        convert("table", write_text);
     else if (strcmp(what, "--help") == 0)
         write_bytes(help, strlen(help));
     else if (strcmp(what, "--version") == 0)
         printf("tabletext %s\n", VERSION);
     else
-        give_up("expected 'table', 'text', '--help' or '--version', not '%s'", what);
+        give_up("expected 'table', 'text', '--help' or '--version', not '%s'; a file is read by: " FROM_FILE, what);
     if (fflush(stdout) != 0)
-        give_up("the output cannot be written");
+        give_up("the output could not be written: %s", strerror(errno));
     return 0;
 }
