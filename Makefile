@@ -133,9 +133,10 @@ examples-test: $(GROUPRUN) $(TABLETEXT)
 text-test: $(TABLETEXT)
 	@tests/text.sh $(TABLETEXT) $(BUILD)
 
-# arguments are answered, and read no table; on a terminal there is a hint
+# arguments are answered, and read no table; on a terminal there is a hint; the manual pages' examples print what stands there
 arguments-test: $(GROUPRUN) $(TABLETEXT)
 	@tests/arguments.sh $(GROUPRUN) $(TABLETEXT) $(VERSION) $(BUILD)
+	@tests/pages.sh $(GROUPRUN) $(TABLETEXT) $(BUILD)
 
 # the program with slow, closed, full and failing ends and a table of BYTES bytes; the archive in threads and under memory checkers
 load: load-program load-archive

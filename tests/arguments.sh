@@ -1,5 +1,5 @@
 #!/usr/bin/env bash
-# What grouprun does with arguments and on a terminal, and the shell of its manual page that turns a run into an exit status.
+# What grouprun does with arguments and on a terminal, and the shell of its manual page that tells a whole run from others.
 # Usage: arguments.sh GROUPRUN TABLETEXT VERSION BUILD-FOLDER
 set -euo pipefail
 grouprun=$(realpath "$1") tabletext=$(realpath "$2") version=$3 here=$(realpath "$(dirname "$0")")
@@ -77,30 +77,38 @@ cmp -s "$out" "$work/typed" || fail "a terminal without input prints another run
 script -qec "'$grouprun' --version 2>&1 >'$out' | cmp - /dev/null" /dev/null </dev/null || fail "--version on a terminal is answered with a hint"
 count=$((count + 6))
 
-# ---- the shell of the manual page that turns a run into a status: 0 for a whole run alone
-judge=$(sed -n '/^\$ \\fBerr=/,/\\fP$/p' "$manual" | sed -e 's/^\$ \\fB//' -e 's/\\fP$//' -e 's/\\-/-/g' -e "s/\\\\(aq/'/g")
-[ -n "$judge" ] || fail "the manual page has no shell that begins with err="
+# ---- the shell of the manual page, as a script that ends at a failure would have it: it goes on, and says whole of a whole run alone
+judge=$(sed -n '/^\$ \\fBif err=/,/\\fP$/p' "$manual" | sed -e 's/^\$ \\fB//' -e 's/\\fP$//' -e 's/\\-/-/g' -e "s/\\\\(aq/'/g")
+[ -n "$judge" ] || fail "the manual page has no shell that begins with 'if err='"
 press=$work/press.tab run=$work/run.txt
-status() { (cd "$work" && PATH=$(dirname "$grouprun"):$PATH "$1" -c "$2$judge" 2>/dev/null) && echo whole || echo not; } # SHELL BEFORE
+said() { cd "$work" && PATH=$(dirname "$grouprun"):$PATH "$1" -ec "$2$judge"$'\necho on' 2>/dev/null; } # SHELL BEFORE
 judged() { # NAME EXPECTED [BEFORE]
-    local shell
-    for shell in sh bash; do [ "$(status "$shell" "${3-}")" = "$2" ] || fail "$1, in $shell: the shell of the manual page does not say $2"; done
+    local shell given
+    for shell in sh bash; do
+        given=$(said "$shell" "${3-}") || fail "$1, in $shell: the shell of the manual page ends the script"
+        [[ $given == $2$'\n'on ]] || fail "$1, in $shell: the shell of the manual page says '$given' and not '$2'"
+    done
     count=$((count + 1))
 }
 cp "$table" "$press"
 judged "a whole run" whole
 cmp -s "$run" "$here/../examples/p1.out" || fail "the shell of the manual page keeps another run"
-judged "a run ended by a signal" not 'ulimit -f 0; '
-judged "a run that reaches the limit of a file" not "trap '' XFSZ; ulimit -f 0; "
+judged "a run ended by a signal" 'not whole: *' 'ulimit -f 0; '
+judged "a run that reaches the limit of a file" "not whole: $unwritten" "trap '' XFSZ; ulimit -f 0; "
 ln -sf /dev/full "$run"
-judged "a run that cannot be written" not
+judged "a run that cannot be written" "not whole: $unwritten"
 rm "$run"
+"$tabletext" table <"$here/../examples/p2.txt" >"$press"
+judged "a run with a line broken" whole
+grep -q broken "$run" || fail "the run of examples/p2.txt has no line broken"
 head -c 100 "$table" >"$press"
-judged "a refused table" not
+judged "a refused table" 'not whole: '
 : >"$press"
-judged "an empty table" not
+judged "an empty table" 'not whole: '
 rm "$press"
-judged "no table" not
+echo old >"$run"
+judged "no table" 'not whole: *press.tab*'
+silent "$run" "the run of no table"
 mkdir "$press"
-judged "a table that cannot be read" not
+judged "a table that cannot be read" 'not whole: grouprun: the input could not be read'
 echo "tests/arguments: $count cases as named; the version is $version"
