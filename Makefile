@@ -95,9 +95,9 @@ $(GROUPRUN): $(SOURCES)
 	@$(call needs,rt)tools/kit.sh run "up to 3 minutes on two cores" check grouprun
 
 # tables as readable text, and back
-$(TABLETEXT): tools/tabletext.c include/gm.h Makefile
+$(TABLETEXT): tools/tabletext.c include/gm.h
 	@mkdir -p $(BUILD)
-	@$(C99) -DVERSION='"$(VERSION)"' $< -o $@
+	@$(C99) $< -o $@
 
 $(TABLEGEN): bench/table.c
 	@mkdir -p $(BUILD)

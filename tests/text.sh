@@ -306,7 +306,7 @@ all_checks() {
 }
 
 shopt -s nullglob
-gcc -std=c99 -g -O1 -fsanitize=address,undefined -fno-sanitize-recover=all -I"$here/../include" -DVERSION="\"$version\"" "$here/../tools/tabletext.c" -o "$checked"
+gcc -std=c99 -g -O1 -fsanitize=address,undefined -fno-sanitize-recover=all -I"$here/../include" "$here/../tools/tabletext.c" -o "$checked"
 # in KiB: the longest table of a case has 36 MB
 ulimit -f 65536
 for tool in "$built" "$checked"; do

@@ -828,7 +828,7 @@ int main(int argc, char **argv)
     else if (strcmp(what, "--help") == 0)
         write_bytes(help, strlen(help));
     else if (strcmp(what, "--version") == 0)
-        printf("tabletext %s\n", VERSION);
+        printf("tabletext %s\n", GM_VERSION);
     else
         give_up("expected 'table', 'text', '--help' or '--version', not '%s'; a file is read by: " FROM_FILE, what);
     if (fflush(stdout) != 0)
