@@ -572,7 +572,7 @@ static uint64_t mask_at(const unsigned char *s)
 
 static void check_length(const struct rest *r, size_t len)
 {
-    char shown[3 * HEAD_BYTES + 4] = "";
+    char shown[16] = "";
     if (r->len == 0)
         refuse(r, GM_REFUSED_CUT, "the file is empty");
     if (r->len >= len)
