@@ -36,7 +36,7 @@ Known count first Version = (count ≡ 2) × (first ≡ ascii "--version")
 Known count first Wrong = (2 ≤ count) × (first ≡ ascii "--help" → 2 < count) × (first ≡ ascii "--version" → 2 < count)
 
 unfoldable pub usageLine : List ℕ
-usageLine = ascii "usage: grouprun [--help | --version] <table\n"
+usageLine = ascii "usage: grouprun [--help | --version] <press.tab (a table on standard input)\n"
 
 unfoldable pub versionLine : List ℕ
 versionLine = ascii "grouprun 0.2.0\n"

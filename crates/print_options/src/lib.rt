@@ -57,10 +57,10 @@ pub fn asked_by(count: usize, first: &[u8]) -> Asked
 }
 
 fn put_usage(out: &mut [u8], at: usize) -> usize
-    requires { ⌜ at + 44 ≤ length (now out) ⌝ }
+    requires { ⌜ at + 76 ≤ length (now out) ⌝ }
     ensures { λ r. ⌜ Appended (now (out .entry)) at usageLine (now (out .exit)) r ⌝ }
 {
-    print_text::put(out, at, b"usage: grouprun [--help | --version] <table\n")
+    print_text::put(out, at, b"usage: grouprun [--help | --version] <press.tab (a table on standard input)\n")
 }
 
 fn put_help(out: &mut [u8], at: usize) -> usize

@@ -24,7 +24,7 @@ put-requires : tie.Need-put-requires
 unfolding usageLine ascii
 put-requires c κs =
     let u = c .before .before .before .before in
-    omega (arith, leaves 44 724 (u .put-usage .ensures) (omega arith) (u .before .before .before .pre))
+    omega (arith, leaves 76 692 (u .put-usage .ensures) (omega arith) (u .before .before .before .pre))
 
 same-length : tie.Need-same-length
 same-length c = search needs
