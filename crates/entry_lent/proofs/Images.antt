@@ -16,7 +16,7 @@ use Rattle.state.proofs.Fields.{place-bounds}
 use Rattle.state.proofs.RoundTrip.{decoded-formed}
 use Rattle.sets.proofs.Booleans.{and-l}
 use Rattle.refusal.specs.Refusal.{first}
-use Rattle.entry_lent.specs.Refusals.{wrongLength, lentConditions}
+use Rattle.entry_lent.specs.Refusals.{wrongLength, lentConditions, imageStatus}
 use Rattle.entry_lent.proofs.Bounds.{length-is}
 
 -- the length of a lent image, by what reading it finds
@@ -56,3 +56,14 @@ by-image s f k l = simp (eq-eqb (length f) k l, or-false, length-read s) (by (de
     by (Good n) = refl
     by WrongLength = refl
     by Malformed = refl
+
+-- what is left of a call that reads an image is what it was before, if it is that where the image is refused
+pub image-kept : {A : Type 0} (left : Decoded → A) (before : A) (s : List ℕ) → left WrongLength ≡ before → left Malformed ≡ before → (imageStatus s ≡ 0 → ⊥)
+    → left (decoded s) ≡ before
+unfolding imageStatus
+image-kept left before s short malformed refused = by (decoded s) refused
+  where
+    by : (d : Decoded) → (refusal d ≡ 0 → ⊥) → left d ≡ before
+    by (Good n) refused = absurd (refused refl)
+    by WrongLength refused = short
+    by Malformed refused = malformed

@@ -1,5 +1,5 @@
 -- What a call answers and leaves, by what was gathered of its row; one that is not refused has a row of whole images. Assumes nothing.
-use mathlib.Core.Path.{_≡_, sym, ap, _∙_}
+use mathlib.Core.Path.{_≡_, refl, sym, ap, _∙_}
 use mathlib.Core.List.{List}
 use Prim.Native.Nat.{ℕ, _*_, _≤_}
 use native.Mathlib.Omega.{arith}
@@ -12,8 +12,9 @@ use Rattle.row.specs.declared.Gathered.{Gathered}
 use Rattle.row.specs.Row.{nodesOf}
 use Rattle.row.specs.Gathered.{nothingOf, gathered}
 use Rattle.row_calls.specs.declared.Task.{Task}
+use Rattle.row_calls.specs.declared.Task.the-variants.{Cycle, Run, FramedRun}
 use Rattle.row_calls.proofs.Counts.{counted}
-use Rattle.row_calls.specs.Calls.{callLeft, callFrames}
+use Rattle.row_calls.specs.Calls.{framedStatus, framesLeft, callLeft, callFrames}
 use Rattle.run_answer.specs.Answered.{countByte, GatheredFrom, Leaves}
 use Rattle.row_images.specs.Images.{nodeIn, entriesIn, nodesIn, imagesOf}
 use Rattle.entry_row.specs.OnImages.{lentStatus, lentLeft, lentFrames}
@@ -53,3 +54,11 @@ from-images n b count g row e f h = (length-nodes row ∙ sym f, h ∙ ap (λ (k
 pub frames-left : (t : Task) (count : ℕ) (row s frames left : List ℕ) → count ≡ entriesIn row → left ≡ callFrames t count s frames → left ≡ lentFrames t row s frames
 unfolding lentFrames
 frames-left t count row s frames left e l = l ∙ ap (λ (k : ℕ). callFrames t k s frames) e
+
+-- a refused call leaves them too
+pub frames-kept : (t : Task) (n : ℕ) (row s frames : List ℕ) → (lentStatus t n row (length frames) s ≡ 0 → ⊥) → lentFrames t row s frames ≡ frames
+unfolding lentStatus lentFrames framesLeft
+frames-kept Cycle n row s frames o = refl
+frames-kept Run n row s frames o = refl
+frames-kept FramedRun n row s frames o =
+    unless-refused (framedStatus (entriesIn row) (length frames) s) _ frames (λ z. o (ap (λ (k : ℕ). framedStatus k (length frames) s) (length-nodes row) ∙ z))

@@ -1,1 +1,1 @@
-mod Accepted
+pub mod Accepted

@@ -1,6 +1,6 @@
 -- What the entries stop and start answer and leave. Assumes nothing.
-use mathlib.Core.Path.{_≡_, sym, ap, _∙_}
-use mathlib.Core.Bool.{Bool}
+use mathlib.Core.Path.{_≡_, refl, sym, ap, _∙_}
+use mathlib.Core.Bool.{Bool, true, false}
 use mathlib.Core.List.{List, _++_}
 use Prim.Native.Nat.{ℕ}
 use lib.ListN.{length, take, drop}
@@ -11,8 +11,8 @@ use Rattle.state.specs.Image.{imageOf, decoded, refusal}
 use Rattle.state.proofs.RoundTrip.{image-length}
 use Rattle.entry_lent.specs.Refusals.{imageStatus}
 use Rattle.parts.proofs.Copies.{whole}
-use Rattle.entry_lent.proofs.Images.{good-length}
-use Rattle.entry_stop_start.specs.StopStart.{stoppedAndStarted, ruleOneOf}
+use Rattle.entry_lent.proofs.Images.{good-length, image-kept}
+use Rattle.entry_stop_start.specs.StopStart.{stoppedAndStarted, ruleOneOf, stopLeft, startLeft}
 
 module _ (stop· start· : Bool) (s : List ℕ) where
   pub ruled : (image left : List ℕ) (n m : Node) → decoded s ≡ Good n → m ≡ stoppedAndStarted stop· start· n → image ≡ imageOf m
@@ -26,3 +26,11 @@ module _ (stop· start· : Bool) (s : List ℕ) where
   pub kept : (d : Decoded) → decoded s ≡ d → ruleOneOf stop· start· d s ≡ s → (refusal d ≡ imageStatus s) × (s ≡ ruleOneOf stop· start· (decoded s) s)
   unfolding imageStatus
   kept d g e = (sym (ap refusal g), sym (ap (λ (d : Decoded). ruleOneOf stop· start· d s) g ∙ e))
+
+-- both leave every image that is refused as it came
+pub refused-kept : (s : List ℕ) → (imageStatus s ≡ 0 → ⊥) → (stopLeft s ≡ s) × (startLeft s ≡ s)
+unfolding stopLeft startLeft
+refused-kept s refused =
+    let stays : (stop start : Bool) → ruleOneOf stop start (decoded s) s ≡ s =
+    λ stop start. image-kept (λ (d : Decoded). ruleOneOf stop start d s) s s refl refl refused in
+    (stays true false, stays false true)
