@@ -1,4 +1,4 @@
--- A refused call of any entry leaves everything as it came. Assumes nothing.
+-- The entries for C as they are compiled: they meet their contracts, and so a refused call leaves everything as it came. Assumes nothing.
 use mathlib.Core.Path.{_≡_, refl, _∙_, sym}
 use mathlib.Core.Bool.{Bool, true, false, cond}
 use mathlib.Core.List.{List}
@@ -27,7 +27,41 @@ use Rattle.entry_write_vote.specs.Votes.{writeVoteLeft}
 use Rattle.entry_send_vote.specs.Voting.{viewFrom, sendVoteLeft, sendVoteSent}
 use Rattle.entry_receive_vote.specs.Arrivals.{voteRefusal, payloadOr, readVoteStatus, readVoteLeft, receiveVoteLeft, receiveVoteArrived}
 use Rattle.entry_decide.specs.Decide.{decideLeft}
+use Rattle.gm.proofs.gm_state.Statement as gm-state-says
+use Rattle.gm.proofs.gm_state.Met as gm-state-met
+use Rattle.gm.proofs.gm_write_heartbeat.Statement as gm-write-heartbeat-says
+use Rattle.gm.proofs.gm_write_heartbeat.Met as gm-write-heartbeat-met
+use Rattle.gm.proofs.gm_read_heartbeat.Statement as gm-read-heartbeat-says
+use Rattle.gm.proofs.gm_read_heartbeat.Met as gm-read-heartbeat-met
+use Rattle.gm.proofs.gm_view.Statement as gm-view-says
+use Rattle.gm.proofs.gm_view.Met as gm-view-met
+use Rattle.gm.proofs.gm_write_vote.Statement as gm-write-vote-says
+use Rattle.gm.proofs.gm_write_vote.Met as gm-write-vote-met
+use Rattle.gm.proofs.gm_read_vote.Statement as gm-read-vote-says
+use Rattle.gm.proofs.gm_read_vote.Met as gm-read-vote-met
 use Rattle.theorem_refused.specs.Kept.{Refused, RefusedKept}
+
+-- ---- the compiled entries meet the contracts that their callers read; of the other eleven `theorem_entries` and `theorem_units` say so
+
+pub state-code : {M : Type 1} → gm-state-says.statement M
+state-code {M} = gm-state-met.met
+
+pub write-heartbeat-code : {M : Type 1} → gm-write-heartbeat-says.statement M
+write-heartbeat-code {M} = gm-write-heartbeat-met.met
+
+pub read-heartbeat-code : {M : Type 1} → gm-read-heartbeat-says.statement M
+read-heartbeat-code {M} = gm-read-heartbeat-met.met
+
+pub view-code : {M : Type 1} → gm-view-says.statement M
+view-code {M} = gm-view-met.met
+
+pub write-vote-code : {M : Type 1} → gm-write-vote-says.statement M
+write-vote-code {M} = gm-write-vote-met.met
+
+pub read-vote-code : {M : Type 1} → gm-read-vote-says.statement M
+read-vote-code {M} = gm-read-vote-met.met
+
+-- ---- what each leaves
 
 -- by what a contract tells: the status is k, and what is left at the end is `left`
 told : {A : Type 0} {r k : ℕ} {after left before : A} → r ≡ k → after ≡ left → ((k ≡ 0 → ⊥) → left ≡ before) → Refused r → after ≡ before

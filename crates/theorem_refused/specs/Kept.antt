@@ -1,8 +1,8 @@
--- Demand 1 of every entry for C, "and on a refusal leaves state and buffers as they came": one field for each.
+-- Demand 1 of every entry for C, "and on a refusal leaves state and buffers as they came": one field for each entry.
 -- Paper 01, "Who can be refused, and for what": "A refusal returns only its number; states and buffers do not change."
--- Of a call nothing is known but what the contract of the compiled entry tells its caller, `Learnt`: of the arguments a, the status r and the arguments at the end s.
--- `now (a ..)` is what a lent argument held when the call began, `now (s ..)` what it holds when it ended: .0 is the first argument, .1 .0 the second, and so on.
--- A buffer that is lent to be read alone is not named: the language lets nobody write it.
+-- A call is any of which the contract of the compiled entry tells its caller, `Learnt`, with these arguments a, this status r and these arguments at the end s.
+-- `a .0` is its first argument, `a .1 .0` its second, and so on; the comment above a field names them all, and after the colon what it may write.
+-- What is lent only to be read is not said to be kept: no code can write it.
 -- Assumes nothing.
 use mathlib.Core.Path.{_≡_}
 use Prim.Native.Nat.{ℕ}
