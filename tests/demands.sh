@@ -1,6 +1,7 @@
 #!/usr/bin/env bash
 # Whether docs/DEMANDS.md says what is there: every quoted formula stands so in the file named above it, and no word of one is left unexplained; every name is there;
-# every clause has its cells and a wrong edit, or says why there is none; every entry of the header is named, and none has a `requires`.
+# every clause has its cells and a wrong edit, or says why there is none; every entry of the header is named, and none has a `requires`; the theorem on refused calls has
+# every entry, and as many arguments as the entries may write.
 # Usage: demands.sh [FILE], by default docs/DEMANDS.md
 set -euo pipefail
 root=$(cd "$(dirname "$0")/.." && pwd)
@@ -71,9 +72,14 @@ clauses() {
 while read -r at what; do complain "line $at: $what"; done < <(clauses)
 while read -r span; do complain "\`$span\` is cited, and is no name of a known form"; done < <(
     awk -F '|' '/^\| clause / { table = 1 } !/^\|/ { table = 0 } table { print $4, $5 }' "$page" | in_backticks | grep -vE "$form")
+kept=crates/theorem_refused/specs/Kept.antt
 for entry in $(sed -nE 's/^uint32_t (gm_[a-z_]+)\(.*/\1/p' include/gm.h); do
     grep -qx "gm::$entry" <<<"$names" || complain "the entry $entry is not named"
+    grep -q "${entry//_/-}\.Learnt" "$kept" || complain "$kept has no field for the entry $entry"
 done
+written=$(grep -o "&mut" crates/gm/src/lib.rt | wc -l)
+said=$(grep -o "Kept (a " "$kept" | wc -l)
+[ "$said" -eq "$written" ] || complain "$kept says of $said arguments that a refused call keeps them, and the entries are lent $written to write"
 ! grep -n requires crates/gm/src/lib.rt crates/row_press/src/lib.rt >&2 || complain "an entry has a 'requires'"
 
 [ "$wrong" -eq 0 ] || exit 1
