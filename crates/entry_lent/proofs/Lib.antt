@@ -1,3 +1,4 @@
 pub mod Bounds
 pub mod Images
 pub mod Sending
+pub mod Reading

@@ -6,6 +6,7 @@ use Prim.Native.Nat.{ℕ, _<_}
 use native.Mathlib.Omega.{arith}
 use borrow.Author.Tests.{eq-eqb, ne-eqb}
 use Rattle.frames.specs.declared.HeartbeatRead.{HeartbeatRead}
+use Rattle.frames.specs.declared.HeartbeatRead.the-variants.{Alive, Join, Refused}
 use Rattle.frames.specs.declared.HeartbeatReceived.{HeartbeatReceived}
 use Rattle.frames.specs.Read.{readHeartbeat, receiveHeartbeat}
 use Rattle.refusal.proofs.Laws.{none, unless-done, unless-refused}
@@ -13,6 +14,7 @@ use Rattle.entry_lent.specs.Refusals.{wrongCount, wrongNode, wrongCycle, wrongC
 use Rattle.entry_receive_heartbeat.specs.Hearing.{readStatus, heartbeatRefusal, joinOf, readHeartbeatStatus, readHeartbeatJoin}
 use Rattle.entry_receive_heartbeat.specs.Hearing.{heardCode, receiveHeartbeatStatus, receiveHeartbeatHeard}
 use Rattle.entry_lent.proofs.Bounds.{count-bounds, slot-bounds}
+use Rattle.entry_lent.proofs.Reading.{frame-kept}
 
 -- ---- read from one channel
 
@@ -43,6 +45,17 @@ module _ (n q cycle channel : ℕ) where
       simp (eq-eqb _ 0 e) (sym (ap heartbeatRefusal g)),
       sym (unless-done _ _ join e ∙ ap (λ (x : HeartbeatRead). joinOf x join) g),
     )
+
+-- a read that is refused leaves the join bit
+pub refused-kept : (n q cycle channel : ℕ) (f : List ℕ) (join : ℕ) → (readHeartbeatStatus n q cycle channel f ≡ 0 → ⊥)
+    → readHeartbeatJoin n q cycle channel f join ≡ join
+unfolding readHeartbeatStatus readHeartbeatJoin
+refused-kept n q cycle channel f join = frame-kept _ _ _ join (by (readHeartbeat q cycle channel f))
+  where
+    by : (d : HeartbeatRead) → (heartbeatRefusal d ≡ 0 → ⊥) → joinOf d join ≡ join
+    by Alive h = absurd (h refl)
+    by Join h = absurd (h refl)
+    by (Refused fault) h = refl
 
 -- ---- received on both
 

@@ -1,20 +1,9 @@
 -- The entries for C as they are compiled: they meet their contracts, and so a refused call leaves everything as it came. Assumes nothing.
-use mathlib.Core.Path.{_≡_, refl, _∙_, sym}
-use mathlib.Core.Bool.{Bool, true, false, cond}
-use mathlib.Core.List.{List}
+use mathlib.Core.Path.{_≡_, sym, _∙_}
 use Prim.Native.Nat.{ℕ}
-use lib.Dec.{eqb}
 use denote.Ref.{now}
-use Rattle.refusal.specs.Refusal.{unless}
 use Rattle.refusal.proofs.Laws.{unless-refused}
-use Rattle.state.specs.declared.Decoded.{Decoded}
-use Rattle.frames.specs.declared.HeartbeatRead.{HeartbeatRead}
-use Rattle.frames.specs.declared.HeartbeatRead.the-variants as beat
-use Rattle.frames.specs.declared.VoteRead.{VoteRead}
-use Rattle.frames.specs.declared.VoteRead.the-variants as vote
-use Rattle.frames.specs.Read.{readHeartbeat, readVote}
 use Rattle.row_calls.specs.declared.Task.the-variants.{Cycle, Run, FramedRun}
-use Rattle.entry_lent.proofs.Images.{image-kept}
 use Rattle.entry_row.specs.OnImages.{imagesStatus, imagesLeft}
 use Rattle.entry_row.proofs.Accepted.{images-kept, frames-kept}
 use Rattle.entry_begin.specs.Begin.{beginLeft}
@@ -22,10 +11,13 @@ use Rattle.entry_stop_start.proofs.Answers as ruled
 use Rattle.entry_state.proofs.Whole as apart
 use Rattle.entry_write_heartbeat.specs.Heartbeats.{writeHeartbeatLeft}
 use Rattle.entry_send_heartbeat.specs.Beating.{sendHeartbeatLeft, sendHeartbeatSent}
-use Rattle.entry_receive_heartbeat.specs.Hearing.{heartbeatRefusal, joinOf, readHeartbeatStatus, readHeartbeatJoin, receiveHeartbeatHeard}
+use Rattle.entry_receive_heartbeat.specs.Hearing.{receiveHeartbeatHeard}
+use Rattle.entry_receive_heartbeat.proofs.Heard as beat
 use Rattle.entry_write_vote.specs.Votes.{writeVoteLeft}
-use Rattle.entry_send_vote.specs.Voting.{viewFrom, sendVoteLeft, sendVoteSent}
-use Rattle.entry_receive_vote.specs.Arrivals.{voteRefusal, payloadOr, readVoteStatus, readVoteLeft, receiveVoteLeft, receiveVoteArrived}
+use Rattle.entry_send_vote.specs.Voting.{sendVoteLeft, sendVoteSent}
+use Rattle.entry_send_vote.proofs.Kept as viewed
+use Rattle.entry_receive_vote.specs.Arrivals.{receiveVoteLeft, receiveVoteArrived}
+use Rattle.entry_receive_vote.proofs.Kept as vote
 use Rattle.entry_decide.specs.Decide.{decideLeft}
 use Rattle.gm.proofs.gm_state.Statement as gm-state-says
 use Rattle.gm.proofs.gm_state.Met as gm-state-met
@@ -67,32 +59,6 @@ read-vote-code {M} = gm-read-vote-met.met
 told : {A : Type 0} {r k : ℕ} {after left before : A} → r ≡ k → after ≡ left → ((k ≡ 0 → ⊥) → left ≡ before) → Refused r → after ≡ before
 told e l law h = l ∙ law (λ z. h (e ∙ z))
 
--- one copy of a frame that is read: a status k of the caller's numbers, then the number m of what is read
-in-two-steps : {A : Type 0} (k m : ℕ) (x before : A) → ((m ≡ 0 → ⊥) → x ≡ before) → (cond (eqb k 0) m k ≡ 0 → ⊥) → unless k x before ≡ before
-unfolding unless
-in-two-steps k m x before law = by (eqb k 0)
-  where
-    by : (b : Bool) → (cond b m k ≡ 0 → ⊥) → cond b x before ≡ before
-    by true h = law h
-    by false h = refl
-
-join-kept : (n q cycle channel : ℕ) (f : List ℕ) (join : ℕ) → (readHeartbeatStatus n q cycle channel f ≡ 0 → ⊥) → readHeartbeatJoin n q cycle channel f join ≡ join
-unfolding readHeartbeatStatus readHeartbeatJoin
-join-kept n q cycle channel f join = in-two-steps _ _ _ join (by (readHeartbeat q cycle channel f))
-  where
-    by : (d : HeartbeatRead) → (heartbeatRefusal d ≡ 0 → ⊥) → joinOf d join ≡ join
-    by beat.Alive h = absurd (h refl)
-    by beat.Join h = absurd (h refl)
-    by (beat.Refused fault) h = refl
-
-vote-kept : (n q cycle channel : ℕ) (f out : List ℕ) → (readVoteStatus n q cycle channel f out ≡ 0 → ⊥) → readVoteLeft n q cycle channel f out ≡ out
-unfolding readVoteStatus readVoteLeft
-vote-kept n q cycle channel f out = in-two-steps _ _ _ out (by (readVote n q cycle channel f))
-  where
-    by : (d : VoteRead) → (voteRefusal d ≡ 0 → ⊥) → payloadOr d out ≡ out
-    by (vote.Whole v) h = absurd (h refl)
-    by (vote.Refused fault) h = refl
-
 pub refused-kept : RefusedKept
 unfolding beginLeft writeHeartbeatLeft sendHeartbeatLeft sendHeartbeatSent receiveHeartbeatHeard writeVoteLeft sendVoteLeft sendVoteSent receiveVoteLeft receiveVoteArrived decideLeft imagesStatus imagesLeft
 refused-kept =
@@ -106,12 +72,12 @@ refused-kept =
           (l .1 .0 ∙ k .0, l .1 .1 .0 ∙ k .1, l .1 .1 .1 .0 ∙ k .2, l .1 .1 .1 .1 .0 ∙ k .3, l .1 .1 .1 .1 .1 .0 ∙ k .4, l .1 .1 .1 .1 .1 .1 .0 ∙ k .5, l .1 .1 .1 .1 .1 .1 .1 ∙ k .6);
       write-heartbeat = λ κs a r s l. told (l .0) (l .1) (unless-refused _ _ _);
       send-heartbeat = λ κs a r s l h. (told (l .0) (l .1 .0) (unless-refused _ _ _) h, told (l .0) (l .1 .1) (unless-refused _ _ _) h);
-      read-heartbeat = λ κs a r s l. told (l .0) (l .1) (join-kept _ _ _ _ _ _);
+      read-heartbeat = λ κs a r s l. told (l .0) (l .1) (beat.refused-kept _ _ _ _ _ _);
       receive-heartbeat = λ κs a r s l. told (l .0) (l .1) (unless-refused _ _ _);
-      view = λ κs a r s l. told (l .0) (l .1) (image-kept (λ (d : Decoded). viewFrom d (a .1 .0) (a .1 .1 .0) (now (a .1 .1 .1 .0))) _ _ refl refl);
+      view = λ κs a r s l. told (l .0) (l .1) (viewed.refused-kept _ _ _ _);
       write-vote = λ κs a r s l. told (l .0) (l .1) (unless-refused _ _ _);
       send-vote = λ κs a r s l h. (told (l .0) (l .1 .0) (unless-refused _ _ _) h, told (l .0) (l .1 .1) (unless-refused _ _ _) h);
-      read-vote = λ κs a r s l. told (l .0) (l .1) (vote-kept _ _ _ _ _ _);
+      read-vote = λ κs a r s l. told (l .0) (l .1) (vote.refused-kept _ _ _ _ _ _);
       receive-vote = λ κs a r s l h. (told (l .0) (l .1 .0) (unless-refused _ _ _) h, told (l .0) (l .1 .1) (unless-refused _ _ _) h);
       decide = λ κs a r s l. told (l .0) (l .1) (unless-refused _ _ _);
       cycle = λ κs a r s l. told (l .0) (l .1) (λ h. sym (images-kept Cycle _ _ _ _ h));
