@@ -136,6 +136,17 @@ fn heartbeats() {
     });
 }
 
+fn states() {
+    let held = row_image(&beginning(64, all(64)));
+    call("take a state apart", 64, 0, 8, &|hand, left| {
+        let [mut kind, mut reason, mut node, mut n, mut number] = [9; 5];
+        let [mut set, mut base] = [9; 2];
+        let status = hand.state(&held[..IMAGE_BYTES], &mut kind, &mut reason, &mut node, &mut n, &mut number, &mut set, &mut base);
+        left.copy_from_slice(&(set ^ base ^ u64::from(kind + reason + node + n + number)).to_be_bytes());
+        status
+    });
+}
+
 fn votes() {
     let Vote { group: Group { number, set, base }, view } = agreeing(64);
     let [a, b] = [0, 1].map(|channel| vote_frame(9, &agreeing(64), CYCLE, channel));
@@ -393,6 +404,7 @@ fn main() {
     println!("{:<42} {:>3} {:>18} {:>18} {:>18} {:>8} {:>8}", "operation", "N", "ours", "Rust", "C", "to Rust", "to C");
     checks();
     heartbeats();
+    states();
     votes();
     for decision in &DECISIONS {
         COUNTS.into_iter().for_each(|n| decide(decision, n));
