@@ -41,8 +41,12 @@ TO = $(DESTDIR)$(PREFIX)
 
 # a command that is needed and not there is named in one sentence, before anything is done
 called_rt = the Rattle kit
+without_rt = ; an installed grouprun or libgm.a needs no kit
 needs = $(foreach command,$(1),$(if $(shell command -v $(command) || true),,\
-    $(error this needs $(or $(called_$(command)),$(command)): there is no command $(command) on the path)))
+    $(error this needs $(or $(called_$(command)),$(command)): there is no command $(command) on the path$(without_$(command)))))
+# what these use only after the archive or the program is made, for minutes
+asked = $(if $(filter $(1),$(MAKECMDGOALS)),$(2))
+$(call needs,$(call asked,run host stack archive-test,gcc) $(call asked,archive-test,g++) $(call asked,compare compare-test bench,cargo))
 
 # this list
 help:
@@ -53,21 +57,31 @@ help:
 	    END { for (i = 2; i <= n; i++) print name[i] == "" ? "" : sprintf("make %-15s %s", name[i], said[name[i]]) }' Makefile
 
 # build the program grouprun, and print the run of the product paper: its table is made from a text, its lines must be the paper's
-run: $(TABLETEXT) $(GROUPRUN)
+run: $(GROUPRUN) $(TABLETEXT)
 	@$(TABLETEXT) table <examples/p1.txt >$(BUILD)/p1.tab
 	@$(GROUPRUN) <$(BUILD)/p1.tab | tee $(BUILD)/p1.out
 	@diff examples/p1.out $(BUILD)/p1.out
+	@echo "make run: this is the run of examples/p1.txt, line by line the paper's; a text of your own:" \
+	    "$(TABLETEXT) table <my.txt >my.tab && $(GROUPRUN) <my.tab" >&2
+
+# what `make test` runs before the gate: first what needs no archive, then the archive and the programs, last what takes longest
+FIRST_TESTS = format trace-test commands-test
+BUILT_TESTS = archive-test host run examples-test vectors-test badinput-test text-test arguments-test install-test
+LONG_TESTS = compare-test load-test
+ignoring = $(findstring i,$(filter-out -%,$(firstword $(MAKEFLAGS))))
 
 # all tests, then everything proved from nothing and every wrong edit tried; the last line is 'N passed, 0 failed'
 test:
-	@$(call needs,rt cargo gcc g++ git script)echo "make test: about 17 minutes on two idle cores" >&2
+	@$(if $(ignoring),$(error make test ends with the first test that fails: run it without -i))\
+	    $(call needs,rt cargo gcc g++ git script)echo "make test: about 17 minutes on two idle cores" >&2
 	@tools/evidence.sh begin
-	@$(MAKE) --no-print-directory --silent format trace-test commands-test archive
-	@$(MAKE) --no-print-directory -j2 --output-sync archive-test host run examples-test vectors-test badinput-test text-test arguments-test install-test
-	@$(MAKE) --no-print-directory -j2 --output-sync compare-test load-test | tee log/compared.log
+	@$(MAKE) --no-print-directory --silent $(FIRST_TESTS) archive
+	@$(MAKE) --no-print-directory -j2 --output-sync $(BUILT_TESTS)
+	@$(MAKE) --no-print-directory -j2 --output-sync $(LONG_TESTS) | tee log/compared.log
+	@tools/evidence.sh passed "$(FIRST_TESTS) $(BUILT_TESTS) $(LONG_TESTS)" $(ARCHIVE) $(HEADERS) $(PROGRAMS)
 	@tools/kit.sh gate "about 13 minutes on two idle cores" ci
 
-# one text, evidence.txt, for the record of a delivery: kit, commit, sums, and what the last `make test` proved, refused and compared
+# one text, evidence.txt, for the record of a delivery: kit, commit, sums, and what the last `make test` tested, proved, refused and compared
 evidence: $(if $(wildcard log/gate.log),$(ARCHIVE) $(PROGRAMS))
 	@$(call needs,rt git)tools/evidence.sh $(VERSION) $(ARCHIVE) $(HEADERS) $(PROGRAMS)
 
@@ -88,7 +102,7 @@ $(ARCHIVE): $(SOURCES)
 
 # header and archive agree
 archive-test: archive
-	tests/archive.sh $(ARCHIVE) $(BUILD)
+	@tests/archive.sh $(ARCHIVE) $(BUILD)
 
 # the program that prints the run of a table
 $(GROUPRUN): $(SOURCES)
@@ -161,7 +175,7 @@ load-archive: archive $(TABLEGEN)
 
 # every entry, the printed run, demand 3 and presses of the node entries, beside an implementation of the paper in plain Rust (needs cargo)
 compare: archive $(GROUPRUN)
-	@$(call needs,cargo)tests/host.sh
+	@tests/host.sh
 
 # a share of compare, in less time
 compare-test: export CALLS = 500000
@@ -171,7 +185,7 @@ compare-test: compare
 
 # one table of times: archive and grouprun beside that implementation in Rust and beside plain C at -O3 (needs cargo)
 bench: archive $(GROUPRUN) $(PLAIN) $(PLAINLIB) $(TABLEGEN) $(MEASURE)
-	@$(call needs,cargo)bench/speed.sh $(GROUPRUN) $(PLAIN) $(TABLEGEN) $(MEASURE) $(BUILD)
+	@bench/speed.sh $(GROUPRUN) $(PLAIN) $(TABLEGEN) $(MEASURE) $(BUILD)
 
 # the deepest stack of an entry, in bytes: as a walk of the archive's code finds it, with the functions that go so deep, and as sampled
 stack: archive

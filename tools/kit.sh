@@ -1,7 +1,7 @@
 #!/usr/bin/env bash
 # Runs a command of the Rattle kit. What the kit says goes to log/NAME.log. Told on standard error: how long it takes and where the log is, then how far it is, on a
-# terminal in one line that is rewritten, else in a line for each crate and edit; and if it fails, the lines that say why. Where nothing has to be proved, nothing is
-# told. Of `rt ci` the last line, the gate's, goes to standard output. The exit status is the kit's.
+# terminal in one line that is rewritten, else in a line for each crate and edit; and if it fails, the lines that say why. It is silent where nothing
+# has to be proved and the kit never pauses for a second. Of `rt ci` the last line, the gate's, goes to standard output. The exit status is the kit's.
 # Usage: kit.sh NAME TIME check|staticlib|ci [CRATE...]
 set -euo pipefail
 cd "$(dirname "$0")/.."
@@ -19,11 +19,15 @@ rest_on() { # CRATE...
 crates=$(rest_on "$@") edits=$(find crates -path '*/must-fail/*.edit' | wc -l)
 crate=0 edit=0 told=
 
-place() { if [ "$edit" -gt 0 ]; then echo "edit $edit of $edits, $SECONDS s"; else echo "crate $crate of $crates, $SECONDS s"; fi; }
+place() { # AHEAD: 0 for the crate or edit that was done last, 1 for the one in work
+    local what=crate at=$((crate + $1)) of=$crates
+    [ "$edit" -eq 0 ] || what=edit at=$((edit + $1)) of=$edits
+    echo "$what $((at < of ? at : of)) of $of, $SECONDS s"
+}
 tell() { # [LINE OF THE KIT]
     [ -n "$told" ] || echo "rt $command: from nothing $time; what it says goes to $log" >&2
     told=yes
-    if [ -t 2 ]; then printf '\r%-40s' "$(place)" >&2; elif [ $# -gt 0 ]; then echo "$(place): $1" >&2; fi
+    if [ -t 2 ]; then printf '\r%-40s' "$(place 1)" >&2; elif [ $# -gt 0 ]; then echo "$(place 0): $1" >&2; fi
 }
 # the lines of the kit that say how far it is; a crate that is proved already only counts
 step() { # LINE OF THE KIT
@@ -41,7 +45,7 @@ progress() {
         IFS= read -r -t 1 line || status=$?
         if [ "$status" -eq 0 ]; then step "${line#rt: }"; elif [ "$status" -gt 128 ]; then tell; else break; fi
     done
-    if [ -n "$told" ] && [ -t 2 ]; then printf '\r%-40s\n' "$(place)" >&2; fi
+    if [ -n "$told" ] && [ -t 2 ]; then printf '\r%-40s\n' "$(place 1)" >&2; fi
 }
 
 # what a failed command said of it, or else its last lines
