@@ -18,7 +18,7 @@ knows() { # FILE PATTERN
 }
 for entry in $declared; do
     name=${entry#gm_}
-    for file in tests/entries.c tests/load.c tests/stack.c; do knows "$file" "\b$entry\("; done
+    for file in tests/entries.c tests/load.c; do knows "$file" "\b$entry\("; done
     knows bench/plain/plain.h "\bplain_$name\("
     knows tests/host/src/archive.rs "\b$entry\b"
     knows tests/host/src/archive.rs "\bplain_$name\b"

@@ -1,7 +1,7 @@
 /*
- * Samples the deepest stack of an entry: a thread runs each entry on a stack that was painted, and looks how far down below the caller's stack pointer the paint is
+ * Samples the deepest stack of each entry: a thread runs each call on a stack that was painted, and looks how far down below the caller's stack pointer the paint is
  * gone. The stack pointer is that of `mark_origin` only if every call is made at the same depth: tests/stack.sh has the compiler see to it.
- * Prints two figures in bytes: the deepest of the entries on one node, and of those on a row.
+ * Prints a line for each call: the entry, and the bytes that it took; no fewer than those next to the caller that are not painted.
  */
 #include "gm.h"
 
@@ -10,7 +10,7 @@
 #include <stdlib.h>
 #include <string.h>
 
-enum { STACK = 1 << 18, PAINT = 0xA5, MARGIN = 256, NODE_CALLS = 16, CALLS = 19 };
+enum { STACK = 1 << 18, PAINT = 0xA5, MARGIN = 256 };
 
 static uint8_t *stack;
 static uint8_t state[GM_STATE_BYTES], joiner[GM_STATE_BYTES], votes[GM_VOTES_BYTES], beat[GM_HEARTBEAT_BYTES], frame[GM_VOTE_FRAME_BYTES];
@@ -19,7 +19,7 @@ static uint8_t row[64 * GM_STATE_BYTES], frames[GM_FRAMES_BYTES];
 static uint8_t *origin;
 static uint32_t numbers[4];
 static uint64_t base;
-static size_t deepest;
+static const char *called;
 
 /* 64 nodes, all founders but node 63; in the first cycle it starts and node 0 stops, then two clean cycles */
 static uint8_t table[12 + 3 * 36] = {0x47, 0x4D, 1, 64, 0x7F, 0xFF, 0xFF, 0xFF, 0xFF, 0xFF, 0xFF, 0xFF};
@@ -38,6 +38,9 @@ static void __attribute__((noinline)) mark_origin(void)
     origin = __builtin_dwarf_cfa();
 }
 
+/* the entry is named by the call itself, so that none can be named and not called */
+#define CALL(entry, ...) called = #entry, entry(__VA_ARGS__)
+
 static void run_entry(unsigned which)
 {
     const uint64_t all = ~(uint64_t)0;
@@ -45,26 +48,26 @@ static void run_entry(unsigned which)
     uint32_t number = 0;
     mark_origin();
     switch (which) {
-    case 0: gm_begin(64, 3, all, state, sizeof state); break;
-    case 1: gm_begin(64, 4, 8, joiner, sizeof joiner); break;
-    case 2: gm_stop(joiner, sizeof joiner); break;
-    case 3: gm_start(joiner, sizeof joiner); break;
-    case 4: gm_write_heartbeat(64, 3, 0, 1, 1, 5, 1, beat, sizeof beat); break;
-    case 5: gm_send_heartbeat(state, sizeof state, 1, 1, 5, 1, beat, sizeof beat, &number); break;
-    case 6: gm_read_heartbeat(64, 3, 5, 1, beat, sizeof beat, &number); break;
-    case 7: gm_receive_heartbeat(64, 3, 5, beat, sizeof beat, beat, sizeof beat, &number); break;
-    case 8: gm_view(state, sizeof state, all, all, &mask); break;
-    case 9: gm_write_vote(64, 3, 0, all, all, all, 5, 1, frame, sizeof frame); break;
-    case 10: gm_send_vote(state, sizeof state, all, 0, 5, 1, frame, sizeof frame, &number); break;
-    case 11: gm_read_vote(64, 3, 5, 1, frame, sizeof frame, payload, sizeof payload); break;
-    case 12: gm_receive_vote(64, 3, 5, frame, sizeof frame, frame, sizeof frame, votes, sizeof votes, &mask); break;
-    case 13: gm_decide(joiner, sizeof joiner, all, 0, votes, sizeof votes, all); break;
-    case 14: gm_decide(state, sizeof state, all, 0, votes, sizeof votes, all); break;
-    case 15: gm_state(state, sizeof state, numbers, numbers + 1, numbers + 2, numbers + 3, &number, &mask, &base); break;
-    case 16: gm_run(row, sizeof row, table, sizeof table); break;
-    case 17: gm_run_frames(row, sizeof row, table, sizeof table, frames, sizeof frames); break;
-    case 18: gm_cycle(64, row, sizeof row, table + 12, 36); break;
-    default: exit(1);
+    case 0: CALL(gm_begin, 64, 3, all, state, sizeof state); break;
+    case 1: CALL(gm_begin, 64, 4, 8, joiner, sizeof joiner); break;
+    case 2: CALL(gm_stop, joiner, sizeof joiner); break;
+    case 3: CALL(gm_start, joiner, sizeof joiner); break;
+    case 4: CALL(gm_write_heartbeat, 64, 3, 0, 1, 1, 5, 1, beat, sizeof beat); break;
+    case 5: CALL(gm_send_heartbeat, state, sizeof state, 1, 1, 5, 1, beat, sizeof beat, &number); break;
+    case 6: CALL(gm_read_heartbeat, 64, 3, 5, 1, beat, sizeof beat, &number); break;
+    case 7: CALL(gm_receive_heartbeat, 64, 3, 5, beat, sizeof beat, beat, sizeof beat, &number); break;
+    case 8: CALL(gm_view, state, sizeof state, all, all, &mask); break;
+    case 9: CALL(gm_write_vote, 64, 3, 0, all, all, all, 5, 1, frame, sizeof frame); break;
+    case 10: CALL(gm_send_vote, state, sizeof state, all, 0, 5, 1, frame, sizeof frame, &number); break;
+    case 11: CALL(gm_read_vote, 64, 3, 5, 1, frame, sizeof frame, payload, sizeof payload); break;
+    case 12: CALL(gm_receive_vote, 64, 3, 5, frame, sizeof frame, frame, sizeof frame, votes, sizeof votes, &mask); break;
+    case 13: CALL(gm_decide, joiner, sizeof joiner, all, 0, votes, sizeof votes, all); break;
+    case 14: CALL(gm_decide, state, sizeof state, all, 0, votes, sizeof votes, all); break;
+    case 15: CALL(gm_state, state, sizeof state, numbers, numbers + 1, numbers + 2, numbers + 3, &number, &mask, &base); break;
+    case 16: CALL(gm_run, row, sizeof row, table, sizeof table); break;
+    case 17: CALL(gm_run_frames, row, sizeof row, table, sizeof table, frames, sizeof frames); break;
+    case 18: CALL(gm_cycle, 64, row, sizeof row, table + 12, 36); break;
+    default: called = NULL;
     }
 }
 
@@ -84,8 +87,8 @@ static void *measure(void *arg)
     run_entry(*(unsigned *)arg);
     while (i < here && stack[i] == PAINT)
         i++;
-    if ((size_t)(origin - stack) - i > deepest)
-        deepest = (size_t)(origin - stack) - i;
+    if (called != NULL)
+        printf("%s %zu\n", called, (size_t)(origin - stack) - i);
     return NULL;
 }
 
@@ -95,15 +98,10 @@ int main(void)
     if (posix_memalign((void **)&stack, 4096, STACK) != 0 || pthread_attr_init(&attr) != 0 || pthread_attr_setstack(&attr, stack, STACK) != 0)
         return 1;
     fill_table();
-    for (unsigned which = 0; which < CALLS; which++) {
+    for (unsigned which = 0; which == 0 || called != NULL; which++) {
         pthread_t t;
-        if (which == NODE_CALLS) {
-            printf("%zu ", deepest);
-            deepest = 0;
-        }
         if (pthread_create(&t, &attr, measure, &which) != 0 || pthread_join(t, NULL) != 0)
             return 1;
     }
-    printf("%zu\n", deepest);
     return 0;
 }

@@ -25,7 +25,7 @@ function fail_at(i, text) { fail(owner[i] ", " address[i] ": " opcode[i] " " ope
 function number(text,    sign, value, k) {
     sign = sub(/^-/, "", text) ? -1 : 1
     sub(/^0x/, "", text)
-    value = text ~ /^f.{15}$/ ? -4294967296 : 0
+    value = text ~ /^f/ && length(text) == 16 ? -4294967296 : 0
     for (k = length(text) == 16 ? 9 : 1; k <= length(text); k++)
         value += (index("0123456789abcdef", substr(text, k, 1)) - 1) * 16 ^ (length(text) - k)
     return sign * value
@@ -90,8 +90,6 @@ function taken(i,    op, text, plain) {
         return -WORD
     if (op ~ /^(sub|add)$/ && text ~ /^\$0x[0-9a-f]+,%rsp$/)
         return (op == "sub" ? 1 : -1) * number(substr(text, 2, index(text, ",") - 2))
-    if (op == "lea" && text ~ /^-?0x[0-9a-f]+\(%rsp\),%rsp$/)
-        return -number(substr(text, 1, index(text, "(") - 1))
     plain = text
     gsub(/\([^)]*\)/, "", plain)
     if (op == "mov")
@@ -114,7 +112,7 @@ function reach(f, i, bytes) {
     if (!(i in depth))
         waiting[++ways] = i
     depth[i] = bytes
-    if (operands[i] ~ /-0x[0-9a-f]+\(%rsp/ && operands[i] !~ /,%rsp$/)
+    if (operands[i] ~ /-0x[0-9a-f]+\(%rsp/)
         bytes += RED_ZONE
     if (bytes > own[f])
         own[f] = bytes

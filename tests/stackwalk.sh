@@ -6,9 +6,11 @@ build=$1/stackwalk
 mkdir -p "$build"
 fail() { echo "stackwalk: $*" >&2; exit 1; }
 
-walk() { # NAME OPTION..: of the C on standard input
-    gcc -std=c11 -Wall -Wextra -Werror -Wno-infinite-recursion -O2 -fno-inline -fstack-usage "${@:2}" -c -x c - -o "$build/$1.o" &&
-        objdump -drz --no-show-raw-insn "$build/$1.o" | awk -v outside=memset -f tests/stackwalk.awk
+walk() { # OBJECT..
+    objdump -drz --no-show-raw-insn "$@" | awk -v outside=memset -f tests/stackwalk.awk
+}
+compile() { # NAME OPTION..: of the C on standard input
+    gcc -std=c11 -Wall -Wextra -Werror -Wno-infinite-recursion -O2 -fno-inline -fstack-usage "${@:2}" -c -x c - -o "$build/$1.o"
 }
 is() { # NAME FUNCTION BYTES: as walked
     local bytes
@@ -27,7 +29,8 @@ int instead(int a) { return clear(a + 1); }
 int either(int a) { return a > 3 ? clear(a) : a < 0 ? instead(a) : many(a, a, a, a, a, a, a, leaf(a)); }
 int loops(int a) { int sum = 0; while (a-- > 0) sum += either(a) + leaf(sum) + instead(a); return sum; }
 C
-walk frames -mno-red-zone -maccumulate-outgoing-args -fno-optimize-sibling-calls <"$build/frames.c" >"$build/frames.out"
+compile frames -mno-red-zone -maccumulate-outgoing-args -fno-optimize-sibling-calls <"$build/frames.c"
+walk "$build/frames.o" >"$build/frames.out"
 while read -r name bytes chain; do
     sum=0
     for part in $chain; do
@@ -40,23 +43,40 @@ done <"$build/frames.out"
 [ "$(wc -l <"$build/frames.out")" = 7 ] || fail "frames: not every function was walked"
 
 # a jump in place of a call takes no bytes, and one who uses bytes below the stack pointer is counted with all that it may use
-walk jumps -foptimize-sibling-calls <"$build/frames.c" >"$build/jumps.out"
+compile jumps -foptimize-sibling-calls <"$build/frames.c"
+walk "$build/jumps.o" >"$build/jumps.out"
 is jumps instead "$(awk '$1 == "clear" { print $2 }' "$build/jumps.out")"
 is jumps room $((8 + 128))
 
-refused() { # NAME MESSAGE C
-    if walk "$1" <<<"$3" >"$build/$1.out" 2>"$build/$1.err"; then fail "$1: is not refused"; fi
+# a number below 0, which a compiler takes for 128 since it is shorter, to take bytes and to give them back
+compile negative <<<'__asm__("f: add $-128,%rsp\n sub $0x80,%rsp\n sub $-128,%rsp\n add $0x80,%rsp\n ret");'
+objdump -d "$build/negative.o" | grep -q 'sub *$0xffffffffffffff80,%rsp' || fail "negative: the number is written otherwise"
+walk "$build/negative.o" >"$build/negative.out"
+is negative f $((8 + 256))
+
+refused() { # NAME MESSAGE OBJECT..
+    if walk "${@:3}" >"$build/$1.out" 2>"$build/$1.err"; then fail "$1: is not refused"; fi
     grep -q "^stackwalk: .*$2" "$build/$1.err" || fail "$1: is refused otherwise: $(cat "$build/$1.err")"
+    kinds=$((kinds + 1))
 }
-refused recursion 'calls itself' 'int f(int n) { return n < 2 ? n : f(n - 1) * f(n - 2); }'
-refused circle 'calls itself' 'int g(int); int f(int n) { return n * g(n - 1); } int g(int n) { return n < 2 ? n : n + f(n / 2); }'
-refused pointer 'where it leads is not known' 'int f(int (*g)(int)) { return g(1) + 1; }'
-refused jump 'where it leads is not known' 'int f(int (*g)(int)) { return g(1); }'
-refused alloca 'the stack pointer is not known' 'int g(char *p) { return p[1]; } int f(int n) { char bytes[n]; bytes[1] = 2; return g(bytes) + 1; }'
-refused aligned 'the stack pointer is not known' 'int g(char *p) { return p[1]; } int f(void) { _Alignas(64) char b[64]; b[1] = 2; return g(b) + 1; }'
-refused outside 'leads to no function here' 'int g(int); int f(int n) { return g(n) + 1; }'
-refused left 'with 8 bytes on the stack' '__asm__("f: push %rax\n ret");'
-refused ways 'bytes on the stack one way' '__asm__("f: test %rdi,%rdi\n je 1f\n push %rax\n 1: ret");'
-refused end 'a way leads out of it' '__asm__("f: ret\n .globl g\n g: nop");'
-refused unreached 'no way leads here' '__asm__("f: ret\n mov %rax,%rbx\n ret");'
-echo "stackwalk: frames as the compiler states them, 11 kinds of code refused"
+refused_c() { # NAME MESSAGE C
+    compile "$1" <<<"$3"
+    refused "$1" "$2" "$build/$1.o"
+}
+kinds=0
+refused_c recursion 'calls itself' 'int f(int n) { return n < 2 ? n : f(n - 1) * f(n - 2); }'
+refused_c circle 'calls itself' 'int g(int); int f(int n) { return n * g(n - 1); } int g(int n) { return n < 2 ? n : n + f(n / 2); }'
+refused_c pointer 'where it leads is not known' 'int f(int (*g)(int)) { return g(1) + 1; }'
+refused_c jump 'where it leads is not known' 'int f(int (*g)(int)) { return g(1); }'
+refused_c alloca 'the stack pointer is not known' 'int g(char *p) { return p[1]; } int f(int n) { char bytes[n]; bytes[1] = 2; return g(bytes) + 1; }'
+refused_c aligned 'the stack pointer is not known' 'int g(char *p) { return p[1]; } int f(void) { _Alignas(64) char b[64]; b[1] = 2; return g(b) + 1; }'
+refused_c outside 'leads to no function here' 'int g(int); int f(int n) { return g(n) + 1; }'
+refused_c left 'with 8 bytes on the stack' '__asm__("f: push %rax\n ret");'
+refused_c ways 'bytes on the stack one way' '__asm__("f: test %rdi,%rdi\n je 1f\n push %rax\n 1: ret");'
+refused_c end 'a way leads out of it' '__asm__("f: ret\n .globl g\n g: nop");'
+refused_c unreached 'no way leads here' '__asm__("f: ret\n mov %rax,%rbx\n ret");'
+refused_c lea 'the stack pointer is not known' '__asm__("f: lea -0x40(%rsp),%rsp\n lea 0x40(%rsp),%rsp\n ret");'
+refused_c given 'more was given back than taken' '__asm__("f: pop %rax\n push %rax\n ret");'
+refused_c unknown 'this is not understood' '__asm__("f: .byte 6\n ret");'
+refused twice 'two functions are named f' "$build/negative.o" "$build/negative.o"
+echo "stackwalk: frames as the compiler states them, $kinds kinds of code refused"
