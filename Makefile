@@ -44,9 +44,9 @@ called_rt = the Rattle kit
 without_rt = ; an installed grouprun or libgm.a needs no kit
 needs = $(foreach command,$(1),$(if $(shell command -v $(command) || true),,\
     $(error this needs $(or $(called_$(command)),$(command)): there is no command $(command) on the path$(without_$(command)))))
-# what these use only after the archive or the program is made, for minutes
+# what these use only after minutes, when the archive or the program is made
 asked = $(if $(filter $(1),$(MAKECMDGOALS)),$(2))
-$(call needs,$(call asked,run host stack archive-test,gcc) $(call asked,archive-test,g++) $(call asked,compare compare-test bench,cargo))
+$(call needs,$(call asked,run host stack archive-test bench install,gcc) $(call asked,archive-test,g++) $(call asked,compare compare-test bench,cargo))
 
 # this list
 help:
