@@ -207,9 +207,9 @@ refused() { # REASON
     has "$room/evidence.txt" "NOT EVIDENCE: $1"
     has "$work/err" "NOT EVIDENCE: $1"
 }
-compared_lines=('compare: seed 7, 9 random calls' 'gm_begin    5 calls; by status 0: 5' 'gm_stop     4 calls; by status 0: 4' 'gm_stop: joining: 4' 'compare: 9 calls agree'
-    'press: mistake SenderSkipped is noticed by press 0' 'press: all presses agree, and every mistake is noticed' 'printed: 3 tables agree'
-    'demand3: all claims hold, and every mistake is found' 'load: other lines')
+compared_lines=('compare: seed 7, 9 random calls' 'gm_begin    5 calls; by status 0: 5' 'gm_stop     4 calls; by status 0: 4' 'gm_stop: joining: 4'
+    'compare: 9 calls agree' 'press: mistake SenderSkipped is noticed by press 0' 'press: all presses agree, and every mistake is noticed'
+    'printed: 3 tables agree' 'demand3: all claims hold, and every mistake is found' 'load: other lines')
 # the logs of a run, from a gate that says what is given
 tested() { # LINE...
     local log=$room/target/must-fail/low/third/.log
@@ -237,7 +237,7 @@ SUM  target/libgm.a
 SUM  include/gm.h
 tests passed: 2, host run
 gate: 5 passed, 0 failed
-crates proved: 4, without an axiom 1
+crates proved: 4 of 4, without an axiom 1
 axioms of grouprun: 6, libc::isatty libc::read libc::write os::c::rattle_arg os::c::rattle_arg_count os::c::rattle_set_errno
 axioms of vectors: 1, libc::write
 axioms of rowrun: 2, libc::read libc::write
@@ -264,7 +264,7 @@ check_other_state() {
     commit "another"
     refused "the last make test was of another state"
 }
-# a gate that did not pass, or proved less than it should; a last line is the gate's of other crates, or of too few
+# a gate that did not pass, one of fewer crates, and edits that were not refused, or not by what they name
 check_gate() {
     local word
     for word in '4 passed, 1 failed' '3 passed, 0 failed'; do
@@ -282,22 +282,22 @@ check_trust() {
     local word
     for word in foreign=1 pinned=no cache=trusted incremental=trusted; do
         tested "${gate_lines[@]/sum=1/$word}"
-        refused "not every crate of 4 is proved with no more trusted"
+        refused "not every crate is proved with no more trusted"
     done
     tested "${gate_lines[@]/logic=proved/logic=open}"
-    refused "not every crate of 4 is proved with no more trusted"
+    refused "not every crate is proved with no more trusted"
 }
 # an axiom of a crate that may have none, named or only counted; one more, one other and one less of a crate that may have some
+other_axioms() { # LINE...
+    tested "$@"
+    refused "the axioms are not those that docs/SAFETY.md names"
+}
 check_axioms() {
-    local lines
-    for lines in "${libc}write (1 of the 50 declared)\n$proof axioms=1 sum=1" "$proof axioms=1 sum=1"; do
-        tested "$lines" "${gate_lines[@]:1}"
-        refused "the axioms are not those that docs/SAFETY.md names"
-    done
-    for lines in 'isatty, libc::open, libc::read/isatty, libc::read' 'isatty, libc::open/isatty, libc::read' 'isatty/isatty, libc::read'; do
-        tested "${gate_lines[@]/${lines#*/}/${lines%/*}}"
-        refused "the axioms are not those that docs/SAFETY.md names"
-    done
+    other_axioms "${libc}write (1 of the 50 declared)" "$proof axioms=1 sum=1" "${gate_lines[@]:1}"
+    other_axioms "$proof axioms=1 sum=1" "${gate_lines[@]:1}"
+    other_axioms "${gate_lines[@]/isatty, /isatty, libc::open, }"
+    other_axioms "${gate_lines[@]/isatty, /open, }"
+    other_axioms "${gate_lines[@]/isatty, libc::/}"
 }
 # a comparison without one of its parts, or without an entry
 check_comparison() {

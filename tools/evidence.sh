@@ -60,12 +60,13 @@ sums() { # FILE...
 # the gate's last line, and when it was written; the proofs; the edits
 gate() {
     local crates edits last proofs refused
-    crates=$(grep -c '^[^#]' crates.txt) edits=$(find crates -path '*/must-fail/*.edit' | wc -l) last=$(tail -n 1 "$gate") proofs=$(proofs)
+    crates=$(grep -c '^[^#]' crates.txt) edits=$(find crates -path '*/must-fail/*.edit' | wc -l) last=$(tail -n 1 "$gate")
+    proofs=$(proofs "$crates")
     refused=$(grep -ac '^rt: must-fail .*: refused, as it must be' "$gate" || true)
     echo "gate: $last ($(date -u -r "$gate" '+%F %T') UTC)"
     [ "$last" = "$((crates + edits)) passed, 0 failed" ] || lacks "$crates crates and $edits edits were to pass, and the gate says: $last"
     echo "crates proved: $proofs"
-    [ "${proofs%%,*}" = "$crates" ] || lacks "not every crate of $crates is proved with no more trusted than the kit and the crates that it rests on"
+    [ "${proofs%%,*}" = "$crates of $crates" ] || lacks "not every crate is proved with no more trusted than the kit and the crates that it rests on"
     [ "$(grep '^axioms' <<<"$proofs" | sort)" = "$assumed" ] || lacks "the axioms are not those that docs/SAFETY.md names"
     echo "edits refused: $refused of $edits"
     [ "$refused" = "$edits" ] || lacks "not every edit was refused"
@@ -73,8 +74,8 @@ gate() {
 }
 
 # of each crate by the line on its proof, which comes before the line that names the crate
-proofs() {
-    awk '
+proofs() { # CRATES
+    awk -v crates="$1" '
         /^axioms / { sub(/^axioms [^ ]+/, ""); sub(/ \(.*/, ""); gsub(/,/, ""); names = names $0 }
         /^logic=/ { logic = $0 }
         logic ~ /^logic=proved / && logic !~ /foreign=|pinned=no|cache=trusted|incremental=trusted/ && /^rt: [^ ]+ proved \(/ {
@@ -84,7 +85,7 @@ proofs() {
             else none++
         }
         /^rt: / { names = logic = "" }
-        END { print proved + 0 ", without an axiom " none + 0 some }' "$gate"
+        END { print proved + 0 " of " crates ", without an axiom " none + 0 some }' "$gate"
 }
 
 # what the comparison with other code says of its seeds and numbers; each of its parts must have come to its end, and each entry of the header have been called
