@@ -307,6 +307,8 @@ check_comparison() {
         sed -i "/^$part/d" "$room/log/compared.log"
         refused "the comparison with other code has no line '${part%% *}"
     done
+    printf '%s\n' "${compared_lines[@]/gm_stop     4/gm_stop     0}" >"$room/log/compared.log"
+    refused "the comparison with other code has no line 'gm_stop"
     rm "$room/log/compared.log"
     refused "the comparison with other code has no line 'compare: "
 }
