@@ -60,7 +60,11 @@ fn put_usage(out: &mut [u8], at: usize) -> usize
     requires { ⌜ at + 76 ≤ length (now out) ⌝ }
     ensures { λ r. ⌜ Appended (now (out .entry)) at usageLine (now (out .exit)) r ⌝ }
 {
-    print_text::put(out, at, b"usage: grouprun [--help | --version] <press.tab (a table on standard input)\n")
+    print_text::put(
+        out,
+        at,
+        b"usage: grouprun [--help | --version] <press.tab (a table on standard input)\n",
+    )
 }
 
 fn put_help(out: &mut [u8], at: usize) -> usize
