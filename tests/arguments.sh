@@ -102,9 +102,9 @@ rm "$run"
 judged "a run with a line broken" whole
 grep -q broken "$run" || fail "the run of examples/p2.txt has no line broken"
 head -c 100 "$table" >"$press"
-judged "a refused table" 'not whole: '
+judged "a refused table" 'not whole: see run.txt'
 : >"$press"
-judged "an empty table" 'not whole: '
+judged "an empty table" 'not whole: see run.txt'
 rm "$press"
 echo old >"$run"
 judged "no table" 'not whole: *press.tab*'
