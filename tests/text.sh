@@ -155,7 +155,7 @@ wrong_cycles() {
     wrong "line 3: expected 'cycle' or 'repeat NUMBER', not 'stop'" "${begin}stop 1\n"
     wrong "line 3: expected 'cycle' or 'repeat NUMBER', not 'founding'" "${begin}founding 1\n"
     wrong "line 3: expected 'cycle' or 'repeat NUMBER', not 'cycles'" "${begin}cycles\n"
-    wrong "line 3: expected the end of the line, not '2'" "${begin}cycle 2\n"
+    wrong "line 3: expected the end of the line (cycles have no number), not '2'" "${begin}cycle 2\n"
     wrong "line 4: expected $any, not 'halt'" "${begin}cycle\nhalt 2\n"
     wrong "line 4: expected $any, not 'nodes'" "${begin}cycle\nnodes 5\n"
     wrong "line 4: expected $any, not ','" "${begin}cycle\n, 2\n"
@@ -163,7 +163,7 @@ wrong_cycles() {
     wrong "line 3: expected $times, not '0'" "${begin}repeat 0\ncycle\n"
     wrong "line 3: expected $times, not '4294967296'" "${begin}repeat 4294967296\ncycle\n"
     wrong "line 3: expected $times, not 'twice'" "${begin}repeat twice\ncycle\n"
-    wrong "line 3: expected the end of the line, not 'cycle'" "${begin}repeat 3 cycle\n"
+    wrong "line 3: expected the end of the line ('cycle' stands on a line of its own), not 'cycle'" "${begin}repeat 3 cycle\n"
     wrong "line 4: expected 'cycle' after 'repeat', not 'repeat'" "${begin}repeat 3\nrepeat 3\ncycle\n"
     wrong "line 4: expected 'cycle' after 'repeat', not 'stop'" "${begin}repeat 3\nstop 1\n"
     wrong "line 4: expected 'cycle' after 'repeat', but the text ends" "${begin}cycle\nrepeat 3\n\n# end\n"
@@ -203,7 +203,7 @@ refused_records() {
     refused "record at byte 48: refused 11: cycle 2: $ends 1 byte is there (0A), 3 are due" "$first$clean\0\n"
     refused "record at byte 48: refused 11: cycle 2: $ends 2 bytes are there (0D 0A), 3 are due" "$first$clean\0\r\n"
     refused "record at byte 48: refused 11: cycle 2: $ends 35 bytes are there, 36 are due" "$first$clean\0$clean"
-    refused "record at byte 12: refused 11: cycle 1: $ends 40 bytes are there, 45 are due" "$first$clean\1\0\0\0\0"
+    refused "record at byte 12: refused 11: cycle 1: $ends 40 bytes are there, 45 are due by the count 1 at byte 47" "$first$clean\1\0\0\0\0"
     refused "record at byte 48: refused 13: cycle 2: 'lose heartbeat' names node 63, and the nodes are 0 to 4" \
         "$first$clean\0GM\2$zero$zero\200\0\0\0\0\0\0\0$zero\0"
 }

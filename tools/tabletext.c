@@ -461,18 +461,21 @@ static void statement(struct text *t)
 {
     static const char *const due_names[] = {"'nodes NUMBER'", "'founding LIST'", "'cycle' or 'repeat NUMBER'", "'cycle' after 'repeat'",
                                             "'stop', 'start', 'lose', 'miss', 'cycle' or 'repeat'"};
+    const char *end = "the end of the line";
     if (t->due == DUE_NODES && take(t, "nodes"))
         nodes(t);
     else if (t->due == DUE_FOUNDING && take(t, "founding"))
         founding(t);
-    else if (t->due >= DUE_CYCLE && take(t, "cycle"))
+    else if (t->due >= DUE_CYCLE && take(t, "cycle")) {
         begin_cycle(t);
-    else if (t->due >= DUE_CYCLE && t->due != DUE_REPEATED && take(t, "repeat"))
+        end = "the end of the line (cycles have no number)";
+    } else if (t->due >= DUE_CYCLE && t->due != DUE_REPEATED && take(t, "repeat")) {
         repeat(t);
-    else if (t->due != DUE_FAULT || !fault(t))
+        end = "the end of the line ('cycle' stands on a line of its own)";
+    } else if (t->due != DUE_FAULT || !fault(t))
         expected(t, due_names[t->due]);
     if (next(t).len != 0)
-        expected(t, "the end of the line");
+        expected(t, end);
 }
 
 static int is_head(const unsigned char *s, unsigned kind)
@@ -570,7 +573,8 @@ static uint64_t mask_at(const unsigned char *s)
     return m;
 }
 
-static void check_length(const struct rest *r, size_t len)
+/* `by` says where the length comes from */
+static void check_length(const struct rest *r, size_t len, const char *by)
 {
     char shown[16] = "";
     if (r->len == 0)
@@ -581,7 +585,8 @@ static void check_length(const struct rest *r, size_t len)
         snprintf(shown, sizeof shown, " (%02X)", r->at[0]);
     else if (r->len < HEAD_BYTES)
         snprintf(shown, sizeof shown, " (%02X %02X)", r->at[0], r->at[1]);
-    refuse(r, GM_REFUSED_CUT, "the file ends inside the record: %zu %s there%s, %zu are due", r->len, r->len == 1 ? "byte is" : "bytes are", shown, len);
+    refuse(r, GM_REFUSED_CUT, "the file ends inside the record: %zu %s there%s, %zu are due%s", r->len, r->len == 1 ? "byte is" : "bytes are", shown, len,
+           by);
 }
 
 /* whether a text may begin here: the first record of a table, also with a byte changed, has bytes that a text has not */
@@ -596,7 +601,7 @@ static int like_text(const struct rest *r)
 static void check_head(const struct rest *r, unsigned kind)
 {
     const unsigned char *s = r->at;
-    check_length(r, HEAD_BYTES);
+    check_length(r, HEAD_BYTES, "");
     if (!is_head(s, kind))
         refuse(r, GM_REFUSED_KIND, "the record begins with the bytes %02X %02X %02X, not with %02X %02X %02X%s", s[0], s[1], s[2], GM_MARK_0, GM_MARK_1, kind,
                like_text(r) ? "; 'tabletext table' reads a text" : "");
@@ -645,7 +650,7 @@ static void first_text(struct rest *r, struct bytes *b)
 {
     uint64_t set;
     check_head(r, GM_RECORD_START);
-    check_length(r, GM_START_BYTES);
+    check_length(r, GM_START_BYTES, "");
     r->n = r->at[GM_START_AT_N];
     set = mask_at(r->at + GM_START_AT_FOUNDING);
     if (r->n < GM_NODES_MIN || r->n > GM_NODES_MAX)
@@ -702,14 +707,16 @@ static void read_masks(const struct rest *r, struct cycle *c)
 /* the faults of the next cycle; the answer is the length of its record */
 static size_t read_cycle(const struct rest *r, struct cycle *c)
 {
+    char by[64];
     unsigned count;
     size_t len;
     int before = -1;
     check_head(r, GM_RECORD_CYCLE);
-    check_length(r, GM_CYCLE_AT_ENTRIES);
+    check_length(r, GM_CYCLE_AT_ENTRIES, "");
     count = r->at[GM_CYCLE_AT_COUNT];
     len = entry_place(count);
-    check_length(r, len);
+    snprintf(by, sizeof by, " by the count %u at byte %zu", count, r->offset + GM_CYCLE_AT_COUNT);
+    check_length(r, len, by);
     if (count > GM_ENTRIES_MAX)
         refuse(r, GM_REFUSED_LIMIT, "the count at byte %zu is %u, and a cycle has at most %u entries", r->offset + GM_CYCLE_AT_COUNT, count, GM_ENTRIES_MAX);
     if (r->cycles == most_cycles)
