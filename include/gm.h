@@ -7,10 +7,10 @@
  * refusals the lowest is given, but a table or a record in its order. Of a table (gm_run, gm_run_frames)
  * that is record by record, and of one record CUT if fewer than 3 bytes are left, KIND, CUT if it is not
  * whole, COUNT, LENGTH of the row or of the frames, LIMIT. gm_cycle gives COUNT, LENGTH (of the row, or
- * bytes behind the record), STATE, and then its record's CUT, KIND, CUT, LIMIT. No entry allocates, blocks,
- * keeps anything between calls, or reads or writes outside the buffers that it is lent; any number and any
- * bytes may be passed. What is promised of each entry is proved for all inputs; CLAIMS.md says by which
- * theorem.
+ * bytes behind the record, whose length is by its byte 35 whatever its mark and kind), STATE, and then its
+ * record's CUT, KIND, CUT, LIMIT. No entry allocates, blocks, keeps anything between calls, or reads or
+ * writes outside the buffers that it is lent; any number and any bytes may be passed. What is promised of
+ * each entry is proved for all inputs; CLAIMS.md says by which theorem.
  *
  * BUFFERS. A buffer is a pointer and its length in bytes; it may stand at any address. A result is a
  * pointer to an object of its type, and every result is asked for, also those that the host does not need.
@@ -68,18 +68,22 @@
  * In 3 and 5 the nodes may come in any order, and the call for a node of which nothing came on both
  * channels may be left out: its bit is then 0, which is why the masks are 0 before the cycle. After 6
  * gm_state tells what the node holds. A node that halted is out, reason 1 or 2: it sends nothing and stays
- * so until gm_start, from which it is joining and comes in by the votes of the others. Where no member is
- * left nobody comes in any more: all units have to begin anew together, and how they agree on that is the
- * host's to say.
+ * so until gm_start, from which it is joining. A unit that is joining as the heartbeats go out, and
+ * untouched in that cycle and the next, is a member after the second (in the sense of AGREEMENT below, and
+ * under its premise); until then it stays joining. Where no member is left nobody comes in any more: all
+ * units have to begin anew together, and how they agree on that is the host's to say.
  *
- * AGREEMENT. A node is touched in a cycle if it is stopped in it, one of its frames is lost in sending, or
- * it misses a frame of another node. As long as in every cycle more than half of the present group and that
- * of one cycle earlier together are present members untouched in it and in the cycle before, all members
- * that were untouched in a cycle hold after it one set and number, the group of record. A member that was
- * touched may hold another set for one cycle, ALSO UNDER THE SAME NUMBER, and halts or is stopped in the
- * next; it cannot tell. So compare sets and not numbers alone. From the first cycle in which it is half or
- * fewer nothing more is promised, and no entry reports it: grouprun(1) does, of a table of faults. Of a
- * group of two, neither may be touched.
+ * AGREEMENT. A node is touched in a cycle if it is stopped in it, if one of its frames is lost in sending,
+ * that is, reaches nobody on either channel, or if it received neither copy of a frame that somebody else
+ * received. (In a table a mark counts as the fault, also where nothing was sent.) Nobody is touched before
+ * the first cycle. The group of record is the founding set at first, and after each cycle the group that
+ * those of its members then hold which were untouched in that cycle and in the one before. As long as in
+ * every cycle these are more than half of the group of record at its beginning and that of one cycle
+ * earlier together, all members that were untouched in a cycle hold after it the group of record: one set
+ * and number. A member that was touched may hold another set for one cycle, ALSO UNDER THE SAME NUMBER, and
+ * halts or is stopped in the next; it cannot tell. So compare sets and not numbers alone. From the first
+ * cycle in which they are half or fewer nothing more is promised, and no entry reports it: grouprun(1)
+ * does, of a table of faults. Of a group of two, neither may be touched.
  *
  * DUTIES OF THE HOST. No call can see these, and agreement is promised only where they are kept (SAFETY.md
  * has them with their reasons):
@@ -92,16 +96,16 @@
  *   - No cycle is skipped: a unit that slept through one and goes on with its old state holds a state that
  *     the rules do not give. Only a node that is out, and neither stopped nor started, may make no calls at
  *     all, and one that is stopped and not started none but gm_stop.
- *   - A unit that lost its state, or its power, before its heartbeat went out counts as stopped in that
- *     cycle; one that loses it later as one whose frames are lost from then on and which is stopped in the
- *     next. It comes back, in the cycle in which it counts as stopped or a later one, by gm_begin, gm_stop
- *     and gm_start in step 1, and never by gm_begin alone (gm_begin with a founding set that lacks the node
- *     leaves what gm_begin and gm_stop leave).
+ *   - A unit that lost its state, or its power, before its heartbeat went out on either channel counts as
+ *     stopped in that cycle; one that loses it later as one whose frames are lost from then on and which is
+ *     stopped in the next. It comes back, in the cycle in which it counts as stopped or a later one, by
+ *     gm_begin, gm_stop and gm_start in step 1, and never by gm_begin alone (gm_begin with a founding set
+ *     that lacks the node leaves what gm_begin and gm_stop leave).
  *   - gm_begin belongs to the beginning of the press. A founder that restarts by gm_begin alone takes
- *     itself for a member of the founding group, number 0. Where those that do so are more than half of the
- *     founding set they can go on as a second group beside the one that runs: units hold different groups,
- *     and no entry reports it. Fewer of them halt in that cycle for want of a quorum, unless the group that
- *     runs is still that first one.
+ *     itself for a member of the founding group, number 0. Its vote counts with those of every unit that
+ *     holds that group, restarted so too or left in it by a lost vote. Together they can go on as a second
+ *     group beside the one that runs or in its place, also under its number, while members of the right one
+ *     halt: units hold different groups. One such restart can be enough, and no entry reports it.
  *   - The cycle count that is passed is that of the bus cycle, and a frame is handed over in the cycle in
  *     which it came.
  *   - From call to call nobody else writes a state or a row.
@@ -311,8 +315,9 @@ uint32_t gm_receive_heartbeat(uint32_t n, uint32_t node, uint32_t cycle, const u
                               const uint8_t *b, size_t b_len, uint32_t *heard);
 
 /*
- * The view of a node from what it heard: *view holds the node itself if it is a member, and is 0 if it is
- * not.
+ * The view of a member from what it heard: the members of its set in heard0, the nodes outside its set in
+ * heard1, and itself; no other bit is looked at, so that a member of the set that restarts, and is joining,
+ * is not heard. *view is 0 if the node is no member.
  * state: GM_STATE_BYTES. Refusals: LENGTH, STATE.
  */
 uint32_t gm_view(const uint8_t *state, size_t state_len, uint64_t heard0, uint64_t heard1, uint64_t *view);
@@ -352,8 +357,9 @@ uint32_t gm_receive_vote(uint32_t n, uint32_t node, uint32_t cycle, const uint8_
                          uint64_t *arrived);
 
 /*
- * Decides: the node's next state, from what it heard and the votes that arrived. A slot whose vote is not
- * sound counts as not arrived, and so does a bit at n or above; the node's own bit is not looked at.
+ * Decides: the node's next state, from what it heard and the votes that arrived. heard0 and heard1 are
+ * looked at as for gm_view. A slot whose vote gm_read_vote would refuse for its content counts as not
+ * arrived, and so does a bit at n or above; the node's own bit is not looked at.
  * state: GM_STATE_BYTES, votes: GM_VOTES_BYTES. Refusals: LENGTH, STATE.
  */
 uint32_t gm_decide(uint8_t *state, size_t state_len, uint64_t heard0, uint64_t heard1, const uint8_t *votes,
@@ -379,8 +385,8 @@ uint32_t gm_run(uint8_t *row, size_t row_len, const uint8_t *table, size_t table
  * those of the others. It leaves what gm_run leaves, and in `frames` what an analyser at the senders would
  * show of the last cycle: heartbeats on A, heartbeats on B, votes on A, votes on B, each of these four
  * parts 64 slots of GM_VOTE_FRAME_BYTES. The frame that node q sent stands at the front of slot q, whether
- * or not it reached anybody; zeros stand behind it, and where nothing was sent. Cycle n of the run has
- * cycle count n - 1 modulo 64, and its heartbeats have sync and startup 0. A table without cycles leaves
+ * or not it reached anybody; zeros stand behind it, and where nothing was sent. Cycle k of the run has
+ * cycle count k - 1 modulo 64, and its heartbeats have sync and startup 0. A table without cycles leaves
  * `frames` as it came in.
  * row, table: as for gm_run; frames: GM_FRAMES_BYTES, another length being refused where the row's is.
  * Refusals: those of gm_run.

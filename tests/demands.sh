@@ -78,7 +78,8 @@ for entry in $(sed -nE 's/^uint32_t (gm_[a-z_]+)\(.*/\1/p' include/gm.h); do
     grep -q "${entry//_/-}\.Learnt" "$kept" || complain "$kept has no field for the entry $entry"
 done
 written=$(grep -o "&mut" crates/gm/src/lib.rt | wc -l)
-said=$(grep -o "Kept (a " "$kept" | wc -l)
+said=$(awk '/^  pub [a-z-]+ :/ { field = $2 } { while (match($0, /Kept \(a [^)]*\) \(s [^)]*\)/)) { print field, substr($0, RSTART, RLENGTH); $0 = substr($0, RSTART + RLENGTH) } }' "$kept" |
+    sort -u | wc -l)
 [ "$said" -eq "$written" ] || complain "$kept says of $said arguments that a refused call keeps them, and the entries are lent $written to write"
 ! grep -n requires crates/gm/src/lib.rt crates/row_press/src/lib.rt >&2 || complain "an entry has a 'requires'"
 

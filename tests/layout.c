@@ -201,7 +201,7 @@ static void longest(void)
     record[GM_CYCLE_AT_COUNT] = GM_ENTRIES_MAX;
     hold(gm_cycle(GM_NODES_MAX, all, sizeof all, record, GM_RECORD_BYTES_MAX) == GM_OK, "the longest record is refused");
     record[GM_CYCLE_AT_COUNT]++;
-    hold(gm_cycle(GM_NODES_MAX, all, sizeof all, record, sizeof record) != GM_OK, "an entry too many");
+    hold(gm_cycle(GM_NODES_MAX, all, sizeof all, record, sizeof record) == GM_REFUSED_LIMIT, "an entry too many");
 }
 
 /* a word of each sentence, by its status, so that no two are exchanged */
