@@ -1,2 +1,3 @@
 pub mod Images
 pub mod Rows
+pub mod There
