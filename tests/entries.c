@@ -168,7 +168,6 @@ static void shown(const uint8_t *frames, uint32_t part, uint32_t channel, uint32
     }
 }
 
-/* a run through frames: refused for their length, which stands behind a record that is cut; a table without cycles shows none */
 /* nothing stands in the slots of nodes that there are not */
 static void others_zero(const uint8_t *frames)
 {
@@ -179,6 +178,7 @@ static void others_zero(const uint8_t *frames)
         }
 }
 
+/* a run through frames: refused for their length, which stands behind a record that is cut; a table without cycles shows none */
 static void through_frames(uint8_t *row, size_t row_len)
 {
     static uint8_t frames[GM_FRAMES_BYTES + 1], kept[sizeof frames];
