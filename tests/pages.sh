@@ -20,10 +20,10 @@ examples() { # PAGE
         END { print "" }' "$1" | sed -e 1d -e 's/\\-/-/g' -e "s/\\\\(aq/'/g" -e 's/\\e/\\/g'
 }
 
-# a file that is shown is there for the commands that follow
+# a file that is shown is made, for the commands that follow; that it is shown so is no example
 try() { # PAGE COMMAND DUE
     local given
-    [[ $2 != 'cat '* ]] || printf '%s' "$3" >"${2#cat }"
+    [[ $2 != 'cat '* ]] || { printf '%s' "$3" >"${2#cat }"; return; }
     given=$(PATH=$programs:$PATH timeout 20 sh -c "$2" 2>&1) || true
     [ "$given" = "${3%$'\n'}" ] || fail "$1: '$2' prints '$given' and not '${3%$'\n'}'"
     count=$((count + 1))

@@ -60,7 +60,7 @@ helpText =
     ++ (ascii "Input that is no table ends in a line 'refused' with a number. The byte where\n"
     ++ (ascii "the refused record begins, and what is wrong with it, are told by\n"
     ++ (ascii "\ttabletext text <press.tab\n"
-    ++ (ascii "The exit status is always 0: look for 'refused', and at standard error.\n"
+    ++ (ascii "The exit status does not tell: look for 'refused', and at standard error.\n"
     ++ ascii "The manual page is grouprun(1); see also tabletext(1).\n")))))))))))))
 
 -- What answers each; the run's is said only where a table would have to be typed.

@@ -87,7 +87,7 @@ fn put_help(out: &mut [u8], at: usize) -> usize
         Input that is no table ends in a line 'refused' with a number. The byte where\n\
         the refused record begins, and what is wrong with it, are told by\n\
         \ttabletext text <press.tab\n\
-        The exit status is always 0: look for 'refused', and at standard error.\n\
+        The exit status does not tell: look for 'refused', and at standard error.\n\
         The manual page is grouprun(1); see also tabletext(1).\n",
     )
 }
