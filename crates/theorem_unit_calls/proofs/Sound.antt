@@ -1,7 +1,8 @@
 -- A press under fault records is one of which nobody knows the records, so that the premises of the theorem on any bus can be met too. Assumes nothing.
+use mathlib.Core.Path.{_≡_, refl, ap}
 use mathlib.Core.Logic.{_⊎_, inl, inr}
 use mathlib.Core.Bool.{Bool, true, false, _&&_}
-use mathlib.Core.List.{List, [], _∷_}
+use mathlib.Core.List.{List, [], _∷_, map}
 use Prim.Native.Nat.{ℕ, zero, suc, _<_}
 use native.Mathlib.Omega.{arith}
 use Rattle.rules.specs.declared.Faults.{Faults}
@@ -37,9 +38,18 @@ cycle-sound E n count c bus x z d =
           came-copies (Wrote (votesWritten (d .parts p lp))) (VoteRefused n count p) (bus .votes p q) (sends (votesWritten (d .parts p lp)) && voteReaches c p q) (d .ballots p q lp lq o) channel;
     }
 
-pub pressed-sound : (E : Entries) (n : ℕ) (row : Row) (cs : List Faults) (x z : ℕ → List ℕ) → Pressed E n cs x z → (ds : List Faults) × SoundPressed E n row ds x z
-pressed-sound E n row [] x z none = ([], none)
+-- as many cycles, and in each the same units stopped and started
+abbrev pub SameRuleOne : List Faults → List Faults → Type 0
+SameRuleOne cs ds = (map (λ (c : Faults). c .stop) ds ≡ map (λ (c : Faults). c .stop) cs) × (map (λ (c : Faults). c .start) ds ≡ map (λ (c : Faults). c .start) cs)
+
+pub pressed-sound : (E : Entries) (n : ℕ) (row : Row) (cs : List Faults) (x z : ℕ → List ℕ) → Pressed E n cs x z
+    → (ds : List Faults) × SameRuleOne cs ds × SoundPressed E n row ds x z
+unfolding recordOf
+pressed-sound E n row [] x z none = ([], (refl, refl), none)
 pressed-sound E n row (c ∷ cs) x z (next {y = y} count bus d rest) =
     let e = recordOf n count bus (c .stop) (c .start) row in
-    let more = pressed-sound E n (cycle (ofNodes n) e row) cs y z rest in
-    (e ∷ more .0, next count (c .stop) (c .start) bus (cycle-sound E n count c bus x y d) (more .1))
+    let more = pressed-sound E n (cycle (ofNodes n) e row) cs y z rest in (
+      e ∷ more .0,
+      (ap (λ (masks : List ℕ). c .stop ∷ masks) (more .1 .0), ap (λ (masks : List ℕ). c .start ∷ masks) (more .1 .1)),
+      next count (c .stop) (c .start) bus (cycle-sound E n count c bus x y d) (more .2),
+    )

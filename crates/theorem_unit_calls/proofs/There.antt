@@ -8,7 +8,7 @@ use Prim.Native.Nat.{ℕ, zero, suc, _-_, _≤_, _<_}
 use native.Mathlib.Nat.{mod-lt}
 use native.Mathlib.Omega.{arith}
 use lib.Dec.{eqb, lit<}
-use lib.ListN.{length, replicate}
+use lib.ListN.{length, replicate, length-replicate}
 use borrow.Author.Tests.{eqb-false}
 use Rattle.sets.specs.Sets.{has, below}
 use Rattle.sets.proofs.Booleans.{eqb-true}
@@ -275,11 +275,11 @@ begin-made E had n q F two few l some-founder founders =
     let good = begin-good n q F two few l some-founder founders in
     had .begin n q F _ (lift (replicate 24 0, good, sym (unless-done (beginStatus n q F (replicate 24 0)) (imageIn n q (initial 0 F q)) (replicate 24 0) (sym good))))
 
--- for every founding set and list of cycles there is such a press, whose cycles have the counts of a run, from vote buffers of any bytes and masks
-pub press-there : (E : Entries) → Within byDefinition E → (n F : ℕ) (cs : List Faults) (buffer : List ℕ) (mask : ℕ) → 2 ≤ n → n ≤ 64 → eqb F 0 ≡ false → below n F ≡ F
-    → length buffer ≡ 1792 → (x : ℕ → List ℕ) × (z : ℕ → List ℕ) × Begins E n F x × Pressed E n cs x z
+-- for every founding set and list of fault records there is such a press
+pub press-there : (E : Entries) → Within byDefinition E → (n F : ℕ) (cs : List Faults) → 2 ≤ n → n ≤ 64 → eqb F 0 ≡ false → below n F ≡ F
+    → (x : ℕ → List ℕ) × (z : ℕ → List ℕ) × Begins E n F x × Pressed E n cs x z
 unfolding founding
-press-there E had n F cs buffer mask two few some-founder founders sized =
+press-there E had n F cs two few some-founder founders =
     let run = cycles cs 1 (founding n 0 F) (founding-formed n 0 F (lit< tt) founders) in
     ((λ q. imageIn n q (at (founding n 0 F) q)), run .0, began, run .1)
   where
@@ -291,7 +291,9 @@ press-there E had n F cs buffer mask two few some-founder founders sized =
     cycles [] k row w = ((λ q. imageIn n q (at row q)), no-cycle)
     cycles (c ∷ cs) k row w =
         let rest = cycles cs (suc k) (cycle (ofNodes n) c row) (cycle-formed (ofNodes n) c row w) in
-        (rest .0, next (cycleCount k) (busOf (ofNodes n) (cycleCount k) c row) (cycle-there n (cycleCount k) two few (mod-lt (k - 1) (lit< tt)) c row w buffer sized mask E had) (rest .1))
+        let counted : cycleCount k < 64 = mod-lt (k - 1) (lit< tt) in
+        let empty = length-replicate {A = ℕ} 1792 0 in
+        (rest .0, next (cycleCount k) (busOf (ofNodes n) (cycleCount k) c row) (cycle-there n (cycleCount k) two few counted c row w (replicate 1792 0) empty 0 E had) (rest .1))
 
 -- ---- each other way that a part may go can be gone
 
