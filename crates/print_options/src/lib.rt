@@ -1,7 +1,7 @@
 // What the program's arguments ask for, and the text that answers each.
 ghost use mathlib.Core.Path.{_≡_};
 ghost use Prim.Native.Nat.{_+_, _≤_};
-ghost use lib.ListN.{length};
+ghost use lib.ListN.{length, replicate};
 ghost use Rattle.print_text.specs.Text.{Appended};
 ghost use Rattle.print_options.specs.Options.{sameText, askedBy, argumentRoom, usageLine, helpText, answerText, goesAside};
 
@@ -32,7 +32,7 @@ fn same_text(s: &[u8], word: &[u8]) -> bool
 
 // Room for an argument, in which every option fits.
 pub fn argument_room() -> [u8; 16]
-    ensures { λ r. ⌜ argumentRoom ≡ length r ⌝ }
+    ensures { λ r. ⌜ r ≡ replicate argumentRoom 0 ⌝ }
 {
     [0; 16]
 }
