@@ -65,25 +65,27 @@
  *   4. gm_send_vote for each channel, with these masks; the host sends the frame if there is one
  *   5. gm_receive_vote for every other node, into the vote buffer, whatever stands in it, and `arrived`
  *   6. gm_decide, with the same heard0 and heard1
- * In 3 and 5 the nodes may come in any order, and the call for a node of which nothing came on both
- * channels may be left out: its bit is then 0, which is why the masks are 0 before the cycle. After 6
+ * In 3 and 5 the nodes may come in any order, and the call for a node of which nothing came on either
+ * channel may be left out: its bit is then 0, which is why the masks are 0 before the cycle. After 6
  * gm_state tells what the node holds. A node that halted is out, reason 1 or 2: it sends nothing and stays
  * so until gm_start, from which it is joining. A unit that is joining as the heartbeats go out, and
- * untouched in that cycle and the next, is a member after the second (in the sense of AGREEMENT below, and
- * under its premise); until then it stays joining. Where no member is left nobody comes in any more: all
- * units have to begin anew together, and how they agree on that is the host's to say.
+ * untouched in that cycle and the next, is a member after the second, if not after the first (in the sense
+ * of AGREEMENT below, and under its premise); one that did not come in stays joining. Where no member is
+ * left nobody comes in any more: all units have to begin anew together, and how they agree on that is the
+ * host's to say.
  *
  * AGREEMENT. A node is touched in a cycle if it is stopped in it, if one of its frames is lost in sending,
  * that is, reaches nobody on either channel, or if it received neither copy of a frame that somebody else
- * received. (In a table a mark counts as the fault, also where nothing was sent.) Nobody is touched before
- * the first cycle. The group of record is the founding set at first, and after each cycle the group that
- * those of its members then hold which were untouched in that cycle and in the one before. As long as in
- * every cycle these are more than half of the group of record at its beginning and that of one cycle
- * earlier together, all members that were untouched in a cycle hold after it the group of record: one set
- * and number. A member that was touched may hold another set for one cycle, ALSO UNDER THE SAME NUMBER, and
- * halts or is stopped in the next; it cannot tell. So compare sets and not numbers alone. From the first
- * cycle in which they are half or fewer nothing more is promised, and no entry reports it: grouprun(1)
- * does, of a table of faults. Of a group of two, neither may be touched.
+ * received. (What goes to a unit that is switched off may be taken as received. In a table a mark counts as
+ * the fault, also where nothing was sent.) Nobody is touched before the first cycle. The group of record is
+ * the founding set at first, and after each cycle the group that those of its members then hold which were
+ * untouched in that cycle and in the one before. As long as in every cycle these are more than half of the
+ * group of record at its beginning and that of one cycle earlier together, all members that were untouched
+ * in a cycle hold after it the group of record: one set and number. A member that was touched may hold
+ * another set for one cycle, ALSO UNDER THE SAME NUMBER, and halts or is stopped in the next; it cannot
+ * tell. So compare sets and not numbers alone. From the first cycle in which they are half or fewer nothing
+ * more is promised, and no entry reports it: grouprun(1) does, of a table of faults. Of a group of two,
+ * neither may be touched.
  *
  * DUTIES OF THE HOST. No call can see these, and agreement is promised only where they are kept (SAFETY.md
  * has them with their reasons):
@@ -247,9 +249,9 @@ extern "C" {
 
 /*
  * The stack that an entry takes at most, on one node and on a row, in bytes below its caller's stack
- * pointer: 2232 and 30328 by a walk of the archive's code, rounded up. Of memset and memcpy the walk counts
- * the return address: glibc's take no more. They must be bound before the first call, statically or by
- * -Wl,-z,now: where the dynamic linker binds one inside a call, that call takes some 3 KiB more.
+ * pointer: 2232 and 30448 by a walk of the archive's code, and room to spare. Of memset and memcpy the walk
+ * counts the return address: glibc's take no more. They must be bound before the first call, statically or
+ * by -Wl,-z,now: where the dynamic linker binds one inside a call, that call takes some 3 KiB more.
  */
 #define GM_STACK_BYTES 2560U
 #define GM_ROW_STACK_BYTES 40960U

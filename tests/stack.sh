@@ -1,8 +1,8 @@
 #!/usr/bin/env bash
 # The deepest stack of an entry on one node and of one on a row, in bytes below the caller's stack pointer: walked through the archive's code
-# (tests/stackwalk.awk), sampled in calls (tests/stack.c), and as the header says. It fails if an entry is not sampled, if a walked figure is above the header's, or a
-# sampled one above the walked one, which would show that the walk is wrong. Usage: stack.sh ARCHIVE BUILD-FOLDER [-v], with -v also the functions that go so deep, and
-# what is sampled where the dynamic linker binds memset and memcpy inside a call
+# (tests/stackwalk.awk), sampled in calls (tests/stack.c), and as the header says. It fails if an entry is not sampled, if a walked figure is above the header's
+# constant or not the one that header and README name, or if a sampled one is above the walked one, which would show that the walk is wrong. Usage: stack.sh
+# ARCHIVE BUILD-FOLDER [-v], with -v also the functions that go so deep, and what is sampled where the dynamic linker binds memset and memcpy inside a call
 set -euo pipefail
 archive=$1 build=$2 verbose=${3-}
 mkdir -p "$build"
@@ -32,10 +32,11 @@ for entry in $on_node $on_row; do
 done
 
 report() { # WHAT CONSTANT ENTRY...
-    local walked chain stated sampled
+    local walked chain stated sampled text
     read -r _ walked chain <<<"$(deepest "$build/stack.walked" "${@:3}")"
     read -r _ sampled <<<"$(deepest "$build/stack.now" "${@:3}")"
     stated=$(awk -v name="$2" '$2 == name { print $3 + 0 }' include/gm.h)
+    for text in include/gm.h README.md; do grep -qw "$walked" "$text" || fail "$text does not name the $walked bytes that are walked on $1"; done
     echo "stack: an entry on $1 takes at most $walked bytes as walked, took $sampled as sampled; $2 is $stated"
     [ "$verbose" != -v ] || echo "    ${chain// / > }"
     [ "$walked" -le "$stated" ] || fail "an entry on $1 takes $walked bytes, more than the header says"

@@ -7,7 +7,8 @@
 BEGIN {
     FS = "\t"
     WORD = 8 # a return address, or what a push takes
-    RED_ZONE = 128 # by the calling convention a function may use so many bytes below the stack pointer without moving it
+    # by the calling convention a function may use so many bytes below the stack pointer without moving it; none where it was compiled without
+    RED_ZONE = red_zone == "" ? 128 : red_zone
     REGISTER = "^%r([abcd]x|[sd]i|bp|[0-9]+)$"
     for (k = split(outside, names, " "); k > 0; k--)
         is_outside[names[k]] = 1
@@ -101,6 +102,9 @@ function taken(i,    op, text, plain) {
     return 0
 }
 
+# whether another register gets an address in the stack, from which bytes below the stack pointer can be reached too
+function copies_pointer(i) { return opcode[i] == "mov" && operands[i] ~ /^%rsp,/ || opcode[i] == "lea" && operands[i] ~ /\(%rsp/ }
+
 # a way through function f comes to instruction i with so many bytes on the stack
 function reach(f, i, bytes) {
     if (owner[i] != f)
@@ -112,7 +116,7 @@ function reach(f, i, bytes) {
     if (!(i in depth))
         waiting[++ways] = i
     depth[i] = bytes
-    if (operands[i] ~ /-0x[0-9a-f]+\(%rsp/)
+    if (operands[i] ~ /-0x[0-9a-f]+\(%rsp/ || copies_pointer(i))
         bytes += RED_ZONE
     if (bytes > own[f])
         own[f] = bytes

@@ -7,7 +7,7 @@ mkdir -p "$build"
 fail() { echo "stackwalk: $*" >&2; exit 1; }
 
 walk() { # OBJECT..
-    objdump -drz --no-show-raw-insn "$@" | awk -v outside=memset -f tests/stackwalk.awk
+    objdump -drz --no-show-raw-insn "$@" | awk -v outside=memset -v red_zone="${red_zone-}" -f tests/stackwalk.awk
 }
 compile() { # NAME OPTION..: of the C on standard input
     gcc -std=c11 -Wall -Wextra -Werror -Wno-infinite-recursion -O2 -fno-inline -fstack-usage "${@:2}" -c -x c - -o "$build/$1.o"
@@ -30,7 +30,7 @@ int either(int a) { return a > 3 ? clear(a) : a < 0 ? instead(a) : many(a, a, a,
 int loops(int a) { int sum = 0; while (a-- > 0) sum += either(a) + leaf(sum) + instead(a); return sum; }
 C
 compile frames -mno-red-zone -maccumulate-outgoing-args -fno-optimize-sibling-calls <"$build/frames.c"
-walk "$build/frames.o" >"$build/frames.out"
+red_zone=0 walk "$build/frames.o" >"$build/frames.out"
 while read -r name bytes chain; do
     sum=0
     for part in $chain; do
@@ -47,6 +47,11 @@ compile jumps -foptimize-sibling-calls <"$build/frames.c"
 walk "$build/jumps.o" >"$build/jumps.out"
 is jumps instead "$(awk '$1 == "clear" { print $2 }' "$build/jumps.out")"
 is jumps room $((8 + 128))
+# also through a register that holds an address in the stack
+compile based -fno-omit-frame-pointer <<<'int room(int a) { volatile char bytes[100]; bytes[a] = 1; return bytes[0]; }'
+objdump -d "$build/based.o" | grep -q 'mov *%rsp,%rbp' || fail "based: no frame is reached through a register"
+walk "$build/based.o" >"$build/based.out"
+is based room $((8 + 8 + 128))
 
 # a number below 0, which a compiler takes for 128 since it is shorter, to take bytes and to give them back
 compile negative <<<'__asm__("f: add $-128,%rsp\n sub $0x80,%rsp\n sub $-128,%rsp\n add $0x80,%rsp\n ret");'
