@@ -1,6 +1,7 @@
 #!/usr/bin/env bash
 # Whether what is listed by hand is whole: README's table of the crates and ARCHITECTURE's picture of them against crates.txt and the first sentence of each
-# crate's source, and the names at the top of the large definition files against what those declare.
+# crate's source, ARCHITECTURE's table of who opens which definitions against the proofs, and the names at the top of the large definition files against what
+# those declare.
 set -euo pipefail
 cd "$(dirname "$0")/.."
 wrong=0
@@ -63,6 +64,29 @@ low=$(awk -F ': *' '
     !/^#/ { n = split($2, d, " "); for (i = 1; i <= n; i++) if (d[i] in own && !(d[i] in above)) print $1 " before " d[i]; above[$1] = 1 }' crates.txt crates.txt)
 [ -z "$low" ] || complain "crates.txt names a crate before one that it rests on: $low"
 
+# ---- who opens the text of whose definitions, "OWNER CRATE" a line: `unfolding` in a proof, but where worked examples and witnesses compute
+
+opened=$(find crates/*/proofs -name '*.antt' ! -name Worked.antt ! -path 'crates/theorem_refused/proofs/There.antt' ! -path 'crates/theorem_entries/proofs/There.antt' -print0 |
+    xargs -0 awk '
+    FNR == 1 { delete owner; split(FILENAME, part, "/") }
+    /^use Rattle·[^ ]*\.specs\..*\{/ {
+        crate = $2; sub(/^Rattle·/, "", crate); sub(/[.·].*/, "", crate)
+        sub(/^[^{]*\{/, ""); sub(/\}.*/, "")
+        for (i = split($0, name, /, */); i > 0; i--) owner[name[i]] = crate
+    }
+    /^ *unfolding / { for (i = 2; i <= NF; i++) if ($i in owner && owner[$i] != part[2]) print owner[$i], part[2] }' | sort -u)
+# of each row of the table "ROW: CRATE", as it is written and as it is due: whoever opens a crate of the row and is none of it
+rows=$(awk -F ' [|] ' '/ opened by \|$/ { inside = 1; next } inside && !/^\|/ { exit } inside && /^\| `/ { print $1 "|" $NF }' docs/ARCHITECTURE.md)
+row_crates() { # CELL: the crates that it names, `entry_..` being all of that layer
+    grep -oE '`[a-z_0-9]+(\.\.)?`' <<<"$1" | tr -d '`' | while read -r name; do grep -E "^${name/../.*}\$" <<<"$crates" || true; done | sort -u
+}
+written=$(while IFS='|' read -r _ layer by _; do for crate in $(row_crates "$by"); do echo "$layer: $crate"; done; done <<<"$rows")
+due=$(while IFS='|' read -r _ layer by _; do
+    own=$(row_crates "$layer")
+    comm -13 <(echo "$own") <(awk 'NR == FNR { own[$1]; next } $1 in own { print $2 }' <(echo "$own") - <<<"$opened" | sort -u) | sed "s/^/$layer: /"
+done <<<"$rows")
+same "docs/ARCHITECTURE.md's table" "$written" "what is opened in proofs" "$due"
+
 # ---- the vocabulary: before the first `use` a line "--     NAME, NAME: WHAT" for the public names of the file
 
 count=0
@@ -75,4 +99,4 @@ for file in rules/specs/OneCycle rules/specs/Faults table/specs/Records row_call
 done
 
 [ "$wrong" -eq 0 ] || exit 1
-echo "lists: $(wc -l <<<"$crates") crates in README and ARCHITECTURE as in crates.txt, with $(wc -l <<<"$arrows") arrows; $count names in six vocabularies"
+echo "lists: $(wc -l <<<"$crates") crates in README and ARCHITECTURE as in crates.txt, with $(wc -l <<<"$arrows") arrows, and who opens whose definitions; $count names in six vocabularies"
