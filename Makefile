@@ -68,16 +68,17 @@ run: $(GROUPRUN) $(TABLETEXT)
 FIRST_TESTS = format trace-test commands-test
 BUILT_TESTS = archive-test host run examples-test vectors-test badinput-test text-test arguments-test install-test
 LONG_TESTS = compare-test load-test
-ignoring = $(findstring i,$(filter-out -%,$(firstword $(MAKEFLAGS))))
+# whether make was given an option of one letter
+option = $(findstring $1,$(filter-out -%,$(firstword $(MAKEFLAGS))))
 
 # all tests, then everything proved from nothing and every wrong edit tried; the last line is 'N passed, 0 failed'
 test:
-	@$(if $(ignoring),$(error make test ends with the first test that fails: run it without -i))\
+	@$(if $(call option,i),$(error make test ends with the first test that fails: run it without -i))\
 	    $(call needs,rt cargo gcc g++ git script)echo "make test: about 17 minutes on two idle cores" >&2
 	@tools/evidence.sh begin
 	@$(MAKE) --no-print-directory --silent $(FIRST_TESTS) archive
 	@$(MAKE) --no-print-directory -j2 --output-sync $(BUILT_TESTS)
-	@$(MAKE) --no-print-directory -j2 --output-sync $(LONG_TESTS) | tee log/compared.log
+	@$(MAKE) --no-print-directory -j2 --output-sync $(LONG_TESTS) | $(if $(call option,n),cat,tee log/compared.log)
 	@tools/evidence.sh passed "$(FIRST_TESTS) $(BUILT_TESTS) $(LONG_TESTS)" $(ARCHIVE) $(HEADERS) $(PROGRAMS)
 	@tools/kit.sh gate "about 13 minutes on two idle cores" ci
 
