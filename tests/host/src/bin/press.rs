@@ -320,7 +320,7 @@ impl Press<'_> {
         Come { copies, one_damaged }
     }
 
-    /// whether the receive call is left out: it may be where nothing came on both channels
+    /// whether the receive call is left out: it may be where nothing came on either channel
     fn left_out(&mut self, [a, b]: &[Vec<u8>; 2]) -> bool {
         let left_out = a.is_empty() && b.is_empty() && self.random.once_in(2);
         self.counts.left_out += u64::from(left_out);
