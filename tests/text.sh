@@ -94,6 +94,7 @@ bytes_by_hand() {
     printf "$first$clean\0$clean\0" | cmp -s - "$out" || fail "the longest table begins with other bytes"
 }
 
+plain='; statements have plain characters alone'
 wrong_beginnings() {
     wrong "line 1: the text ends before 'nodes'" ''
     wrong "line 1: the text ends before 'nodes'" '\xEF\xBB\xBF'
@@ -106,8 +107,8 @@ wrong_beginnings() {
     wrong "line 1: expected 'nodes NUMBER', not 'nodes:'" 'nodes: 5\n'
     wrong "line 1: expected 'nodes NUMBER', not 'nodes=5'" 'nodes=5\n'
     wrong "line 1: expected 'nodes NUMBER', not 'Nodes'; words stand in small letters" 'Nodes 5\n'
-    wrong "line 1: expected 'nodes NUMBER', not 'nodes\\xC2\\xA05'" 'nodes\xC2\xA05\n'
-    wrong "line 1: expected 'nodes NUMBER', not 'n\\x00o\\x00'" 'n\0o\0\n'
+    wrong "line 1: expected 'nodes NUMBER', not 'nodes\\xC2\\xA05'$plain" 'nodes\xC2\xA05\n'
+    wrong "line 1: expected 'nodes NUMBER', not 'n\\x00o\\x00'$plain" 'n\0o\0\n'
     wrong "line 1: expected 'nodes NUMBER', not '0123456789012345678901234567890123456789..'" '01234567890123456789012345678901234567890\n'
     wrong "line 1: expected the number of nodes, 2 to 64, but the line ends" 'nodes\n'
     wrong "line 1: expected the number of nodes, 2 to 64, but the line ends" 'nodes # 5\n'
@@ -128,7 +129,7 @@ wrong_lists() {
     wrong "line 2: expected $list, not '5'" "$begin 5\n"
     wrong "line 2: expected $list, not '18446744073709551616'" "$begin 18446744073709551616\n"
     wrong "line 2: expected $list, not '0..4'" "$begin 0..4\n"
-    wrong "line 2: expected $list, not '0\\xE2\\x80\\x934'" "$begin 0\xE2\x80\x934\n"
+    wrong "line 2: expected $list, not '0\\xE2\\x80\\x934'$plain" "$begin 0\xE2\x80\x934\n"
     wrong "line 2: expected $list, not '-'" "$begin -2\n"
     wrong "line 2: expected $list, not ','" "$begin ,2\n"
     wrong "line 2: expected $list, not 'node'" "$begin node 2\n"
@@ -155,7 +156,7 @@ wrong_cycles() {
     wrong "line 3: expected 'cycle' or 'repeat NUMBER', not 'stop'" "${begin}stop 1\n"
     wrong "line 3: expected 'cycle' or 'repeat NUMBER', not 'founding'" "${begin}founding 1\n"
     wrong "line 3: expected 'cycle' or 'repeat NUMBER', not 'cycles'" "${begin}cycles\n"
-    wrong "line 3: expected the end of the line (cycles have no number), not '2'" "${begin}cycle 2\n"
+    wrong "line 3: expected the end of the line (a cycle has no number, and each fault a line of its own), not '2'" "${begin}cycle 2\n"
     wrong "line 4: expected $any, not 'halt'" "${begin}cycle\nhalt 2\n"
     wrong "line 4: expected $any, not 'nodes'" "${begin}cycle\nnodes 5\n"
     wrong "line 4: expected $any, not ','" "${begin}cycle\n, 2\n"
@@ -198,13 +199,14 @@ refused_records() {
     refused "$start 1: the number of nodes is 65, not 2 to 64" "GM\1\101$zero"
     refused "$start 1: the number of nodes is 1, not 2 to 64" 'GM\1\1\0\0\0\0\0\0\0\1'
     refused "$start 13: the founding set is empty" "GM\1\5$zero"
-    refused "$start 13: the founding set names node 5, and the nodes are 0 to 4" 'GM\1\5\0\0\0\0\0\0\0\77'
+    refused "$start 13: the founding set, at byte 4, names node 5, and the nodes are 0 to 4" 'GM\1\5\0\0\0\0\0\0\0\77'
     refused "record at byte 12: refused 12: cycle 1: the record begins with the bytes 47 4D 01, not with 47 4D 02" "$first$first"
     refused "record at byte 48: refused 11: cycle 2: $ends 1 byte is there (0A), 3 are due" "$first$clean\0\n"
     refused "record at byte 48: refused 11: cycle 2: $ends 2 bytes are there (0D 0A), 3 are due" "$first$clean\0\r\n"
     refused "record at byte 48: refused 11: cycle 2: $ends 35 bytes are there, 36 are due" "$first$clean\0$clean"
     refused "record at byte 12: refused 11: cycle 1: $ends 40 bytes are there, 45 are due by the count 1 at byte 47" "$first$clean\1\0\0\0\0"
-    refused "record at byte 48: refused 13: cycle 2: 'lose heartbeat' names node 63, and the nodes are 0 to 4" \
+    refused "record at byte 12: refused 11: cycle 1: $ends 40 bytes are there, 1197 are due by the count 129 at byte 47, which is above 128" "$first$clean\201\0\0\0\0"
+    refused "record at byte 48: refused 13: cycle 2: 'lose heartbeat', at byte 67, names node 63, and the nodes are 0 to 4" \
         "$first$clean\0GM\2$zero$zero\200\0\0\0\0\0\0\0$zero\0"
 }
 
@@ -237,11 +239,12 @@ refused_entries() {
 }
 
 arguments() {
-    local file="a file is read by: tabletext table <press.txt >press.tab"
+    local file="a file is read by: tabletext table <press.txt >press.tab, or tabletext text <press.tab"
     local one="expected one argument, 'table', 'text', '--help' or '--version'; $file"
     errs "no argument" "$one"
     errs "two arguments" "$one" table "$input"
     errs "another argument" "expected 'table', 'text', '--help' or '--version', not 'press.txt'; $file" press.txt
+    errs "an argument of other characters" "expected 'table', 'text', '--help' or '--version', not 'a\\x0Ab\\x1B'; $file" $'a\nb\e'
     errs "a folder" "the input could not be read: Is a directory" table <"$here"
     [ "$(run --version)" = "tabletext $version" ] || fail "--version is '$(run --version)'"
     run --help >"$out"

@@ -20,6 +20,8 @@ enum { HEARTBEAT, VOTE, PHASES };
 enum { MOST_SHOWN = 40, SHOWN_ROOM = 4 * MOST_SHOWN + 4, MESSAGE_ROOM = 400 };
 
 #define FROM_FILE "tabletext table <press.txt >press.tab"
+#define USES "'table', 'text', '--help' or '--version'"
+#define BY_FILE "a file is read by: " FROM_FILE ", or tabletext text <press.tab"
 
 static const unsigned long most_cycles = UINT32_MAX;
 static const char *const mask_names[MASKS] = {"stop", "start", "lose heartbeat", "lose vote"};
@@ -253,6 +255,14 @@ static int has_capital(struct word w)
     return w.len > 0;
 }
 
+/* such as a dash of a word processor */
+static int has_other(struct word w)
+{
+    while (w.len > 0 && *w.at > ' ' && *w.at <= '~')
+        w.at++, w.len--;
+    return w.len > 0;
+}
+
 static void __attribute__((noreturn)) expected(const struct text *t, const char *what)
 {
     struct word w = next(t);
@@ -260,6 +270,8 @@ static void __attribute__((noreturn)) expected(const struct text *t, const char 
     if (w.len == 0)
         wrong(t, "expected %s, but the line ends", what);
     show(w, shown);
+    if (has_other(w))
+        wrong(t, "expected %s, not '%s'; statements have plain characters alone", what, shown);
     wrong(t, "expected %s, not '%s'%s", what, shown, has_capital(w) ? "; words stand in small letters" : "");
 }
 
@@ -468,7 +480,7 @@ static void statement(struct text *t)
         founding(t);
     else if (t->due >= DUE_CYCLE && take(t, "cycle")) {
         begin_cycle(t);
-        end = "the end of the line (cycles have no number)";
+        end = "the end of the line (a cycle has no number, and each fault a line of its own)";
     } else if (t->due >= DUE_CYCLE && t->due != DUE_REPEATED && take(t, "repeat")) {
         repeat(t);
         end = "the end of the line ('cycle' stands on a line of its own)";
@@ -657,7 +669,7 @@ static void first_text(struct rest *r, struct bytes *b)
         refuse(r, GM_REFUSED_COUNT, "the number of nodes is %u, not %u to %u", r->n, GM_NODES_MIN, GM_NODES_MAX);
     if (set == 0)
         refuse(r, GM_REFUSED_LIMIT, "the founding set is empty");
-    check_nodes(r, set, "the founding set", "");
+    check_nodes(r, set, "the founding set, at byte 4,", "");
     put_words(b, "nodes ");
     put_number(b, r->n);
     put_words(b, "\nfounding");
@@ -697,8 +709,8 @@ static void read_entry(const struct rest *r, unsigned k, int before, struct cycl
 static void read_masks(const struct rest *r, struct cycle *c)
 {
     for (unsigned k = 0; k < MASKS; k++) {
-        char where[24];
-        snprintf(where, sizeof where, "'%s'", mask_names[k]);
+        char where[64];
+        snprintf(where, sizeof where, "'%s', at byte %zu,", mask_names[k], r->offset + mask_places[k]);
         c->masks[k] = mask_at(r->at + mask_places[k]);
         check_nodes(r, c->masks[k], where, "");
     }
@@ -707,7 +719,7 @@ static void read_masks(const struct rest *r, struct cycle *c)
 /* the faults of the next cycle; the answer is the length of its record */
 static size_t read_cycle(const struct rest *r, struct cycle *c)
 {
-    char by[64];
+    char by[96];
     unsigned count;
     size_t len;
     int before = -1;
@@ -715,7 +727,7 @@ static size_t read_cycle(const struct rest *r, struct cycle *c)
     check_length(r, GM_CYCLE_AT_ENTRIES, "");
     count = r->at[GM_CYCLE_AT_COUNT];
     len = entry_place(count);
-    snprintf(by, sizeof by, " by the count %u at byte %zu", count, r->offset + GM_CYCLE_AT_COUNT);
+    snprintf(by, sizeof by, " by the count %u at byte %zu%s", count, r->offset + GM_CYCLE_AT_COUNT, count > GM_ENTRIES_MAX ? ", which is above 128" : "");
     check_length(r, len, by);
     if (count > GM_ENTRIES_MAX)
         refuse(r, GM_REFUSED_LIMIT, "the count at byte %zu is %u, and a cycle has at most %u entries", r->offset + GM_CYCLE_AT_COUNT, count, GM_ENTRIES_MAX);
@@ -822,11 +834,19 @@ static void spare_terminal(void)
         give_up("a table is bytes and is not written to a terminal; write it to a file: " FROM_FILE);
 }
 
+static void __attribute__((noreturn)) wrong_argument(const char *what)
+{
+    struct word w = {what, strlen(what)};
+    char shown[SHOWN_ROOM];
+    show(w, shown);
+    give_up("expected " USES ", not '%s'; " BY_FILE, shown);
+}
+
 int main(int argc, char **argv)
 {
     const char *what = argc == 2 ? argv[1] : "";
     if (argc != 2)
-        give_up("expected one argument, 'table', 'text', '--help' or '--version'; a file is read by: " FROM_FILE);
+        give_up("expected one argument, " USES "; " BY_FILE);
     if (strcmp(what, "table") == 0) {
         spare_terminal();
         convert("text", write_table);
@@ -837,7 +857,7 @@ int main(int argc, char **argv)
     else if (strcmp(what, "--version") == 0)
         printf("tabletext %s\n", GM_VERSION);
     else
-        give_up("expected 'table', 'text', '--help' or '--version', not '%s'; a file is read by: " FROM_FILE, what);
+        wrong_argument(what);
     if (fflush(stdout) != 0)
         give_up("the output could not be written: %s", strerror(errno));
     return 0;
