@@ -76,16 +76,16 @@
  *
  * AGREEMENT. A node is touched in a cycle if it is stopped in it, if one of its frames is lost in sending,
  * that is, reaches nobody on either channel, or if it received neither copy of a frame that somebody else
- * received. (What goes to a unit that is switched off may be taken as received. In a table a mark counts as
- * the fault, also where nothing was sent.) Nobody is touched before the first cycle. The group of record is
- * the founding set at first, and after each cycle the group that those of its members then hold which were
- * untouched in that cycle and in the one before. As long as in every cycle these are more than half of the
- * group of record at its beginning and that of one cycle earlier together, all members that were untouched
- * in a cycle hold after it the group of record: one set and number. A member that was touched may hold
- * another set for one cycle, ALSO UNDER THE SAME NUMBER, and halts or is stopped in the next; it cannot
- * tell. So compare sets and not numbers alone. From the first cycle in which they are half or fewer nothing
- * more is promised, and no entry reports it: grouprun(1) does, of a table of faults. Of a group of two,
- * neither may be touched.
+ * received. (What goes to a unit that is switched off may be counted as received or as not. In a table a
+ * mark counts as the fault, also where nothing was sent.) Nobody is touched before the first cycle. The
+ * group of record is the founding set at first, and after each cycle the group that those of its members
+ * then hold which were untouched in that cycle and in the one before. As long as in every cycle these are
+ * more than half of the group of record at its beginning and that of one cycle earlier together, all
+ * members that were untouched in a cycle hold after it the group of record: one set and number. A member
+ * that was touched may hold another set for one cycle, ALSO UNDER THE SAME NUMBER, and halts or is stopped
+ * in the next; it cannot tell. So compare sets and not numbers alone. From the first cycle in which they
+ * are half or fewer nothing more is promised, and no entry reports it: grouprun(1) does, of a table of
+ * faults. Of a group of two, neither may be touched.
  *
  * DUTIES OF THE HOST. No call can see these, and agreement is promised only where they are kept (SAFETY.md
  * has them with their reasons):
@@ -113,7 +113,8 @@
  *   - From call to call nobody else writes a state or a row.
  *
  * gm_cycle, gm_run and gm_run_frames work on a row: the states of all n nodes, one after the other, node q
- * at byte 24 q. They are for a test stand.
+ * at byte 24 q. They are for a test stand. AGREEMENT is promised of a row that held, before its first
+ * gm_cycle, what gm_begin leaves for each node with one founding set, or what an accepted run left.
  */
 #ifndef GM_H
 #define GM_H

@@ -893,7 +893,7 @@ fn main() {
     let argument = std::env::args().nth(1).or_else(|| std::env::var("SEED").ok());
     let seed: u64 = argument.map_or(1, |text| text.parse().expect("SEED is a number"));
     let calls: u64 = std::env::var("CALLS").map_or(300_000, |text| text.parse().expect("CALLS is a number"));
-    println!("compare: seed {seed}, {calls} random calls");
+    println!("compare: seed {seed}, at least {calls} random calls");
     let mut compare = Compare { random: Random::new(seed), counts: [[0; 16]; ENTRIES.len()], shift: 0, given: BTreeMap::new() };
     counts_and_numbers(&mut compare);
     lengths(&mut compare);
