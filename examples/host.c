@@ -3,7 +3,7 @@
  * In cycle 2 the heartbeat of unit 4 is lost in sending, in cycle 3 unit 4 is started again, in cycle 4 the vote of unit 0 is lost in sending.
  * Beside that the bus damages single copies: one is lost, in one a bit flips, and one is the frame of the cycle before. This is no fault of a record and
  * changes nothing, since the copy on the other channel counts: after each cycle the units must hold what gm_cycle makes of a row under the cycle's record.
- * After each cycle it prints the group of the lowest unit that was not disturbed in it or the one before, and who halted and who entered; then the damage.
+ * After each cycle it prints the group of the lowest unit that was not touched in it or the one before, and who halted and who entered; then the damage.
  */
 #include "gm.h"
 #include "gm_refusal.h"
@@ -236,11 +236,11 @@ static void must_agree(struct press *p, const struct faults *f, uint32_t number)
         }
 }
 
-static void print_cycle(const struct press *p, uint32_t number, uint64_t disturbed)
+static void print_cycle(const struct press *p, uint32_t number, uint64_t touched)
 {
     struct parts shown;
     unsigned q = 0;
-    while (q < UNITS && (in(disturbed, q) || parts_of(&p->units[q]).kind != GM_KIND_MEMBER))
+    while (q < UNITS && (in(touched, q) || parts_of(&p->units[q]).kind != GM_KIND_MEMBER))
         q++;
     if (q == UNITS)
         exit(1);
@@ -252,15 +252,15 @@ int main(void)
 {
     static const struct faults faults[CYCLES] = {{0, 0, 0}, {0, 0x10, 0}, {0x10, 0, 0}, {0, 0, 0x01}, {0, 0, 0}};
     static struct press press;
-    uint64_t disturbed = 0;
+    uint64_t touched = 0;
     begin(&press);
     puts("cycle group set halted entered");
     for (uint32_t n = 0; n < CYCLES; n++) {
         uint64_t now = faults[n].heartbeat_lost | faults[n].vote_lost;
         cycle(&press, &faults[n], n % GM_CYCLE_COUNTS);
         must_agree(&press, &faults[n], n + 1);
-        print_cycle(&press, n + 1, now | disturbed);
-        disturbed = now;
+        print_cycle(&press, n + 1, now | touched);
+        touched = now;
     }
     printf("%u copies damaged on one channel, %u frames received by the other\n", press.damaged, press.saved);
     return 0;

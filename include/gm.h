@@ -6,11 +6,11 @@
  * sentence for each). A refusal changes nothing: every buffer and every result is as it came in. Of several
  * refusals the lowest is given, but a table or a record in its order. Of a table (gm_run, gm_run_frames)
  * that is record by record, and of one record CUT if fewer than 3 bytes are left, KIND, CUT if it is not
- * whole, COUNT, LENGTH of the row or of the frames, LIMIT. gm_cycle gives COUNT, LENGTH (of the row, or
- * bytes behind the record, whose length is by its byte 35 whatever its mark and kind), STATE, and then its
- * record's CUT, KIND, CUT, LIMIT. No entry allocates, blocks, keeps anything between calls, or reads or
- * writes outside the buffers that it is lent; any number and any bytes may be passed. What is promised of
- * each entry is proved for all inputs; CLAIMS.md says by which theorem.
+ * whole, COUNT, LENGTH of the row or of the frames, LIMIT. gm_cycle gives COUNT, LENGTH (the row is not n
+ * states, or a record of 36 bytes or more is longer than 36 + 9 times its byte 35, whatever its mark and
+ * kind), STATE, and then its record's CUT, KIND, CUT, LIMIT. No entry allocates, blocks, keeps anything
+ * between calls, or reads or writes outside the buffers that it is lent; any number and any bytes may be
+ * passed. What is promised of each entry is proved for all inputs; CLAIMS.md says by which theorem.
  *
  * BUFFERS. A buffer is a pointer and its length in bytes; it may stand at any address. A result is a
  * pointer to an object of its type, and every result is asked for, also those that the host does not need.
@@ -46,8 +46,10 @@
  * (GM_HEARTBEAT_SLOT) and has 10 bytes, one word of payload, of which bit 7 of the first byte is 1 for a
  * node that is joining and all else 0. Its vote goes in slot q + 65 (GM_VOTE_SLOT) and has 36 bytes, the
  * payload a vote. So heartbeats have one length, as static slots ask, and votes another, as dynamic slots
- * allow. The slot is the frame number of the header. The cycle count is that of the bus, 0 to 63. A host
- * may set sync and startup in heartbeats (startup only with sync); in votes both are 0.
+ * allow: the static segment has n to 64 slots. The slot is the frame number of the header. The cycle count
+ * is that of the bus, 0 to 63. A host may set sync and startup in heartbeats (startup only with sync); in
+ * votes both are 0. A controller that hands over payloads alone is not provided for (SAFETY.md, "What is
+ * not covered").
  *
  * A TABLE is records, one behind the other, each beginning with GM_MARK_0, GM_MARK_1 and its kind:
  *   - GM_RECORD_START, first and only once, 12 bytes (GM_START_AT_..): byte 3 n, bytes 4-11 founding set
@@ -60,32 +62,35 @@
  * ONE CYCLE of a node, heard0, heard1 and arrived being 0 before it:
  *   1. gm_stop, gm_start where the host wants it
  *   2. gm_send_heartbeat for each channel; the host sends the frame if there is one
- *   3. gm_receive_heartbeat for every other node; GM_HEARD_MEMBER goes into heard0, GM_HEARD_JOINING into
- *      heard1
+ *   3. gm_receive_heartbeat for every other node; the sender's bit is set in heard0 after GM_HEARD_MEMBER
+ *      and in heard1 after GM_HEARD_JOINING
  *   4. gm_send_vote for each channel, with these masks; the host sends the frame if there is one
  *   5. gm_receive_vote for every other node, into the vote buffer, whatever stands in it, and `arrived`
  *   6. gm_decide, with the same heard0 and heard1
- * In 3 and 5 the nodes may come in any order, and the call for a node of which nothing came on either
- * channel may be left out: its bit is then 0, which is why the masks are 0 before the cycle. After 6
- * gm_state tells what the node holds. A node that halted is out, reason 1 or 2: it sends nothing and stays
- * so until gm_start, from which it is joining. A unit that is joining as the heartbeats go out, and
- * untouched in that cycle and the next, is a member after the second, if not after the first (in the sense
- * of AGREEMENT below, and under its premise); one that did not come in stays joining. Where no member is
- * left nobody comes in any more: all units have to begin anew together, and how they agree on that is the
- * host's to say.
+ * A member sends both frames, a joining node its heartbeat alone, one that is out none. In 3 and 5 the
+ * nodes may come in any order, and the call for a node of which nothing came on either channel may be left
+ * out: its bit is then 0, which is why the masks are 0 before the cycle. After 6 gm_state tells what the
+ * node holds. A node that halted is out, reason 1 or 2: it sends nothing and stays so until gm_start, from
+ * which it is joining. A unit that is joining as the heartbeats go out, and untouched in that cycle and the
+ * next, is a member after the second, if not after the first (in the sense of AGREEMENT below, and under
+ * its premise); one that did not come in stays joining. Where no member is left nobody comes in any more:
+ * all units have to begin anew together, and how they agree on that is the host's to say.
  *
- * AGREEMENT. A node is touched in a cycle if it is stopped in it, if one of its frames is lost in sending,
- * that is, reaches nobody on either channel, or if it received neither copy of a frame that somebody else
- * received. (What goes to a unit that is switched off may be counted as received or as not. In a table a
- * mark counts as the fault, also where nothing was sent.) Nobody is touched before the first cycle. The
- * group of record is the founding set at first, and after each cycle the group that those of its members
- * then hold which were untouched in that cycle and in the one before. As long as in every cycle these are
- * more than half of the group of record at its beginning and that of one cycle earlier together, all
- * members that were untouched in a cycle hold after it the group of record: one set and number. A member
- * that was touched may hold another set for one cycle, ALSO UNDER THE SAME NUMBER, and halts or is stopped
- * in the next; it cannot tell. So compare sets and not numbers alone. From the first cycle in which they
- * are half or fewer nothing more is promised, and no entry reports it: grouprun(1) does, of a table of
- * faults. Of a group of two, neither may be touched.
+ * AGREEMENT. A node receives a frame if gm_receive_heartbeat or gm_receive_vote makes something of its
+ * copies: not GM_MISSED, or the bit of `arrived` set. A node is touched in a cycle if it is stopped in it,
+ * if one of its frames is lost in sending, that is, received by nobody, or if it does not receive a frame
+ * that somebody else receives. (A unit that is out and makes no calls may be counted as having received a
+ * frame or not. In a table a mark counts as the fault, also where nothing was sent.) Nobody is touched
+ * before the first cycle. The group of record is the founding set at first. The steady nodes of a cycle are
+ * those in the group of record at its beginning that were touched neither in it nor in the cycle before;
+ * after the cycle the group of record is the one that they hold. As long as in every cycle the steady nodes
+ * are more than half of the group of record at its beginning and that of one cycle earlier together (in the
+ * first cycle both are the founding set), all members that were untouched in a cycle hold after it the
+ * group of record: one set and number. A member that was touched may hold another set for one cycle, ALSO
+ * UNDER THE SAME NUMBER, and halts or is stopped in the next; it cannot tell. So compare sets and not
+ * numbers alone. From the first cycle in which the steady nodes are half or fewer nothing more is promised,
+ * and no entry reports it: grouprun(1) does, of a table of faults. Of a group of two, neither may be
+ * touched.
  *
  * DUTIES OF THE HOST. No call can see these, and agreement is promised only where they are kept (SAFETY.md
  * has them with their reasons):
@@ -98,7 +103,7 @@
  *   - No cycle is skipped: a unit that slept through one and goes on with its old state holds a state that
  *     the rules do not give. Only a node that is out, and neither stopped nor started, may make no calls at
  *     all, and one that is stopped and not started none but gm_stop.
- *   - A unit that lost its state, or its power, before its heartbeat went out on either channel counts as
+ *   - A unit that lost its state, or its power, before any copy of its heartbeat went out counts as
  *     stopped in that cycle; one that loses it later as one whose frames are lost from then on and which is
  *     stopped in the next. It comes back, in the cycle in which it counts as stopped or a later one, by
  *     gm_begin, gm_stop and gm_start in step 1, and never by gm_begin alone (gm_begin with a founding set
@@ -243,8 +248,9 @@ extern "C" {
 /* a wrong mark or kind, a first record not of kind 1, a later one of kind 1 */
 #define GM_REFUSED_KIND 12U
 /*
- * a founding set that is empty or has a bit at n or above; in a record a bit, receiver, count or entry
- * beyond its limit; a cycle of a table above number 4294967295
+ * a founding set that is empty or has a bit at n or above; in a record a bit or a receiver at n or above, a
+ * count above 128, or an entry with bit 6 set, without senders, with its receiver among them, or whose
+ * first byte is not above that of the entry before it; a cycle of a table above number 4294967295
  */
 #define GM_REFUSED_LIMIT 13U
 
@@ -378,8 +384,8 @@ uint32_t gm_cycle(uint32_t n, uint8_t *row, size_t row_len, const uint8_t *recor
 /*
  * A table's run: sets the row to the beginning of the table and runs its cycles. The whole table is looked
  * at before the row changes.
- * row: as many times GM_STATE_BYTES as the table has nodes, in any state; table: of any length. Refusals:
- * CUT, KIND, COUNT, LENGTH, LIMIT, record by record.
+ * row: as many times GM_STATE_BYTES as the table has nodes, in any state, but written once, since they are
+ * read; table: of any length. Refusals: CUT, KIND, COUNT, LENGTH, LIMIT, record by record.
  */
 uint32_t gm_run(uint8_t *row, size_t row_len, const uint8_t *table, size_t table_len);
 

@@ -34,7 +34,7 @@ static inline const char *gm_refusal_text(uint32_t status)
         break;
     case GM_REFUSED_CUT: text = "The table is empty, or it or the record ends before the record is whole."; break;
     case GM_REFUSED_KIND: text = "A record has a wrong mark or kind, or stands where its kind may not."; break;
-    case GM_REFUSED_LIMIT: text = "The founding set is empty, or a node, count, entry or cycle is beyond its limit."; break;
+    case GM_REFUSED_LIMIT: text = "The founding set is empty, or a node, count, entry or cycle is not allowed."; break;
     default: text = "No entry answers this number."; break;
     }
     return text;

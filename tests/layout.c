@@ -209,7 +209,7 @@ static const char *const word[] = {
     [GM_OK] = "accepted", [GM_REFUSED_COUNT] = "number of nodes is not 2 to 64", [GM_REFUSED_NUMBER] = "cycle count is above", [GM_REFUSED_LENGTH] = "buffer",
     [GM_REFUSED_STATE] = "state is not well formed", [GM_REFUSED_FRAME_LENGTH] = "fewer than 8 bytes", [GM_REFUSED_HEADER_CHECK] = "header check",
     [GM_REFUSED_FRAME_CHECK] = "frame check is wrong", [GM_REFUSED_NULL_FRAME] = "null frame", [GM_REFUSED_NOT_DUE] = "due", [GM_REFUSED_CONTENT] = "content",
-    [GM_REFUSED_CUT] = "before the record is whole", [GM_REFUSED_KIND] = "mark or kind", [GM_REFUSED_LIMIT] = "beyond its limit"};
+    [GM_REFUSED_CUT] = "before the record is whole", [GM_REFUSED_KIND] = "mark or kind", [GM_REFUSED_LIMIT] = "founding set is empty"};
 enum { STATUSES = sizeof word / sizeof *word };
 
 /* every status up to the last has a sentence of its own, and no other number has one */
