@@ -10,7 +10,7 @@ use state::Node;
 use state::State;
 
 // Rules 3, 5 and 6, from the vote buffer.
-fn next_state(n: Node, heard0: u64, heard1: u64, votes: &[u8], arrived: u64) -> State
+pub fn next_state(n: Node, heard0: u64, heard1: u64, votes: &[u8], arrived: u64) -> State
     requires { ⌜ (n .nodes ≤ 64) × (n .id < n .nodes) × (length (now votes) ≡ 1792) ⌝ }
     ensures { λ r. ⌜ r ≡ decision n (n .state) heard0 heard1 (now (votes .entry)) arrived ⌝ }
 {

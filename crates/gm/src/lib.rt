@@ -14,6 +14,7 @@ ghost use Rattle.entry_write_vote.specs.Votes.{voteOf, writeVoteStatus, writeVo
 ghost use Rattle.entry_send_vote.specs.Voting.{viewFrom, sendVoteStatus, sendVoteLeft, sendVoteSent};
 ghost use Rattle.entry_receive_vote.specs.Arrivals.{readVoteStatus, readVoteLeft, receiveVoteStatus, receiveVoteLeft, receiveVoteArrived};
 ghost use Rattle.entry_decide.specs.Decide.{decideStatus, decideLeft};
+ghost use Rattle.registers.specs.Steps.{Read, Write, Cycle, WriteCycle, stepStatus, stepLeft, stepValue};
 ghost use Rattle.entry_row.specs.OnImages.{lentStatus, lentLeft, lentFrames, imagesStatus, imagesLeft};
 use row_calls::Task;
 
@@ -229,6 +230,56 @@ pub extern "C" fn gm_decide(
     ensures { λ _. ⌜ now (state .exit) ≡ decideLeft (now (state .entry)) heard0 heard1 (now (votes .entry)) arrived ⌝ }
 {
     entry_decide::decide(state, heard0, heard1, votes, arrived)
+}
+
+// A register of a block.
+#[no_mangle]
+pub extern "C" fn gm_register_read(block: &[u8], address: u32, value: &mut u32) -> u32
+    ensures { λ r. ⌜ r ≡ stepStatus (Read address) (now (block .entry)) ⌝ }
+    ensures { λ _. ⌜ now (value .exit) ≡ stepValue (Read address) (now (block .entry)) (now (value .entry)) ⌝ }
+{
+    entry_registers::read(block, address, value)
+}
+
+// A byte to a register of a block.
+#[no_mangle]
+pub extern "C" fn gm_register_write(block: &mut [u8], address: u32, value: u8) -> u32
+    ensures { λ r. ⌜ r ≡ stepStatus (Write address value) (now (block .entry)) ⌝ }
+    ensures { λ _. ⌜ now (block .exit) ≡ stepLeft (Write address value) (now (block .entry)) ⌝ }
+{
+    entry_registers::write(block, address, value)
+}
+
+// Rules 3 to 6 on a block, and the flag that they raise.
+#[no_mangle]
+pub extern "C" fn gm_register_cycle(
+    block: &mut [u8],
+    heard0: u64,
+    heard1: u64,
+    votes: &[u8],
+    arrived: u64,
+) -> u32
+    ensures { λ r. ⌜ r ≡ stepStatus (Cycle heard0 heard1 (now (votes .entry)) arrived) (now (block .entry)) ⌝ }
+    ensures { λ _. ⌜ now (block .exit) ≡ stepLeft (Cycle heard0 heard1 (now (votes .entry)) arrived) (now (block .entry)) ⌝ }
+{
+    entry_registers::cycle(block, heard0, heard1, votes, arrived)
+}
+
+// A write and a cycle together, the write first.
+#[no_mangle]
+pub extern "C" fn gm_register_write_cycle(
+    block: &mut [u8],
+    address: u32,
+    value: u8,
+    heard0: u64,
+    heard1: u64,
+    votes: &[u8],
+    arrived: u64,
+) -> u32
+    ensures { λ r. ⌜ r ≡ stepStatus (WriteCycle address value heard0 heard1 (now (votes .entry)) arrived) (now (block .entry)) ⌝ }
+    ensures { λ _. ⌜ now (block .exit) ≡ stepLeft (WriteCycle address value heard0 heard1 (now (votes .entry)) arrived) (now (block .entry)) ⌝ }
+{
+    entry_registers::write_cycle(block, address, value, heard0, heard1, votes, arrived)
 }
 
 // One cycle on a row of n states.

@@ -1,7 +1,7 @@
 -- Every state that the rules give is well formed, whether the premise is met or not. Assumes nothing.
 use mathlib.Core.Path.{_≡_, refl, sym, ap, _∙_, subst}
 use mathlib.Core.Logic.{_⊎_, inl, inr}
-use mathlib.Core.Bool.{Bool, true, false, not, _&&_, _||_, cond}
+use mathlib.Core.Bool.{Bool, true, false, not, _&&_, _||_, cond, true≢false}
 use mathlib.Core.List.{List, [], _∷_}
 use mathlib.Core.Option.{Option, none, some}
 use Prim.Native.Nat.{ℕ, zero, suc, _+_, _^_, _<_}
@@ -35,10 +35,10 @@ FormedRow n row = (q : ℕ) → q < n → formedState q n (at row q) ≡ true
 -- ---- the test of a state, as laws of the group that it holds
 
 -- no node of m is n or above
-abbrev Bound : ℕ → ℕ → Type 0
+abbrev pub Bound : ℕ → ℕ → Type 0
 Bound n m = (x : ℕ) → has x m ≡ true → x < n
 
-bound-of : (n m : ℕ) → below n m ≡ m → Bound n m
+pub bound-of : (n m : ℕ) → below n m ≡ m → Bound n m
 bound-of n m e x h = ltb-lt (and-l (ltb x n) (has x m) (sym (has-below x n m) ∙ ap (has x) e ∙ h))
 
 below-of : (n m : ℕ) → Bound n m → below n m ≡ m
@@ -93,11 +93,10 @@ formed-state n q (Member g) f = formed-group n q g (f g refl)
 
 -- ---- the group that a vote gives
 
--- a vote of numbers and nodes that there are
-record Fair (n : ℕ) (v : Vote) : Type 0 where
-  number : v .group .number < 2 ^ 32
-  set : Bound n (v .group .set)
-  view : Bound n (v .view)
+-- a vote of nodes that there are
+pub record Fair (n : ℕ) (v : Vote) : Type 0 where
+  pub set : Bound n (v .group .set)
+  pub view : Bound n (v .view)
 
 view-bound : (n q M h0 h1 : ℕ) → q < n → Bound n M → Bound n (viewOf n q M h0 h1)
 view-bound n q M h0 h1 l b x h =
@@ -111,15 +110,10 @@ view-bound n q M h0 h1 l b x h =
     go (inl e) = first (or-e (eqb x q) (has x M && (ltb x n && has x h0)) e)
     go (inr e) = ltb-lt (and-l (ltb x n) (has x h1) (and-l (ltb x n && has x h1) (not (has x M)) e))
 
-own-fair : (n : ℕ) (c : Faults) (r : Row) (q : ℕ) (g : Group) → q < n → Sound n q g → Fair n (ownVote n c r q g)
-unfolding ownVote
-own-fair n c r q g l s =
+own-fair : (n q h0 h1 : ℕ) (g : Group) → q < n → Sound n q g → Fair n (record { group = g; view = viewOf n q (g .set) h0 h1 })
+own-fair n q h0 h1 g l s =
     let bound : Bound n (g .set) = λ x h. s .bound x (s .inside x h) in
-    record {
-      number = s .number;
-      set = bound;
-      view = view-bound n q (g .set) (heard n c r sendsMember q) (heard n c r sendsJoin q) l bound;
-    }
+    record { set = bound; view = view-bound n q (g .set) h0 h1 l bound }
 
 next-lt : (G : ℕ) → nextNumber G < 2 ^ 32
 unfolding nextNumber
@@ -138,6 +132,15 @@ new-number : (n : ℕ) (b : Ballots) (v : Vote) → v .group .number < 2 ^ 32 �
 unfolding newGroup groupWith
 new-number n b v l = number-lt (eqb (newSet n b v) (v .group .set)) (v .group .number) l
 
+-- of any vote, where a node is new in the set
+entered-number : (n q : ℕ) (b : Ballots) (v : Vote) → has q (newGroup n b v .set) ≡ true → has q (v .group .set) ≡ false → newGroup n b v .number < 2 ^ 32
+unfolding newGroup groupWith
+entered-number n q b v h o = go (eqb (newSet n b v) (v .group .set)) refl
+  where
+    go : (t : Bool) → eqb (newSet n b v) (v .group .set) ≡ t → cond t (v .group .number) (nextNumber (v .group .number)) < 2 ^ 32
+    go true e = let z : true ≡ false = sym h ∙ ap (has q) (eqb-true e) ∙ o in absurd (true≢false z)
+    go false e = next-lt (v .group .number)
+
 new-bound : (n : ℕ) (b : Ballots) (v : Vote) → Fair n v → Bound n (newGroup n b v .base)
 new-bound n b v f x h =
     go (or-e (has x (v .view)) (has x (v .group .set)) (sym (ap (has x) (base-is n b v) ∙ has-union x (v .view) (v .group .set)) ∙ h))
@@ -146,15 +149,15 @@ new-bound n b v f x h =
     go (inl e) = f .view x e
     go (inr e) = f .set x e
 
-new-sound : (n q : ℕ) (b : Ballots) (v : Vote) → Fair n v → has q (newGroup n b v .set) ≡ true → Sound n q (newGroup n b v)
-new-sound n q b v f h = record { number = new-number n b v (f .number); self = h; inside = new-inside n b v; bound = new-bound n b v f }
+new-sound : (n q : ℕ) (b : Ballots) (v : Vote) → Fair n v → newGroup n b v .number < 2 ^ 32 → has q (newGroup n b v .set) ≡ true → Sound n q (newGroup n b v)
+new-sound n q b v f l h = record { number = l; self = h; inside = new-inside n b v; bound = new-bound n b v f }
 
 -- ---- rules 5 and 6
 
-member-sound : (C : Config) (q : ℕ) (own : Vote) (arrived : Ballots) → q < C .nodes → has q (own .group .set) ≡ true → Fair (C .nodes) own
+member-sound : (C : Config) (q : ℕ) (own : Vote) (arrived : Ballots) → q < C .nodes → Sound (C .nodes) q (own .group) → Fair (C .nodes) own
     → SoundState (C .nodes) q (memberDecides C q own arrived)
 unfolding memberDecides
-member-sound C q own arrived l m f g e = go (wins n b own) (any n (λ p. rival n b (own .group) (b p))) e
+member-sound C q own arrived l w f g e = go (wins n b own) (any n (λ p. rival n b (own .group) (b p))) e
   where
     n : ℕ
     n = C .nodes
@@ -166,7 +169,9 @@ member-sound C q own arrived l m f g e = go (wins n b own) (any n (λ p. rival n
     mine = ap (λ (x : Bool). cond x (some own) (arrived q)) (eqb-self q)
 
     go : (won beaten : Bool) → groupOf (cond won (memberOn C b own) (cond beaten (Out Outvoted) (Out NoQuorum))) ≡ some g → Sound n q g
-    go true beaten e = subst (λ (x : Group). Sound n q x) (some-inj e) (new-sound n q b own f (voter-in n b own q (in-voters n b own q l m mine)))
+    go true beaten e =
+        subst (λ (x : Group). Sound n q x) (some-inj e)
+        (new-sound n q b own f (new-number n b own (w .number)) (voter-in n b own q (in-voters n b own q l (w .self) mine)))
     go false true e = absurd (none-some e)
     go false false e = absurd (none-some e)
 
@@ -186,11 +191,21 @@ joiner-sound C q b fair g e = go (lowest n (λ p. fits n q b (b p))) (b (lowest 
         turn true f e =
             let fit = and-l (fits n q b (some v)) (every n (λ x. not (fits n q b (b x)) || is v (b x))) f in
             let new = and-l (has q (v .view) && not (has q (v .group .set))) (wins n b v) fit in
-            subst (λ (x : Group). Sound n q x) (some-inj e)
-            (new-sound n q b v (fair p v k)
-            (new-in n b v q (and-l (has q (v .view)) (not (has q (v .group .set))) new)
-            (not-e (has q (v .group .set)) (and-r (has q (v .view)) (not (has q (v .group .set))) new))))
+            let outside = not-e (has q (v .group .set)) (and-r (has q (v .view)) (not (has q (v .group .set))) new) in
+            let enters = new-in n b v q (and-l (has q (v .view)) (not (has q (v .group .set))) new) outside in
+            subst (λ (x : Group). Sound n q x) (some-inj e) (new-sound n q b v (fair p v k) (entered-number n q b v enters outside) enters)
         turn false f e = absurd (none-some e)
+
+-- one node alone, from whatever votes of nodes that there are arrived
+pub member-formed : (C : Config) (q h0 h1 : ℕ) (g : Group) (arrived : Ballots) → q < C .nodes → formedState q (C .nodes) (Member g) ≡ true
+    → formedState q (C .nodes) (memberDecides C q (record { group = g; view = viewOf (C .nodes) q (g .set) h0 h1 }) arrived) ≡ true
+member-formed C q h0 h1 g arrived l f =
+    let own : Vote = record { group = g; view = viewOf (C .nodes) q (g .set) h0 h1 } in
+    let s = sound-group (C .nodes) q g f in
+    formed-state (C .nodes) q (memberDecides C q own arrived) (member-sound C q own arrived l s (own-fair (C .nodes) q h0 h1 g l s))
+
+pub joiner-formed : (C : Config) (q : ℕ) (b : Ballots) → ((p : ℕ) (v : Vote) → b p ≡ some v → Fair (C .nodes) v) → formedState q (C .nodes) (joinerDecides C q b) ≡ true
+joiner-formed C q b fair = formed-state (C .nodes) q (joinerDecides C q b) (joiner-sound C q b fair)
 
 -- ---- the whole cycle
 
@@ -211,10 +226,14 @@ module _ (C : Config) (c : Faults) (r : Row) (w : (q : ℕ) → q < C .nodes →
   abbrev FairVote : Option Vote → Type 0
   FairVote o = (v : Vote) → o ≡ some v → Fair n v
 
+  own-vote-fair : (p : ℕ) (g : Group) → p < n → Sound n p g → Fair n (ownVote n c r p g)
+  unfolding ownVote
+  own-vote-fair p g l s = own-fair n p (heard n c r sendsMember p) (heard n c r sendsJoin p) g l s
+
   vote-fair : (p : ℕ) → p < n → FairVote (voteOf C c r p (at r p))
   vote-fair p l v e =
       let held = vote-group C c r p (at r p) v e in
-      subst (Fair n) (some-inj (sym (member-votes C c r p (at r p) (v .group) held) ∙ e)) (own-fair n c r p (v .group) l (w p l (v .group) held))
+      subst (Fair n) (some-inj (sym (member-votes C c r p (at r p) (v .group) held) ∙ e)) (own-vote-fair p (v .group) l (w p l (v .group) held))
 
   arrived-fair : (q p : ℕ) → FairVote (got q p)
   unfolding votes
@@ -236,8 +255,7 @@ module _ (C : Config) (c : Faults) (r : Row) (w : (q : ℕ) → q < C .nodes →
       go (inr (inr m)) =
           let g = m .0 in
           let s = w q l g (m .1) in
-          member-sound C q (ownVote n c r q g) (got q) l (ap (λ (x : Group). has q (x .set)) (sym (own-group n c r q g)) ∙ s .self)
-          (own-fair n c r q g l s) h
+          member-sound C q (ownVote n c r q g) (got q) l (subst (λ (x : Group). Sound n q x) (own-group n c r q g) s) (own-vote-fair q g l s) h
           (sym (ap groupOf (vote-decides C c r q (at r q) (ownVote n c r q g) (got q) (member-votes C c r q (at r q) g (m .1)))) ∙ e)
 
   decisions-formed : FormedRow n (decisions C c r (votes C c r))

@@ -19,6 +19,7 @@ use Rattle.entry_send_vote.proofs.Kept as viewed
 use Rattle.entry_receive_vote.specs.Arrivals.{receiveVoteLeft, receiveVoteArrived}
 use Rattle.entry_receive_vote.proofs.Kept as vote
 use Rattle.entry_decide.specs.Decide.{decideLeft}
+use Rattle.registers.proofs.Found as register
 use Rattle.gm.proofs.gm_state.Statement as gm-state-says
 use Rattle.gm.proofs.gm_state.Met as gm-state-met
 use Rattle.gm.proofs.gm_write_heartbeat.Statement as gm-write-heartbeat-says
@@ -33,7 +34,7 @@ use Rattle.gm.proofs.gm_read_vote.Statement as gm-read-vote-says
 use Rattle.gm.proofs.gm_read_vote.Met as gm-read-vote-met
 use Rattle.theorem_refused.specs.Kept.{Refused, RefusedKept}
 
--- ---- the compiled entries meet the contracts that their callers read; of the other eleven `theorem_entries` and `theorem_units` say so
+-- ---- the compiled entries meet the contracts that their callers read; of the other fifteen `theorem_entries`, `theorem_units` and `theorem_registers` say so
 
 pub state-code : {M : Type 1} → gm-state-says.statement M
 state-code {M} = gm-state-met.met
@@ -80,6 +81,10 @@ refused-kept =
       read-vote = λ κs a r s l. told (l .0) (l .1) (vote.refused-kept _ _ _ _ _ _);
       receive-vote = λ κs a r s l h. (told (l .0) (l .1 .0) (unless-refused _ _ _) h, told (l .0) (l .1 .1) (unless-refused _ _ _) h);
       decide = λ κs a r s l. told (l .0) (l .1) (unless-refused _ _ _);
+      register-read = λ κs a r s l. told (l .0) (l .1) (register.refused-value _ _ _);
+      register-write = λ κs a r s l. told (l .0) (l .1) (register.refused-left _ _);
+      register-cycle = λ κs a r s l. told (l .0) (l .1) (register.refused-left _ _);
+      register-write-cycle = λ κs a r s l. told (l .0) (l .1) (register.refused-left _ _);
       cycle = λ κs a r s l. told (l .0) (l .1) (λ h. sym (images-kept Cycle _ _ _ _ h));
       run = λ κs a r s l. told (l .0) (l .1) (λ h. sym (images-kept Run _ _ _ _ h));
       run-frames = λ κs a r s l h. (

@@ -21,6 +21,7 @@ use Rattle.entry_write_vote.specs.Votes.{writeVoteStatus, writeVoteLeft}
 use Rattle.entry_send_vote.specs.Voting.{sendVoteStatus, sendVoteLeft, sendVoteSent}
 use Rattle.entry_receive_vote.specs.Arrivals.{readVoteNumbers, readVoteStatus, readVoteLeft, receiveVoteStatus, receiveVoteLeft, receiveVoteArrived}
 use Rattle.entry_decide.specs.Decide.{decideStatus, decideLeft}
+use Rattle.registers.specs.Steps.{stepStatus, stepLeft, stepRead, stepValue}
 use Rattle.gm.proofs.gm_begin.Reads as gm-begin
 use Rattle.gm.proofs.gm_stop.Reads as gm-stop
 use Rattle.gm.proofs.gm_start.Reads as gm-start
@@ -35,6 +36,10 @@ use Rattle.gm.proofs.gm_send_vote.Reads as gm-send-vote
 use Rattle.gm.proofs.gm_read_vote.Reads as gm-read-vote
 use Rattle.gm.proofs.gm_receive_vote.Reads as gm-receive-vote
 use Rattle.gm.proofs.gm_decide.Reads as gm-decide
+use Rattle.gm.proofs.gm_register_read.Reads as gm-register-read
+use Rattle.gm.proofs.gm_register_write.Reads as gm-register-write
+use Rattle.gm.proofs.gm_register_cycle.Reads as gm-register-cycle
+use Rattle.gm.proofs.gm_register_write_cycle.Reads as gm-register-write-cycle
 use Rattle.gm.proofs.gm_cycle.Reads as gm-cycle
 use Rattle.gm.proofs.gm_run.Reads as gm-run
 use Rattle.gm.proofs.gm_run_frames.Reads as gm-run-frames
@@ -111,6 +116,22 @@ receive-vote-there = (([], ([], ([], ([], tt)))), (0, (0, (0, (empty, (empty, (e
 pub decide-there : (κs : _) × (a : _) × (r : _) × gm-decide.Learnt κs a r a × Refused r
 unfolding first unless decideStatus decideLeft
 decide-there = (([], ([], tt)), (empty, (0, (0, (empty, (0, tt))))), 3, (refl, refl), some 2)
+
+pub register-read-there : (κs : _) × (a : _) × (r : _) × gm-register-read.Learnt κs a r a × Refused r
+unfolding first unless stepStatus stepRead stepValue
+register-read-there = (([], ([], tt)), (empty, (0, (nought, tt))), 3, (refl, refl), some 2)
+
+pub register-write-there : (κs : _) × (a : _) × (r : _) × gm-register-write.Learnt κs a r a × Refused r
+unfolding first unless stepStatus stepLeft
+register-write-there = (([], tt), (empty, (0, (0, tt))), 3, (refl, refl), some 2)
+
+pub register-cycle-there : (κs : _) × (a : _) × (r : _) × gm-register-cycle.Learnt κs a r a × Refused r
+unfolding first unless stepStatus stepLeft
+register-cycle-there = (([], ([], tt)), (empty, (0, (0, (empty, (0, tt))))), 3, (refl, refl), some 2)
+
+pub register-write-cycle-there : (κs : _) × (a : _) × (r : _) × gm-register-write-cycle.Learnt κs a r a × Refused r
+unfolding first unless stepStatus stepLeft
+register-write-cycle-there = (([], ([], tt)), (empty, (0, (0, (0, (0, (empty, (0, tt))))))), 3, (refl, refl), some 2)
 
 pub cycle-there : (κs : _) × (a : _) × (r : _) × gm-cycle.Learnt κs a r a × Refused r
 unfolding first unless rowStatus cycleStatus lentStatus lentLeft imagesStatus imagesLeft

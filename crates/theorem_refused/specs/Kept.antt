@@ -21,6 +21,10 @@ use Rattle.gm.proofs.gm_send_vote.Reads as gm-send-vote
 use Rattle.gm.proofs.gm_read_vote.Reads as gm-read-vote
 use Rattle.gm.proofs.gm_receive_vote.Reads as gm-receive-vote
 use Rattle.gm.proofs.gm_decide.Reads as gm-decide
+use Rattle.gm.proofs.gm_register_read.Reads as gm-register-read
+use Rattle.gm.proofs.gm_register_write.Reads as gm-register-write
+use Rattle.gm.proofs.gm_register_cycle.Reads as gm-register-cycle
+use Rattle.gm.proofs.gm_register_write_cycle.Reads as gm-register-write-cycle
 use Rattle.gm.proofs.gm_cycle.Reads as gm-cycle
 use Rattle.gm.proofs.gm_run.Reads as gm-run
 use Rattle.gm.proofs.gm_run_frames.Reads as gm-run-frames
@@ -75,6 +79,14 @@ pub record RefusedKept : Type 1 where
       → Kept (a .1 .1 .1 .1 .1 .0) (s .1 .1 .1 .1 .1 .0) × Kept (a .1 .1 .1 .1 .1 .1 .0) (s .1 .1 .1 .1 .1 .1 .0)
   -- gm_decide(state, heard0, heard1, votes, arrived): the state
   pub decide : (κs : _) (a : _) (r : _) (s : _) → gm-decide.Learnt κs a r s → Refused r → Kept (a .0) (s .0)
+  -- gm_register_read(block, address, value): the value
+  pub register-read : (κs : _) (a : _) (r : _) (s : _) → gm-register-read.Learnt κs a r s → Refused r → Kept (a .1 .1 .0) (s .1 .1 .0)
+  -- gm_register_write(block, address, value): the block
+  pub register-write : (κs : _) (a : _) (r : _) (s : _) → gm-register-write.Learnt κs a r s → Refused r → Kept (a .0) (s .0)
+  -- gm_register_cycle(block, heard0, heard1, votes, arrived): the block
+  pub register-cycle : (κs : _) (a : _) (r : _) (s : _) → gm-register-cycle.Learnt κs a r s → Refused r → Kept (a .0) (s .0)
+  -- gm_register_write_cycle(block, address, value, heard0, heard1, votes, arrived): the block
+  pub register-write-cycle : (κs : _) (a : _) (r : _) (s : _) → gm-register-write-cycle.Learnt κs a r s → Refused r → Kept (a .0) (s .0)
   -- gm_cycle(n, row, cycle), gm_run(row, table): the row
   pub cycle : (κs : _) (a : _) (r : _) (s : _) → gm-cycle.Learnt κs a r s → Refused r → Kept (a .1 .0) (s .1 .0)
   pub run : (κs : _) (a : _) (r : _) (s : _) → gm-run.Learnt κs a r s → Refused r → Kept (a .0) (s .0)

@@ -1,0 +1,53 @@
+-- Three flags are the low three bits of a byte. Assumes nothing.
+use mathlib.Core.Path.{_≡_, refl}
+use mathlib.Core.Bool.{Bool, true, false}
+use Prim.Native.Nat.{ℕ, zero, suc, _<_}
+use native.Mathlib.Omega.{arith}
+use lib.Dec.{ltb}
+use Rattle.sets.specs.Sets.{has}
+use Rattle.sets.proofs.Booleans.{ltb-lt}
+use Rattle.registers.specs.declared.Flags.{Flags}
+use Rattle.registers.specs.Block.{flagsByte, flagsIn}
+
+abbrev pub three : Bool → Bool → Bool → Flags
+three c h e = record { changed = c; halted = h; entered = e }
+
+pub flags-back : (f : Flags) → flagsIn (flagsByte f) ≡ f
+unfolding has
+flags-back f = go (f .changed) (f .halted) (f .entered)
+  where
+    go : (c h e : Bool) → flagsIn (flagsByte (three c h e)) ≡ three c h e
+    go true true true = refl
+    go true true false = refl
+    go true false true = refl
+    go true false false = refl
+    go false true true = refl
+    go false true false = refl
+    go false false true = refl
+    go false false false = refl
+
+pub flags-few : (f : Flags) → ltb (flagsByte f) 8 ≡ true
+flags-few f = go (f .changed) (f .halted) (f .entered)
+  where
+    go : (c h e : Bool) → ltb (flagsByte (three c h e)) 8 ≡ true
+    go true true true = refl
+    go true true false = refl
+    go true false true = refl
+    go true false false = refl
+    go false true true = refl
+    go false true false = refl
+    go false false true = refl
+    go false false false = refl
+
+-- a byte that has no other bits
+pub byte-back : (b : ℕ) → ltb b 8 ≡ true → flagsByte (flagsIn b) ≡ b
+unfolding has
+byte-back zero h = refl
+byte-back (suc zero) h = refl
+byte-back (suc (suc zero)) h = refl
+byte-back (suc (suc (suc zero))) h = refl
+byte-back (suc (suc (suc (suc zero)))) h = refl
+byte-back (suc (suc (suc (suc (suc zero))))) h = refl
+byte-back (suc (suc (suc (suc (suc (suc zero)))))) h = refl
+byte-back (suc (suc (suc (suc (suc (suc (suc zero))))))) h = refl
+byte-back (suc (suc (suc (suc (suc (suc (suc (suc b)))))))) h = let l : suc (suc (suc (suc (suc (suc (suc (suc b))))))) < 8 = ltb-lt h in absurd (omega arith)

@@ -1,0 +1,47 @@
+-- The flags of the card and the columns of a printed run speak of the same cycle. Assumes nothing.
+use mathlib.Core.Path.{_≡_, refl, sym, ap, ap₂, _∙_}
+use mathlib.Core.Bool.{Bool, true, false, _&&_}
+use Prim.Native.Nat.{ℕ, _<_}
+use Rattle.sets.specs.Sets.{has}
+use Rattle.sets.proofs.Nodes.{those-in}
+use Rattle.state.specs.declared.State.{State}
+use Rattle.state.specs.declared.State.the-variants.{Out, Joining, Member}
+use Rattle.state.specs.State.{halted}
+use Rattle.rules.specs.declared.Faults.{Faults}
+use Rattle.rules.specs.declared.Config.{Config}
+use Rattle.rules.specs.OneCycle.{stopped, stopAndStart, sendsMember, sendsJoin}
+use Rattle.rules.specs.Faults.{Row, at, ruleOne, cycle}
+use Rattle.rules.specs.Reference.{haltedIn, enteredIn}
+use Rattle.rules.proofs.Rows.{get-tabulate}
+use Rattle.registers.specs.Steps.{haltedBy, enteredBy, raisedBy}
+
+halted-by : (s t : State) → haltedBy s t ≡ (sendsMember s && halted t)
+halted-by (Out r) t = refl
+halted-by Joining t = refl
+halted-by (Member g) t = refl
+
+entered-by : (s t : State) → enteredBy s t ≡ (sendsJoin s && sendsMember t)
+entered-by (Out r) t = refl
+entered-by Joining (Out r) = refl
+entered-by Joining Joining = refl
+entered-by Joining (Member h) = refl
+entered-by (Member g) t = refl
+
+-- rule 1 leaves a node that is neither stopped nor started
+left-alone : (n : ℕ) (c : Faults) (row : Row) (q : ℕ) → q < n → has q (c .stop) ≡ false → has q (c .start) ≡ false → at (ruleOne n c row) q ≡ at row q
+unfolding ruleOne stopAndStart
+left-alone n c row q l a b =
+    get-tabulate n q (λ x. stopAndStart (has x (c .stop)) (has x (c .start)) (at row x)) stopped l
+    ∙ ap₂ (λ (stop start : Bool). stopAndStart stop start (at row q)) a b
+
+-- In a cycle of the rules in which q is neither stopped nor started, its states raise halted exactly if q is among the halted of the run, and entered exactly if it is
+-- among the entered.
+pub flags-of-a-run : (C : Config) (c : Faults) (row : Row) (q : ℕ) → q < C .nodes → has q (c .stop) ≡ false → has q (c .start) ≡ false
+    → (raisedBy (at row q) (at (cycle C c row) q) .halted ≡ has q (haltedIn C c row)) × (raisedBy (at row q) (at (cycle C c row) q) .entered ≡ has q (enteredIn C c row))
+unfolding raisedBy haltedIn enteredIn
+flags-of-a-run C c row q l a b =
+    let before = sym (left-alone (C .nodes) c row q l a b) in
+    let left = at (cycle C c row) q in (
+      halted-by (at row q) left ∙ ap (λ (s : State). sendsMember s && halted left) before ∙ sym (those-in q (C .nodes) _ l),
+      entered-by (at row q) left ∙ ap (λ (s : State). sendsJoin s && sendsMember left) before ∙ sym (those-in q (C .nodes) _ l),
+    )

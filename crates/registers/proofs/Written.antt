@@ -1,0 +1,151 @@
+-- What writes and cycles do to the flags, and how it looks in the bytes. Assumes nothing.
+use mathlib.Core.Path.{_≡_, refl, sym, ap, _∙_}
+use mathlib.Core.Bool.{Bool, true, false, not, _&&_, _||_, cond}
+use mathlib.Core.List.{List}
+use Prim.Native.Nat.{ℕ, _%_, _^_, _≤_, _<_}
+use native.Mathlib.Nat.{mod-lt}
+use native.Mathlib.Omega.{arith}
+use lib.Dec.{eqb, ltb, lit<}
+use lib.Bits.{bitAnd, and-le-l, or-lt}
+use borrow.Author.Tests.{ne-eqb, lt-ltb}
+use Rattle.sets.specs.Sets.{has, _∪_, _∩_, _∖_, below}
+use Rattle.sets.proofs.Booleans.{ltb-lt}
+use Rattle.sets.proofs.Membership.{has-union, has-inter, has-diff}
+use Rattle.sets.proofs.Nodes.{has-below}
+use Rattle.state.specs.declared.State.{State}
+use Rattle.state.specs.declared.State.the-variants.{Out, Joining, Member}
+use Rattle.state.specs.State.{halted}
+use Rattle.rules.specs.OneCycle.{stopAndStart}
+use Rattle.registers.specs.declared.Flags.{Flags}
+use Rattle.registers.specs.declared.Machine.{Machine}
+use Rattle.registers.specs.Block.{flagsByte, flagsIn, pendingByte}
+use Rattle.registers.specs.Steps.{Cycle, WriteCycle, cleared, written, raisedBy, raised, cycled, stepped}
+use Rattle.registers.proofs.Bits.{three, flags-back, flags-few, byte-back}
+
+-- ---- by address
+
+-- "Writes to bytes 0 to 23 and to 26 do nothing. .. Bytes 28 to 63 .. ignore writes."
+pub ignored : (a v : ℕ) (m : Machine) → (a ≡ 24 → ⊥) → (a ≡ 25 → ⊥) → (a ≡ 27 → ⊥) → written a v m ≡ m
+unfolding written
+ignored a v m f e c = rw (ne-eqb a 24 f, ne-eqb a 25 e, ne-eqb a 27 c)
+
+-- only a command changes the node
+pub node-kept : (a v : ℕ) (m : Machine) → (a ≡ 27 → ⊥) → written a v m .node ≡ m .node
+unfolding written
+node-kept a v m c = rw (ne-eqb a 27 c) (go (eqb a 24) (eqb a 25))
+  where
+    go : (b d : Bool) → cond b (record { node = m .node; flags = cleared v (m .flags); enables = m .enables }) (cond d (record { node = m .node; flags = m .flags; enables = flagsIn v }) m) .node ≡ m .node
+    go true d = refl
+    go false true = refl
+    go false false = refl
+
+-- so that a cycle alone is one together with such a write
+pub cycle-alone : (heard0 heard1 : ℕ) (votes : List ℕ) (arrived : ℕ) (m : Machine)
+    → stepped (Cycle heard0 heard1 votes arrived) m ≡ stepped (WriteCycle 28 0 heard0 heard1 votes arrived) m
+unfolding written
+cycle-alone heard0 heard1 votes arrived m = refl
+
+-- ---- in bytes
+
+-- a byte below 8 is known by its three bits
+by-bits : (b : ℕ) (f : Flags) → b < 8 → has 0 b ≡ f .changed → has 1 b ≡ f .halted → has 2 b ≡ f .entered → flagsByte f ≡ b
+by-bits b f l c h e = ap flagsByte (λ i. three (sym c i) (sym h i) (sym e i)) ∙ byte-back b (lt-ltb b 8 l)
+
+few : (f : Flags) → flagsByte f < 8
+few f = ltb-lt (flags-few f)
+
+-- a flag is its bit of the byte
+bit0 : (f : Flags) → has 0 (flagsByte f) ≡ f .changed
+bit0 f = ap (λ (g : Flags). g .changed) (flags-back f)
+
+bit1 : (f : Flags) → has 1 (flagsByte f) ≡ f .halted
+bit1 f = ap (λ (g : Flags). g .halted) (flags-back f)
+
+bit2 : (f : Flags) → has 2 (flagsByte f) ≡ f .entered
+bit2 f = ap (λ (g : Flags). g .entered) (flags-back f)
+
+-- "A one written to a flag clears it, a zero does nothing.": byte 24 without the bits of the value
+pub cleared-byte : (v : ℕ) (f : Flags) → flagsByte (cleared v f) ≡ flagsByte f ∖ v
+unfolding _∖_
+cleared-byte v f =
+    let x = flagsByte f in
+    let l = few f in
+    by-bits (x ∖ v) (cleared v f) (omega arith) (without 0 (f .changed) (bit0 f)) (without 1 (f .halted) (bit1 f)) (without 2 (f .entered) (bit2 f))
+  where
+    without : (q : ℕ) (b : Bool) → has q (flagsByte f) ≡ b → has q (flagsByte f ∖ v) ≡ (b && not (has q v))
+    without q b e = has-diff q (flagsByte f) v ∙ ap (λ (t : Bool). t && not (has q v)) e
+
+-- "Byte 25 .. keeps only its low three bits"
+pub low-three : (v : ℕ) → flagsByte (flagsIn v) ≡ v % 8
+unfolding below
+low-three v = by-bits (below 3 v) (flagsIn v) (mod-lt v (lit< tt)) (has-below 0 3 v) (has-below 1 3 v) (has-below 2 3 v)
+
+-- flags stay set until they are cleared: byte 24 with the bits that the cycle raised
+pub raised-byte : (f g : Flags) → flagsByte (raised f g) ≡ flagsByte f ∪ flagsByte g
+unfolding _∪_
+raised-byte f g =
+    by-bits (flagsByte f ∪ flagsByte g) (raised f g) (or-lt 3 (flagsByte f) (flagsByte g) (few f) (few g))
+    (one 0 (f .changed) (g .changed) (bit0 f) (bit0 g)) (one 1 (f .halted) (g .halted) (bit1 f) (bit1 g)) (one 2 (f .entered) (g .entered) (bit2 f) (bit2 g))
+  where
+    one : (q : ℕ) (b c : Bool) → has q (flagsByte f) ≡ b → has q (flagsByte g) ≡ c → has q (flagsByte f ∪ flagsByte g) ≡ (b || c)
+    one q b c d e = has-union q (flagsByte f) (flagsByte g) ∙ (λ i. d i || e i)
+
+-- "byte 26 is 1 exactly when an enabled flag is set, else 0": when the two bytes share a bit
+pub pending-byte : (f e : Flags) → pendingByte f e ≡ cond (eqb (flagsByte f ∩ flagsByte e) 0) 0 1
+unfolding _∩_
+pending-byte f e =
+    some (f .changed && e .changed) (f .halted && e .halted) (f .entered && e .entered)
+    ∙ ap (λ (b : ℕ). cond (eqb b 0) 0 1)
+    (by-bits (flagsByte f ∩ flagsByte e) (three (f .changed && e .changed) (f .halted && e .halted) (f .entered && e .entered)) less
+    (one 0 (f .changed) (e .changed) (bit0 f) (bit0 e)) (one 1 (f .halted) (e .halted) (bit1 f) (bit1 e)) (one 2 (f .entered) (e .entered) (bit2 f) (bit2 e)))
+  where
+    less : flagsByte f ∩ flagsByte e < 8
+    less = let l = few f in let k = and-le-l (flagsByte f) (flagsByte e) in omega arith
+
+    one : (q : ℕ) (b c : Bool) → has q (flagsByte f) ≡ b → has q (flagsByte e) ≡ c → has q (flagsByte f ∩ flagsByte e) ≡ (b && c)
+    one q b c d k = has-inter q (flagsByte f) (flagsByte e) ∙ (λ i. d i && k i)
+
+    some : (c h n : Bool) → _≡_ {A = ℕ} (cond (c || h || n) 1 0) (cond (eqb (flagsByte (three c h n)) 0) 0 1)
+    some true true true = refl
+    some true true false = refl
+    some true false true = refl
+    some true false false = refl
+    some false true true = refl
+    some false true false = refl
+    some false false true = refl
+    some false false false = refl
+
+-- ---- what a cycle raises
+
+and-no : (b : Bool) → (b && false) ≡ false
+and-no true = refl
+and-no false = refl
+
+-- one cycle raises at most one flag
+pub at-most-one : (s t : State) → let f = raisedBy s t in ((f .changed && f .halted) ≡ false) × ((f .changed && f .entered) ≡ false) × ((f .halted && f .entered) ≡ false)
+unfolding raisedBy
+at-most-one (Out r) t = (refl, refl, refl)
+at-most-one Joining t = (refl, refl, refl)
+at-most-one (Member g) (Out r) = (refl, refl, and-no (halted (Out r)))
+at-most-one (Member g) Joining = (refl, refl, refl)
+at-most-one (Member g) (Member h) = (and-no (not (eqb (g .set) (h .set))), and-no (not (eqb (g .set) (h .set))), refl)
+
+-- "raising no flag": a stop, also together with a cycle
+pub stop-raises-none : (heard0 heard1 : ℕ) (votes : List ℕ) (arrived : ℕ) (m : Machine) → stepped (WriteCycle 27 1 heard0 heard1 votes arrived) m .flags ≡ m .flags
+unfolding written cycled raisedBy stopAndStart
+stop-raises-none heard0 heard1 votes arrived m = λ i. three (or-none (m .flags .changed) i) (or-none (m .flags .halted) i) (or-none (m .flags .entered) i)
+  where
+    or-none : (b : Bool) → (b || false) ≡ b
+    or-none true = refl
+    or-none false = refl
+
+-- "A flag raised in the same step as it is cleared stays set."
+pub stays-set : (a v heard0 heard1 : ℕ) (votes : List ℕ) (arrived : ℕ) (m : Machine) (flag : Flags → Bool) → ((f g : Flags) → flag (raised f g) ≡ (flag f || flag g))
+    → flag (raisedBy (written a v m .node .state) (stepped (WriteCycle a v heard0 heard1 votes arrived) m .node .state)) ≡ true
+    → flag (stepped (WriteCycle a v heard0 heard1 votes arrived) m .flags) ≡ true
+unfolding cycled
+stays-set a v heard0 heard1 votes arrived m flag each e = each _ _ ∙ ap (λ (b : Bool). flag (written a v m .flags) || b) e ∙ or-yes (flag (written a v m .flags))
+  where
+    or-yes : (b : Bool) → (b || true) ≡ true
+    or-yes true = refl
+    or-yes false = refl

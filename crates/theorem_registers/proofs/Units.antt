@@ -1,0 +1,102 @@
+-- The promise for units that keep their states in blocks. Assumes nothing.
+use mathlib.Core.Path.{_≡_, refl, sym, ap, ap₂, _∙_}
+use mathlib.Core.Bool.{Bool, true, false}
+use mathlib.Core.List.{List}
+use Prim.Native.Nat.{ℕ}
+use lib.ListN.{length, take}
+use denote.Ref.{now}
+use Rattle.refusal.proofs.Laws.{unless-done}
+use Rattle.state.specs.declared.Node.{Node}
+use Rattle.state.specs.declared.Decoded.{Decoded}
+use Rattle.state.specs.declared.Decoded.the-variants.{Good}
+use Rattle.state.specs.Image.{imageOf, decoded, refusal}
+use Rattle.entry_lent.specs.Refusals.{imageStatus}
+use Rattle.entry_lent.proofs.Bounds.{length-is}
+use Rattle.entry_lent.proofs.Images.{by-image}
+use Rattle.entry_stop_start.specs.StopStart.{stoppedAndStarted, ruleOneOf, stopLeft, startLeft}
+use Rattle.entry_decide.specs.Decide.{decideStatus, decidedFrom, decideLeft}
+use Rattle.registers.specs.declared.Machine.{Machine}
+use Rattle.registers.specs.Steps.{Step, Write, Cycle, WriteCycle, commanded, written, decidedNode, cycled, stepped, wrongVotes, stepStatus, stepLeft}
+use Rattle.registers.proofs.Blocks.{image-part}
+use Rattle.registers.proofs.Found.{image-in, accepted, done-left}
+use Rattle.registers.proofs.Written.{node-kept}
+use Rattle.theorem_unit_calls.specs.Entries.{Within, byDefinition}
+use Rattle.theorem_unit_calls.specs.Promise.{OverUnits, OverAnyBus}
+use Rattle.theorem_unit_calls.proofs.Press.{over-units, over-any-bus}
+use Rattle.theorem_units.proofs.Compiled as single
+use Rattle.theorem_registers.specs.Units.{Commands, command, Cycles, alone, with-a-write, inBlocks}
+
+-- ---- what an accepted step does to the state in a block
+
+-- the machine before, and the state after
+record Did (t : Step) (x y : List ℕ) : Type 0 where
+  machine : Machine
+  held : decoded (take 24 x) ≡ Good (machine .node)
+  voted : wrongVotes t ≡ false
+  state : take 24 y ≡ imageOf (stepped t machine .node)
+
+did : (t : Step) (x y : List ℕ) (r : ℕ) → r ≡ stepStatus t x → y ≡ stepLeft t x → r ≡ 0 → Did t x y
+did t x y r e l z =
+    let m = accepted t x (sym e ∙ z) in
+    record {
+      machine = m .0;
+      held = image-in x (m .0) (m .1);
+      voted = m .2;
+      state = ap (take 24) (l ∙ done-left t x (m .0) (m .1) (sym e ∙ z)) ∙ image-part (stepped t (m .0));
+    }
+
+-- a command is rule 1 on that state
+command-told : (v : ℕ) (stop start : Bool) → ((n : Node) → commanded v n ≡ stoppedAndStarted stop start n) → (x y : List ℕ) → Commands v x y
+    → (0 ≡ imageStatus x) × (y ≡ ruleOneOf stop start (decoded x) x)
+unfolding imageStatus written
+command-told v stop start rule x y (command κs a r s l z p q) =
+    let d = did (Write 27 v) (now (a .0)) (now (s .0)) r
+    (l .0 ∙ ap₂ (λ (i w : ℕ). stepStatus (Write i w) (now (a .0))) p q) (l .1 ∙ ap₂ (λ (i w : ℕ). stepLeft (Write i w) (now (a .0))) p q) z in (
+      sym (ap refusal (d .held)),
+      d .state ∙ ap imageOf (rule (d .machine .node)) ∙ sym (ap (λ (x : Decoded). ruleOneOf stop start x (take 24 (now (a .0)))) (d .held)),
+    )
+
+-- a cycle, alone or with a write that is no command, decides as `gm_decide` does
+module _ (t : Step) (heard0 heard1 : ℕ) (votes : List ℕ) (arrived : ℕ) (x y : List ℕ) (d : Did t x y) where
+  cycle-told : (wrongVotes t ≡ false → length votes ≡ 1792) → stepped t (d .machine) .node ≡ decidedNode heard0 heard1 votes arrived (d .machine .node)
+      → (0 ≡ decideStatus (take 24 x) votes) × (take 24 y ≡ decideLeft (take 24 x) heard0 heard1 votes arrived)
+  unfolding decideStatus decideLeft
+  cycle-told sized same =
+      let status : 0 ≡ decideStatus (take 24 x) votes = sym (ap refusal (d .held)) ∙ by-image (take 24 x) votes 1792 (sized (d .voted)) in (
+        status,
+        d .state ∙ ap imageOf same
+            ∙ sym (unless-done _ _ _ (sym status) ∙ ap (λ (z : Decoded). decidedFrom z heard0 heard1 votes arrived (take 24 x)) (d .held)),
+      )
+
+decide-told : (x : List ℕ) (heard0 heard1 : ℕ) (votes : List ℕ) (arrived : ℕ) (y : List ℕ) → Cycles x heard0 heard1 votes arrived y
+    → (0 ≡ decideStatus x votes) × (y ≡ decideLeft x heard0 heard1 votes arrived)
+unfolding cycled
+decide-told x heard0 heard1 votes arrived y (alone κs a r s l z) =
+    cycle-told (Cycle heard0 heard1 votes arrived) heard0 heard1 votes arrived (now (a .0)) (now (s .0)) (did (Cycle heard0 heard1 votes arrived) (now (a .0)) (now (s .0)) r (l .0) (l .1) z) (length-is 1792 votes) refl
+decide-told x heard0 heard1 votes arrived y (with-a-write κs a r s l z c) =
+    let t = WriteCycle (a .1 .0) (a .1 .1 .0) heard0 heard1 votes arrived in
+    let d = did t (now (a .0)) (now (s .0)) r (l .0) (l .1) z in
+    cycle-told t heard0 heard1 votes arrived (now (a .0)) (now (s .0)) d (length-is 1792 votes)
+    (ap (decidedNode heard0 heard1 votes arrived) (node-kept (a .1 .0) (a .1 .1 .0) (d .machine) c))
+
+-- ---- and so the promise holds of units that keep their states in blocks
+
+pub told : Within inBlocks byDefinition
+unfolding stopLeft startLeft
+told =
+    record {
+      begin = single.told .begin;
+      stop = λ x y k. record { lower = command-told 1 true false (λ n. refl) x y k };
+      start = λ x y k. record { lower = command-told 2 false true (λ n. refl) x y k };
+      send-heartbeat = single.told .send-heartbeat;
+      receive-heartbeat = single.told .receive-heartbeat;
+      send-vote = single.told .send-vote;
+      receive-vote = single.told .receive-vote;
+      decide = λ x heard0 heard1 votes arrived y k. record { lower = decide-told x heard0 heard1 votes arrived y k };
+    }
+
+pub block-units : OverUnits inBlocks
+block-units = over-units inBlocks told
+
+pub block-any-bus : OverAnyBus inBlocks
+block-any-bus = over-any-bus inBlocks told
