@@ -31,7 +31,7 @@ pub fn write8(x: u64) -> [u8; 8]
 }
 
 // A cast of its own, so that a read asks for its index alone.
-fn wide(x: u8) -> u32
+pub fn wide(x: u8) -> u32
     ensures { λ r. ⌜ r ≡ x ⌝ }
     ensures { λ r. ⌜ r < 256 ⌝ }
 {

@@ -14,11 +14,13 @@ use Rattle.state.specs.declared.Decoded.{Decoded}
 use Rattle.state.specs.declared.Decoded.the-variants.{Good, WrongLength as OfAnotherLength, Malformed as NoImage}
 use Rattle.state.specs.Image.{decoded}
 use Rattle.entry_lent.specs.Refusals.{wrongLength}
+use Rattle.entry_lent.proofs.Bounds.{length-is}
 use Rattle.registers.specs.declared.Machine.{Machine}
 use Rattle.registers.specs.declared.LentBlock.{LentBlock}
 use Rattle.registers.specs.declared.LentBlock.the-variants.{Holds, WrongLength, Malformed}
 use Rattle.registers.specs.Block.{blockOf, shown, readsSo, machineIn, registersAt}
-use Rattle.registers.specs.Steps.{Step, Read, stepped, readIn, wrongAddress, wrongVotes, malformedBlock, stepStatus, leftIn, stepLeft, readAt, stepRead, resultOf, stepValue}
+use Rattle.registers.proofs.Written.{cycle-alone}
+use Rattle.registers.specs.Steps.{Step, Read, Cycle, WriteCycle, stepped, readIn, wrongAddress, wrongVotes, malformedBlock, stepStatus, leftIn, stepLeft, readAt, stepRead, resultOf, stepValue}
 
 -- a block of another length than 64
 abbrev isWrong : LentBlock → Bool
@@ -36,6 +38,9 @@ length-read s = go (eqb (length s) 64) (readsSo s) (decoded (take 24 s))
     go true true NoImage = refl
     go true false d = refl
     go false c d = refl
+
+pub holds-length : (s : List ℕ) (m : Machine) → registersAt s ≡ Holds m → length s ≡ 64
+holds-length s m e = length-is 64 s (length-read s ∙ ap isWrong e)
 
 -- the node of a block stands in its first 24 bytes
 pub image-in : (s : List ℕ) (m : Machine) → registersAt s ≡ Holds m → decoded (take 24 s) ≡ Good (m .node)
@@ -99,6 +104,19 @@ module _ (t : Step) (s : List ℕ) where
   pub refused-value : (before : ℕ) → (stepStatus t s ≡ 0 → ⊥) → stepValue t s before ≡ before
   unfolding stepValue
   refused-value before h = ap (λ (o : Option ℕ). resultOf o before) (refused-read h)
+
+-- a cycle is one together with a write that does nothing
+pub cycle-as-write : (heard0 heard1 : ℕ) (votes : List ℕ) (arrived : ℕ) (s : List ℕ)
+    → (stepStatus (WriteCycle 28 0 heard0 heard1 votes arrived) s ≡ stepStatus (Cycle heard0 heard1 votes arrived) s)
+    × (stepLeft (WriteCycle 28 0 heard0 heard1 votes arrived) s ≡ stepLeft (Cycle heard0 heard1 votes arrived) s)
+unfolding stepStatus stepLeft
+cycle-as-write heard0 heard1 votes arrived s =
+    (refl, ap (λ (left : List ℕ). unless (stepStatus (Cycle heard0 heard1 votes arrived) s) left s) (go (registersAt s)))
+  where
+    go : (d : LentBlock) → leftIn (WriteCycle 28 0 heard0 heard1 votes arrived) d s ≡ leftIn (Cycle heard0 heard1 votes arrived) d s
+    go (Holds m) = ap blockOf (sym (cycle-alone heard0 heard1 votes arrived m))
+    go WrongLength = refl
+    go Malformed = refl
 
 -- a read
 pub done-read : (a : ℕ) (s : List ℕ) (m : Machine) → registersAt s ≡ Holds m → stepStatus (Read a) s ≡ 0 → stepRead (Read a) s ≡ some (shown m a)

@@ -1,7 +1,7 @@
 pub mod Bits
 pub mod Blocks
-pub mod Found
 pub mod Written
+pub mod Found
 pub mod Formed
 pub mod Series
 pub mod Run

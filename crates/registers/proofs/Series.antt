@@ -62,6 +62,6 @@ series m (t ∷ ts) f =
     let rest = series (next t m) ts (next-formed t m f) in
     let left = left-of t m f in (
       ap₂ (λ (x : Shown) (xs : List Shown). x ∷ xs) (λ i. record { status = status-of t m f i; byte = read-of t m f i })
-      (ap (λ (s : List ℕ). blockShows s ts) left ∙ rest .0),
+          (ap (λ (s : List ℕ). blockShows s ts) left ∙ rest .0),
       ap (λ (s : List ℕ). blockAfter s ts) left ∙ rest .1,
     )
