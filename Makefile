@@ -129,8 +129,8 @@ $(PLAIN): $(wildcard bench/plain/*)
 # the entries of gm.h in plain C
 $(PLAINLIB): $(wildcard bench/plain/*)
 	@mkdir -p $(BUILD)/plain
-	@for part in frames node cluster records rows; do $(C99) -O3 -c bench/plain/$$part.c -o $(BUILD)/plain/$$part.o || exit 1; done
-	@rm -f $@ && ar rcs $@ $(addprefix $(BUILD)/plain/,frames.o node.o cluster.o records.o rows.o)
+	@for part in frames node registers cluster records rows; do $(C99) -O3 -c bench/plain/$$part.c -o $(BUILD)/plain/$$part.o || exit 1; done
+	@rm -f $@ && ar rcs $@ $(addprefix $(BUILD)/plain/,frames.o node.o registers.o cluster.o records.o rows.o)
 
 # the stored tables give their stored runs
 vectors-test: $(GROUPRUN)

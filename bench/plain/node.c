@@ -67,19 +67,30 @@ uint32_t plain_begin(uint32_t n, uint32_t node, uint64_t founding, uint8_t *stat
     return 0;
 }
 
+void stop_node(uint8_t *s)
+{
+    leave(s, OUT, 0);
+}
+
+void start_node(uint8_t *s)
+{
+    if (s[0] == OUT)
+        leave(s, JOINING, 0);
+}
+
 uint32_t plain_stop(uint8_t *state, size_t state_len)
 {
     uint32_t refused = refused_state(state, state_len);
     if (refused == 0)
-        leave(state, OUT, 0);
+        stop_node(state);
     return refused;
 }
 
 uint32_t plain_start(uint8_t *state, size_t state_len)
 {
     uint32_t refused = refused_state(state, state_len);
-    if (refused == 0 && state[0] == OUT)
-        leave(state, JOINING, 0);
+    if (refused == 0)
+        start_node(state);
     return refused;
 }
 
@@ -231,19 +242,25 @@ static void joiner(uint8_t *s, const struct votes *v)
         become_member(s, &found, voters, view);
 }
 
-uint32_t plain_decide(uint8_t *state, size_t state_len, uint64_t heard0, uint64_t heard1, const uint8_t *votes, size_t votes_len, uint64_t arrived)
+void decide_node(uint8_t *s, uint64_t heard0, uint64_t heard1, const uint8_t *votes, uint64_t arrived)
 {
     struct votes v;
+    if (s[0] == OUT)
+        return;
+    read_votes(&v, s[3], s[2], votes, arrived);
+    if (s[0] == MEMBER)
+        member(s, view_of(s, heard0, heard1), &v);
+    else
+        joiner(s, &v);
+}
+
+uint32_t plain_decide(uint8_t *state, size_t state_len, uint64_t heard0, uint64_t heard1, const uint8_t *votes, size_t votes_len, uint64_t arrived)
+{
     uint32_t refused;
     if (votes_len != VOTES_BYTES)
         return 3;
     refused = refused_state(state, state_len);
-    if (refused != 0 || state[0] == OUT)
-        return refused;
-    read_votes(&v, state[3], state[2], votes, arrived);
-    if (state[0] == MEMBER)
-        member(state, view_of(state, heard0, heard1), &v);
-    else
-        joiner(state, &v);
-    return 0;
+    if (refused == 0)
+        decide_node(state, heard0, heard1, votes, arrived);
+    return refused;
 }

@@ -1,11 +1,12 @@
-/* The entries of gm.h in plain C, from the product paper alone: what the archive is timed beside. Arguments and refusals are those of gm.h. */
+/* The entries of gm.h in plain C, from the product paper and the requests made after it alone: what the archive is timed beside. Arguments and refusals
+   are those of gm.h. */
 #ifndef PLAIN_H
 #define PLAIN_H
 
 #include <stddef.h>
 #include <stdint.h>
 
-enum { STATE_BYTES = 24, HEARTBEAT_BYTES = 10, VOTE_FRAME_BYTES = 36, VOTE_BYTES = 28, VOTES_BYTES = 1792, FRAMES_BYTES = 9216 };
+enum { STATE_BYTES = 24, HEARTBEAT_BYTES = 10, VOTE_FRAME_BYTES = 36, VOTE_BYTES = 28, VOTES_BYTES = 1792, FRAMES_BYTES = 9216, REGISTERS_BYTES = 64 };
 
 uint32_t plain_begin(uint32_t n, uint32_t node, uint64_t founding, uint8_t *state, size_t state_len);
 uint32_t plain_stop(uint8_t *state, size_t state_len);
@@ -32,10 +33,21 @@ uint32_t plain_decide(uint8_t *state, size_t state_len, uint64_t heard0, uint64_
 uint32_t plain_cycle(uint32_t n, uint8_t *row, size_t row_len, const uint8_t *record, size_t record_len);
 uint32_t plain_run(uint8_t *row, size_t row_len, const uint8_t *table, size_t table_len);
 uint32_t plain_run_frames(uint8_t *row, size_t row_len, const uint8_t *table, size_t table_len, uint8_t *frames, size_t frames_len);
+uint32_t plain_register_read(const uint8_t *block, size_t block_len, uint32_t address, uint32_t *value);
+uint32_t plain_register_write(uint8_t *block, size_t block_len, uint32_t address, uint8_t value);
+uint32_t plain_register_cycle(uint8_t *block, size_t block_len, uint64_t heard0, uint64_t heard1, const uint8_t *votes, size_t votes_len,
+                              uint64_t arrived);
+uint32_t plain_register_write_cycle(uint8_t *block, size_t block_len, uint32_t address, uint8_t value, uint64_t heard0, uint64_t heard1,
+                                    const uint8_t *votes, size_t votes_len, uint64_t arrived);
 
 /* the kinds of a state, and what is well formed: shared by the files of this folder */
 enum { OUT, JOINING, MEMBER };
 int sound_vote(unsigned n, unsigned q, uint64_t set, uint64_t base, uint64_t view);
 int sound_state(const uint8_t *state);
+
+/* what becomes of a sound state in place: rule 1 as a stop and as a start, rules 5 and 6 on 1,792 bytes of votes */
+void stop_node(uint8_t *state);
+void start_node(uint8_t *state);
+void decide_node(uint8_t *state, uint64_t heard0, uint64_t heard1, const uint8_t *votes, uint64_t arrived);
 
 #endif
