@@ -1,4 +1,4 @@
-//! The seventeen entries of the archive, as include/gm.h declares them, on slices, and the same entries in plain C, to be timed beside them. A slice's
+//! The twenty-one entries of the archive, as include/gm.h declares them, on slices, and the same entries in plain C, to be timed beside them. A slice's
 //! pointer is never null, and two slices of which one is mutable never overlap, which is all that the header asks.
 #![allow(unsafe_code)]
 
@@ -11,6 +11,7 @@ macro_rules! linked {
         $begin:ident $stop:ident $start:ident $state:ident $write_heartbeat:ident $send_heartbeat:ident $read_heartbeat:ident
         $receive_heartbeat:ident $view:ident $write_vote:ident $send_vote:ident $read_vote:ident
         $receive_vote:ident $decide:ident $cycle:ident $run:ident $run_frames:ident
+        $register_read:ident $register_write:ident $register_cycle:ident $register_write_cycle:ident
     ) => {
         pub struct $host;
 
@@ -94,6 +95,20 @@ macro_rules! linked {
             fn $cycle(n: u32, row: *mut u8, row_len: usize, record: *const u8, record_len: usize) -> u32;
             fn $run(row: *mut u8, row_len: usize, table: *const u8, table_len: usize) -> u32;
             fn $run_frames(row: *mut u8, row_len: usize, table: *const u8, table_len: usize, frames: *mut u8, frames_len: usize) -> u32;
+            fn $register_read(block: *const u8, block_len: usize, address: u32, value: *mut u32) -> u32;
+            fn $register_write(block: *mut u8, block_len: usize, address: u32, value: u8) -> u32;
+            fn $register_cycle(block: *mut u8, block_len: usize, heard0: u64, heard1: u64, votes: *const u8, votes_len: usize, arrived: u64) -> u32;
+            fn $register_write_cycle(
+                block: *mut u8,
+                block_len: usize,
+                address: u32,
+                value: u8,
+                heard0: u64,
+                heard1: u64,
+                votes: *const u8,
+                votes_len: usize,
+                arrived: u64,
+            ) -> u32;
         }
 
         // SAFETY, of every call below: the pointers and lengths are those of slices and references that live through the call and do not overlap.
@@ -175,6 +190,24 @@ macro_rules! linked {
             fn run_frames(&self, row: &mut [u8], table: &[u8], frames: &mut [u8]) -> u32 {
                 unsafe { $run_frames(row.as_mut_ptr(), row.len(), table.as_ptr(), table.len(), frames.as_mut_ptr(), frames.len()) }
             }
+
+            fn register_read(&self, block: &[u8], address: u32, value: &mut u32) -> u32 {
+                unsafe { $register_read(block.as_ptr(), block.len(), address, value) }
+            }
+
+            fn register_write(&self, block: &mut [u8], address: u32, value: u8) -> u32 {
+                unsafe { $register_write(block.as_mut_ptr(), block.len(), address, value) }
+            }
+
+            fn register_cycle(&self, block: &mut [u8], heard0: u64, heard1: u64, votes: &[u8], arrived: u64) -> u32 {
+                unsafe { $register_cycle(block.as_mut_ptr(), block.len(), heard0, heard1, votes.as_ptr(), votes.len(), arrived) }
+            }
+
+            fn register_write_cycle(&self, block: &mut [u8], address: u32, value: u8, heard0: u64, heard1: u64, votes: &[u8], arrived: u64) -> u32 {
+                unsafe {
+                    $register_write_cycle(block.as_mut_ptr(), block.len(), address, value, heard0, heard1, votes.as_ptr(), votes.len(), arrived)
+                }
+            }
         }
     };
 }
@@ -184,6 +217,7 @@ linked! {
     gm_begin gm_stop gm_start gm_state gm_write_heartbeat gm_send_heartbeat gm_read_heartbeat
     gm_receive_heartbeat gm_view gm_write_vote gm_send_vote gm_read_vote
     gm_receive_vote gm_decide gm_cycle gm_run gm_run_frames
+    gm_register_read gm_register_write gm_register_cycle gm_register_write_cycle
 }
 
 // bench/plain
@@ -193,4 +227,5 @@ linked! {
     plain_begin plain_stop plain_start plain_state plain_write_heartbeat plain_send_heartbeat plain_read_heartbeat
     plain_receive_heartbeat plain_view plain_write_vote plain_send_vote plain_read_vote
     plain_receive_vote plain_decide plain_cycle plain_run plain_run_frames
+    plain_register_read plain_register_write plain_register_cycle plain_register_write_cycle
 }

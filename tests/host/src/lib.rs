@@ -1,4 +1,4 @@
-//! The product paper implemented a second time, from its sentences alone, and the proved archive beside it.
+//! The product paper, and the requests made after it, implemented a second time, from their sentences alone, and the proved archive beside it.
 #![deny(unsafe_code)]
 
 pub mod archive;
@@ -14,7 +14,7 @@ pub fn hex(bytes: &[u8]) -> String {
     bytes.iter().map(|byte| format!("{byte:02x}")).collect()
 }
 
-/// The seventeen entries of include/gm.h, on slices. The paper's implementation and the archive each give them.
+/// The twenty-one entries of include/gm.h, on slices. The paper's implementation and the archive each give them.
 pub trait NodeEnd {
     fn begin(&self, n: u32, node: u32, founding: u64, state: &mut [u8]) -> u32;
     fn stop(&self, state: &mut [u8]) -> u32;
@@ -49,4 +49,9 @@ pub trait NodeEnd {
     fn cycle(&self, n: u32, row: &mut [u8], record: &[u8]) -> u32;
     fn run(&self, row: &mut [u8], table: &[u8]) -> u32;
     fn run_frames(&self, row: &mut [u8], table: &[u8], frames: &mut [u8]) -> u32;
+    fn register_read(&self, block: &[u8], address: u32, value: &mut u32) -> u32;
+    fn register_write(&self, block: &mut [u8], address: u32, value: u8) -> u32;
+    fn register_cycle(&self, block: &mut [u8], heard0: u64, heard1: u64, votes: &[u8], arrived: u64) -> u32;
+    #[allow(clippy::too_many_arguments)]
+    fn register_write_cycle(&self, block: &mut [u8], address: u32, value: u8, heard0: u64, heard1: u64, votes: &[u8], arrived: u64) -> u32;
 }

@@ -1,11 +1,12 @@
-//! The seventeen entries by the paper: "A number is given only where its condition holds, and of several the lowest." "A refusal returns only its number;
-//! states and buffers do not change."
+//! The twenty-one entries by the paper and the requests made after it: "A number is given only where its condition holds, and of several the lowest." "A
+//! refusal returns only its number; states and buffers do not change."
 use super::faults::cycle;
 use super::frames::{
-    arrived_votes, heartbeat, read_heartbeat, read_vote, receive_heartbeat, receive_vote, vote_frame, vote_is_sound, vote_payload, HEARTBEAT_BYTES,
+    decide_on_slots, heartbeat, read_heartbeat, read_vote, receive_heartbeat, receive_vote, vote_frame, vote_is_sound, vote_payload, HEARTBEAT_BYTES,
     VOTES_BYTES, VOTE_BYTES, VOTE_FRAME_BYTES,
 };
-use super::rules::{decide, rule1, rule2, rule3, rule4, Heard, Vote};
+use super::registers::{block_of, cycled, read_block, shown, written, Machine, BLOCK_BYTES};
+use super::rules::{rule1, rule2, rule3, rule4, Heard, Vote};
 use super::run::{run, run_frames, FRAMES_BYTES};
 use super::sets::{self, all, inside, only};
 use super::state::{beginning, image, read_image, read_row, row_image, Group, State, Unit, IMAGE_BYTES};
@@ -100,6 +101,25 @@ fn single_cycle(n: u32, row: &[u8], record: &[u8]) -> Answer<Vec<u8>> {
     let states = read_row(n, row)?;
     let (faults, _) = cycle_record(n, record)?;
     Ok(row_image(&cycle(&states, &faults, None)))
+}
+
+/// the machine that a lent block shows, an address being given: "14 when an address above 63 is read or written, looked at after 4"
+fn addressed(block: &[u8], address: u32) -> Answer<(Machine, usize)> {
+    let machine = read_block(block)?;
+    let address = address as usize;
+    refuse(&[(14, address >= BLOCK_BYTES)])?;
+    Ok((machine, address))
+}
+
+/// "a write": the machine after it
+fn write(block: &[u8], address: u32, value: u8) -> Answer<Machine> {
+    addressed(block, address).map(|(machine, address)| written(&machine, address, value))
+}
+
+/// "a cycle", of the machine that came of what is before it; 3 for votes of another length comes first
+fn cycle_of(before: Answer<Machine>, heard: Heard, votes: &[u8], arrived: u64) -> Answer<Machine> {
+    refuse(&[(3, votes.len() != VOTES_BYTES)])?;
+    before.map(|machine| cycled(&machine, heard, votes, arrived))
 }
 
 impl NodeEnd for Paper {
@@ -205,10 +225,7 @@ impl NodeEnd for Paper {
         if votes.len() != VOTES_BYTES {
             return 3;
         }
-        change(state, |unit| {
-            let votes = arrived_votes(unit.n, unit.node, votes, arrived);
-            decide(unit.n, unit.node, unit.state, heard, &votes, None)
-        })
+        change(state, |unit| decide_on_slots(unit, heard, votes, arrived))
     }
 
     fn cycle(&self, n: u32, row: &mut [u8], record: &[u8]) -> u32 {
@@ -230,5 +247,24 @@ impl NodeEnd for Paper {
                 frames.copy_from_slice(&sent.shown());
             }
         })
+    }
+
+    fn register_read(&self, block: &[u8], address: u32, value: &mut u32) -> u32 {
+        status(addressed(block, address), |(machine, address)| *value = shown(&machine, address).into())
+    }
+
+    fn register_write(&self, block: &mut [u8], address: u32, value: u8) -> u32 {
+        status(write(block, address, value), |machine| block.copy_from_slice(&block_of(&machine)))
+    }
+
+    fn register_cycle(&self, block: &mut [u8], heard0: u64, heard1: u64, votes: &[u8], arrived: u64) -> u32 {
+        let answer = cycle_of(read_block(block), Heard { join0: heard0, join1: heard1 }, votes, arrived);
+        status(answer, |machine| block.copy_from_slice(&block_of(&machine)))
+    }
+
+    /// "a write and a cycle together, the write first"
+    fn register_write_cycle(&self, block: &mut [u8], address: u32, value: u8, heard0: u64, heard1: u64, votes: &[u8], arrived: u64) -> u32 {
+        let answer = cycle_of(write(block, address, value), Heard { join0: heard0, join1: heard1 }, votes, arrived);
+        status(answer, |machine| block.copy_from_slice(&block_of(&machine)))
     }
 }

@@ -1,8 +1,8 @@
 //! "Frames"
 use super::checks::{frame_check, header_check};
-use super::rules::Vote;
+use super::rules::{decide, Heard, Vote};
 use super::sets::{all, has, inside, number};
-use super::state::Group;
+use super::state::{Group, State, Unit};
 use super::Answer;
 
 pub const HEARTBEAT_BYTES: usize = 10;
@@ -188,4 +188,9 @@ pub fn receive_vote(n: usize, node: usize, cycle: u32, a: &[u8], b: &[u8]) -> Op
 pub fn arrived_votes(n: usize, node: usize, slots: &[u8], mask: u64) -> Vec<Option<Vote>> {
     let slot = |q: usize| vote_of(&slots[VOTE_BYTES * q..VOTE_BYTES * (q + 1)]);
     (0..n).map(|q| Some(slot(q)).filter(|vote| q != node && has(mask, q) && vote_is_sound(n, q, vote))).collect()
+}
+
+/// the state of a unit after rules 5 and 6, on votes as they are lent
+pub fn decide_on_slots(unit: &Unit, heard: Heard, slots: &[u8], mask: u64) -> State {
+    decide(unit.n, unit.node, unit.state, heard, &arrived_votes(unit.n, unit.node, slots, mask), None)
 }

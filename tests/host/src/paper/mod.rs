@@ -1,4 +1,4 @@
-//! The product paper, section by section. Written to be read beside it; nothing here is fast.
+//! The product paper, section by section, and the requests made after it. Written to be read beside them; nothing here is fast.
 #![forbid(unsafe_code)]
 
 pub mod checks;
@@ -7,6 +7,7 @@ pub mod faults;
 pub mod frames;
 pub mod printed;
 pub mod record;
+pub mod registers;
 pub mod rules;
 pub mod run;
 pub mod sets;

@@ -1,9 +1,11 @@
 //! A press run over a fault table, plain and through frames.
 use super::faults::{after_rule1, cycle, Faults};
-use super::frames::{arrived_votes, heartbeat, receive_heartbeat, receive_vote, vote_frame, vote_payload, VOTES_BYTES, VOTE_BYTES, VOTE_FRAME_BYTES};
-use super::rules::{decide, rule2, rule4, Heard};
+use super::frames::{
+    decide_on_slots, heartbeat, receive_heartbeat, receive_vote, vote_frame, vote_payload, VOTES_BYTES, VOTE_BYTES, VOTE_FRAME_BYTES,
+};
+use super::rules::{rule2, rule4, Heard};
 use super::sets::{only, Set};
-use super::state::{beginning, State};
+use super::state::{beginning, State, Unit};
 
 /// "a table's run first sets it to the beginning"
 pub fn run(n: usize, founding: Set, cycles: &[Faults]) -> Vec<State> {
@@ -64,7 +66,7 @@ fn frames_cycle(row: &[State], faults: &Faults, cycle_number: usize) -> (Vec<Sta
         (0..n).map(|q| rule4(n, q, row[q], heard[q], None).map(|vote| [0, 1].map(|channel| vote_frame(q, &vote, count, channel)))).collect();
     let decided = |to: usize| {
         let (slots, mask) = collect(n, &votes, faults, to, count);
-        decide(n, to, row[to], heard[to], &arrived_votes(n, to, &slots, mask), None)
+        decide_on_slots(&Unit { n, node: to, state: row[to] }, heard[to], &slots, mask)
     };
     ((0..n).map(decided).collect(), SentFrames { heartbeats, votes })
 }
