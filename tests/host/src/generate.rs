@@ -1,10 +1,11 @@
-//! Inputs that are worth comparing: presses driven through faults, votes around the quorum, frames, tables, and damage to each.
+//! Inputs that are worth comparing: presses driven through faults, votes around the quorum, frames, tables, steps on a register block, and damage to each.
 use crate::paper::checks::frame_check;
 use crate::paper::faults::{after_rule1, all_heard, all_votes, arriving, cycle, Faults};
 use crate::paper::frames::{frame, header_of, heartbeat, vote_frame, vote_payload, Header, VOTES_BYTES, VOTE_BYTES};
+use crate::paper::registers::{block_of, written, Flags, Machine, BLOCK_BYTES, COMMAND, ENABLES, FLAGS};
 use crate::paper::rules::{rule3, Heard, Vote};
 use crate::paper::sets::{all, has, nodes, only};
-use crate::paper::state::{beginning_from, image, row_image, Group, Reason, State, Unit};
+use crate::paper::state::{beginning_from, image, row_image, Group, Reason, State, Unit, IMAGE_BYTES};
 use crate::paper::table::{write_cycle, write_first};
 use crate::random::Random;
 
@@ -184,6 +185,13 @@ impl Press {
 
 pub fn put_vote(slots: &mut [u8], q: usize, vote: &Vote) {
     slots[VOTE_BYTES * q..VOTE_BYTES * (q + 1)].copy_from_slice(&vote_payload(vote));
+}
+
+/// the own slot and bit, and bits at N or above, are not looked at
+pub fn put_unlooked(random: &mut Random, unit: &Unit, slots: &mut [u8], mask: &mut u64) {
+    let own = vote(random, unit.n, unit.node);
+    put_vote(slots, unit.node, &own);
+    *mask ^= only(unit.node) | random.bits() & !all(unit.n);
 }
 
 /// a well-formed unit, of any kind, that no press need have reached
@@ -594,6 +602,137 @@ pub fn any_row(random: &mut Random, row: &[State]) -> Vec<u8> {
             bytes.resize(len, 2);
         }
         _ => {}
+    }
+    bytes
+}
+
+/// what a unit hears in a cycle, and the votes that are lent to it
+#[derive(Clone)]
+pub struct Offer {
+    pub heard: Heard,
+    pub slots: Vec<u8>,
+    pub arrived: u64,
+}
+
+/// votes of a cycle under which a unit stays as it is, has another set, halts for either reason, or enters; or any around the quorum
+pub fn offer(random: &mut Random, unit: &Unit) -> Offer {
+    let (heard, vote, voters) = match unit.state {
+        State::Member(group) => vote_of_members(random, unit, group),
+        _ => vote_for_joiner(random, unit),
+    };
+    let (mut slots, mut arrived) = if random.once_in(8) {
+        votes_for(random, unit, heard)
+    } else {
+        let mut slots = vec![random.bits() as u8; VOTES_BYTES];
+        nodes(voters).for_each(|q| put_vote(&mut slots, q, &vote));
+        (slots, voters)
+    };
+    if random.once_in(4) {
+        put_unlooked(random, unit, &mut slots, &mut arrived);
+    }
+    Offer { heard, slots, arrived }
+}
+
+/// what a member hears, and one vote and who of the others sends it: they agree, are silent, or outvote the member
+fn vote_of_members(random: &mut Random, unit: &Unit, group: Group) -> (Heard, Vote, u64) {
+    // one other node goes or comes
+    let moved = if random.once_in(2) { only(random.below(unit.n)) & !only(unit.node) } else { 0 };
+    let view = group.set ^ moved;
+    // join 0 from outside the set and join 1 from inside count for nothing
+    let heard = Heard { join0: view & group.set | random.bits() & !group.set, join1: view & !group.set | random.bits() & group.set };
+    let voters = group.set & view & !only(unit.node);
+    match random.below(6) {
+        0 => (heard, Vote { group, view }, 0),
+        1 => (heard, Vote { group, view: view & !only(unit.node) }, voters),
+        _ => (heard, Vote { group, view }, voters),
+    }
+}
+
+/// the same for a unit that is joining, or will be: mostly the members of some group let it in
+fn vote_for_joiner(random: &mut Random, unit: &Unit) -> (Heard, Vote, u64) {
+    let others = all(unit.n) & !only(unit.node);
+    let set = match random.mask() & others {
+        0 => others,
+        some => some,
+    };
+    let lost = if random.once_in(4) { random.mask() & others } else { 0 };
+    let group = Group { number: group_number(random), set, base: set | lost };
+    let wanted = if random.once_in(6) { 0 } else { only(unit.node) };
+    (Heard { join0: random.bits(), join1: random.bits() }, Vote { group, view: set | wanted }, set)
+}
+
+/// a step on a register block, a write with its address and value
+#[derive(Clone)]
+pub enum Step {
+    Read(u32),
+    Write(u32, u8),
+    Cycle(Offer),
+    WriteCycle(u32, u8, Offer),
+}
+
+/// a step on the block of a machine, its votes now and then of another length
+pub fn step(random: &mut Random, machine: &Machine) -> Step {
+    let any = random.bits() as u8;
+    // a unit that is out comes back soon
+    let (address, value) = if matches!(machine.unit.state, State::Out(_)) && random.once_in(2) {
+        (COMMAND as u32, 2)
+    } else {
+        (address(random), random.pick(&[0, 1, 1, 2, 2, 3, 4, 6, 7, 8, 255, any]))
+    };
+    match random.below(8) {
+        0 => Step::Read(address),
+        1 | 2 => Step::Write(address, value),
+        3 | 4 => Step::Cycle(lent_offer(random, &machine.unit)),
+        _ => {
+            let unit = written(machine, address as usize, value).unit;
+            Step::WriteCycle(address, value, lent_offer(random, &unit))
+        }
+    }
+}
+
+/// mostly that of a register that takes writes, now and then of another or of none
+fn address(random: &mut Random) -> u32 {
+    match random.below(12) {
+        0..=4 => FLAGS as u32,
+        5 | 6 => ENABLES as u32,
+        7 | 8 => COMMAND as u32,
+        9 | 10 => random.below(BLOCK_BYTES) as u32,
+        _ => random.pick(&[64, 65, 64 + 24, 64 + 27, 256 + 24, (1 << 16) + 25, 1 << 31, u32::MAX]),
+    }
+}
+
+fn lent_offer(random: &mut Random, unit: &Unit) -> Offer {
+    let mut offer = offer(random, unit);
+    if random.once_in(60) {
+        offer.slots.resize(random.pick(&[0, 1, 28, 64, 1791, 1793, 3584]), 0);
+    }
+    offer
+}
+
+/// a machine with a unit at its beginning, or of any kind
+pub fn machine(random: &mut Random) -> Machine {
+    let n = count(random);
+    let unit = if random.once_in(3) {
+        unit(random, n)
+    } else {
+        let (node, founding, number) = (random.below(n), founding(random, n), group_number(random));
+        Unit { n, node, state: beginning_from(n, founding, number)[node] }
+    };
+    let [flags, enables] = [0; 2].map(|_| Flags::of(random.bits() as u8));
+    Machine { unit, flags, enables }
+}
+
+/// the block of a machine with a bit changed, a register set or of another length
+pub fn damaged_block(random: &mut Random, machine: &Machine) -> Vec<u8> {
+    let mut bytes = block_of(machine).to_vec();
+    match random.below(4) {
+        0 => bytes[random.below(BLOCK_BYTES)] ^= 1 << random.below(8),
+        1 => bytes[FLAGS + random.below(4)] = random.pick(&[0, 1, 2, 4, 7, 8, 255]),
+        2 => drop(bytes.splice(..IMAGE_BYTES, any_image(random, &machine.unit))),
+        _ => {
+            let len = random.below(2 * BLOCK_BYTES);
+            bytes.resize(len, 0);
+        }
     }
     bytes
 }

@@ -1,22 +1,23 @@
-//! Compares the seventeen entries of the archive with the paper's implementation: first every length, number and place of damage in turn, then random calls.
-//! SEED (or the first argument) chooses the calls, CALLS the number of random ones.
+//! Compares the twenty-one entries of the archive with the paper's implementation: first every length, number and place of damage in turn, then random calls
+//! and random series of steps on a register block. SEED (or the first argument) chooses the calls, CALLS and SERIES the number of random ones.
 use host::archive::Archive;
 use host::claims::{each_kept_record, Standing};
-use host::generate::{self as make, Press};
+use host::generate::{self as make, Press, Step};
 use host::paper::checks::frame_check;
 use host::paper::entries::Paper;
 use host::paper::faults::Faults;
 use host::paper::frames::{arrived_votes, frame, header_of, heartbeat, vote_frame, HEARTBEAT_BYTES, VOTES_BYTES, VOTE_BYTES, VOTE_FRAME_BYTES};
+use host::paper::registers::{block_of, raised, read_block, written, Flags, Machine, BLOCK_BYTES, COMMAND, ENABLES, FLAGS, PENDING};
 use host::paper::rules::{fits, rule3, Heard, Vote};
 use host::paper::run::FRAMES_BYTES;
-use host::paper::sets::{all, has, only, size};
+use host::paper::sets::{has, only, size};
 use host::paper::state::{beginning_from, image, row_image, Group, Reason, State, Unit};
 use host::paper::table::{write_cycle, write_first};
 use host::random::Random;
 use host::{hex, NodeEnd};
 use std::collections::{BTreeMap, BTreeSet, HashSet};
 
-const ENTRIES: [&str; 17] = [
+const ENTRIES: [&str; 21] = [
     "begin",
     "stop",
     "start",
@@ -34,13 +35,25 @@ const ENTRIES: [&str; 17] = [
     "cycle",
     "run",
     "run_frames",
+    "register_read",
+    "register_write",
+    "register_cycle",
+    "register_write_cycle",
 ];
+/// 0 and every refusal of the paper and of the requests made after it
+const STATUSES: usize = 22;
+const FLAG_NAMES: [&str; 3] = ["changed", "halted", "entered"];
+/// what becomes of a flag in a step; the series must show each of these more often than `ENOUGH`
+const FLAG_TURNS: [&str; 3] = ["raised", "cleared", "cleared and raised in one step"];
+const ENOUGH: u64 = 1000;
 const GUARD: usize = 16;
 /// for the frames of a run, where nothing hangs on what stands in it before
 const FILLED_FRAMES: [u8; FRAMES_BYTES] = [7; FRAMES_BYTES];
 /// for the results of a state taken apart
 const FILLED_NUMBERS: [u32; 5] = [91, 92, 93, 94, 95];
 const FILLED_MASKS: [u64; 2] = [96, 97];
+/// for the result of a register read, no byte of it being 0
+const FILLED_VALUE: u32 = 0x9192_9394;
 
 /// a buffer to be lent, at any address, with bytes around it that nobody may write
 #[derive(Clone, PartialEq)]
@@ -79,11 +92,13 @@ struct Outcome {
 struct Compare {
     random: Random,
     /// per entry and status
-    counts: [[u64; 16]; ENTRIES.len()],
+    counts: [[u64; STATUSES]; ENTRIES.len()],
     /// moves the buffers of a call to other addresses
     shift: usize,
     /// what accepted calls gave, in words
     given: BTreeMap<String, u64>,
+    /// per flag of a register block and what became of it
+    flags: [[u64; FLAG_TURNS.len()]; FLAG_NAMES.len()],
 }
 
 impl Compare {
@@ -134,7 +149,7 @@ impl Compare {
     fn note(&mut self, entry: &str, before: &[u8], results: &[u64], results_before: &[u64], after: &[u8]) {
         let kind = |state: &[u8]| ["out", "joining", "member"][usize::from(state[0])];
         let text = match entry {
-            "decide" => match (kind(before), kind(after)) {
+            "decide" | "register_cycle" => match (kind(before), kind(after)) {
                 ("member", "out") => format!("member to out with reason {}", after[1]),
                 ("member", _) if before[4..8] == after[4..8] => "member with the same G".to_string(),
                 ("member", _) if after[4..8] == [0; 4] => "member with G from 4294967295 to 0".to_string(),
@@ -285,6 +300,37 @@ impl Compare {
             by.run_frames(row.lend(), table.get(), frames.lend())
         });
         (status, row)
+    }
+
+    /// a step on a register block, which is left behind
+    fn step(&mut self, block: &[u8], step: &Step) -> (u32, Vec<u8>) {
+        let (status, _, left) = match *step {
+            Step::Read(address) => self.both("register_read", &[address.into()], &[FILLED_VALUE.into()], &[block], |by, r, b| {
+                let mut value = r[0] as u32;
+                let status = by.register_read(b[0].get(), address, &mut value);
+                r[0] = value.into();
+                status
+            }),
+            Step::Write(address, value) => {
+                self.both("register_write", &[address.into(), value.into()], &[], &[block], |by, _, b| by.register_write(b[0].lend(), address, value))
+            }
+            Step::Cycle(ref offer) => {
+                let Heard { join0, join1 } = offer.heard;
+                self.both("register_cycle", &[join0, join1, offer.arrived], &[], &[&offer.slots, block], |by, _, b| {
+                    let [votes, block] = b else { unreachable!() };
+                    by.register_cycle(block.lend(), join0, join1, votes.get(), offer.arrived)
+                })
+            }
+            Step::WriteCycle(address, value, ref offer) => {
+                let Heard { join0, join1 } = offer.heard;
+                let numbers = [address.into(), value.into(), join0, join1, offer.arrived];
+                self.both("register_write_cycle", &numbers, &[], &[&offer.slots, block], |by, _, b| {
+                    let [votes, block] = b else { unreachable!() };
+                    by.register_write_cycle(block.lend(), address, value, join0, join1, votes.get(), offer.arrived)
+                })
+            }
+        };
+        (status, left)
     }
 
     fn total(&self) -> u64 {
@@ -670,6 +716,92 @@ fn broken_cycles_of_two(compare: &mut Compare) {
     }
 }
 
+/// machines with each kind of state, their flags and enables in several ways
+fn machines() -> Vec<Machine> {
+    let group = Group { number: u32::MAX, set: 0x1e, base: 0x1f };
+    let members = [group, Group { base: group.set, ..group }].map(State::Member);
+    let others = [State::Joining, State::Out(Reason::Stopped), State::Out(Reason::NoQuorum), State::Out(Reason::Outvoted)];
+    let states = members.into_iter().chain(others);
+    states
+        .flat_map(|state| [(0, 0), (7, 7), (5, 2)].map(|(flags, enables)| (state, Flags::of(flags), Flags::of(enables))))
+        .map(|(state, flags, enables)| Machine { unit: Unit { n: 5, node: 1, state }, flags, enables })
+        .collect()
+}
+
+/// every address of a block and some above it, written with every value, alone and together with a cycle, and read
+fn every_address_and_value(compare: &mut Compare) {
+    for machine in machines() {
+        let block = block_of(&machine);
+        for address in (0..=70).chain([u32::MAX]) {
+            let offer = make::offer(&mut compare.random, &machine.unit);
+            for value in 0..=255 {
+                let (_, left) = compare.step(&block, &Step::Write(address, value));
+                compare.step(&left, &Step::Read(address));
+                compare.step(&block, &Step::WriteCycle(address, value, offer.clone()));
+            }
+        }
+    }
+}
+
+/// every flag and enable, and every value written to the registers behind the state
+fn every_flag_and_enable(compare: &mut Compare) {
+    for (flags, enables) in (0..8).flat_map(|flags| (0..8).map(move |enables| (flags, enables))) {
+        let unit = make::unit(&mut compare.random, 5);
+        let block = block_of(&Machine { unit, flags: Flags::of(flags), enables: Flags::of(enables) });
+        for (address, value) in (FLAGS..=COMMAND).flat_map(|address| (0..=255).map(move |value| (address as u32, value))) {
+            let offer = make::offer(&mut compare.random, &unit);
+            compare.step(&block, &Step::Write(address, value));
+            compare.step(&block, &Step::WriteCycle(address, value, offer));
+        }
+    }
+}
+
+/// a read, a write, a cycle, and a write and a cycle together
+fn each_entry(compare: &mut Compare, unit: &Unit) -> [Step; 4] {
+    let offer = make::offer(&mut compare.random, unit);
+    [Step::Read(PENDING as u32), Step::Write(ENABLES as u32, 6), Step::Cycle(offer.clone()), Step::WriteCycle(FLAGS as u32, 2, offer)]
+}
+
+/// every bit of a block, and every value of each byte behind the state
+fn every_bit_of_a_block(compare: &mut Compare) {
+    for machine in machines() {
+        let block = block_of(&machine);
+        let steps = each_entry(compare, &machine.unit);
+        for bit in 0..8 * BLOCK_BYTES {
+            let mut changed = block;
+            changed[bit / 8] ^= 0x80 >> (bit % 8);
+            steps.iter().for_each(|step| drop(compare.step(&changed, step)));
+        }
+        for (at, value) in (FLAGS..BLOCK_BYTES).flat_map(|at| (0..=255).map(move |value| (at, value))) {
+            let mut changed = block;
+            changed[at] = value;
+            compare.step(&changed, &steps[0]);
+        }
+    }
+}
+
+/// blocks and votes of other lengths, alone and with what is refused after them
+fn lengths_of_blocks(compare: &mut Compare) {
+    for machine in machines() {
+        let right = block_of(&machine);
+        let mut malformed = right;
+        malformed[40] = 1;
+        for (block, len) in [right, malformed].into_iter().flat_map(|block| (0..=80).map(move |len| (block, len))) {
+            let mut block = block.to_vec();
+            block.resize(len, 0);
+            each_entry(compare, &machine.unit).iter().for_each(|step| drop(compare.step(&block, step)));
+            for votes in [0, 1, 28, 64, VOTES_BYTES - 1, VOTES_BYTES, VOTES_BYTES + 1, 2 * VOTES_BYTES] {
+                let mut offer = make::offer(&mut compare.random, &machine.unit);
+                offer.slots.resize(votes, 0);
+                compare.step(&block, &Step::Cycle(offer.clone()));
+                compare.step(&block, &Step::WriteCycle(BLOCK_BYTES as u32, 1, offer));
+            }
+            compare.step(&block, &Step::Read(BLOCK_BYTES as u32));
+            compare.step(&block, &Step::Write(BLOCK_BYTES as u32, 1));
+        }
+    }
+}
+
 // random calls
 
 fn a_node(compare: &mut Compare, press: &Press) {
@@ -766,10 +898,7 @@ fn a_decision(compare: &mut Compare, press: &Press, unit: &Unit, state: &[u8], g
         make::votes_for(random, unit, heard)
     };
     if random.once_in(4) {
-        // the own slot and bit, and bits at N or above, are not looked at
-        let own = make::vote(random, unit.n, unit.node);
-        make::put_vote(&mut slots, unit.node, &own);
-        mask ^= only(unit.node) | random.bits() & !all(unit.n);
+        make::put_unlooked(random, unit, &mut slots, &mut mask);
     }
     if random.once_in(8) {
         let at = random.below(VOTE_BYTES * unit.n);
@@ -889,43 +1018,115 @@ fn a_table(compare: &mut Compare) {
     }
 }
 
-fn main() {
-    let argument = std::env::args().nth(1).or_else(|| std::env::var("SEED").ok());
-    let seed: u64 = argument.map_or(1, |text| text.parse().expect("SEED is a number"));
-    let calls: u64 = std::env::var("CALLS").map_or(300_000, |text| text.parse().expect("CALLS is a number"));
-    println!("compare: seed {seed}, at least {calls} random calls");
-    let mut compare = Compare { random: Random::new(seed), counts: [[0; 16]; ENTRIES.len()], shift: 0, given: BTreeMap::new() };
-    counts_and_numbers(&mut compare);
-    lengths(&mut compare);
-    lengths_of_frames(&mut compare);
-    every_bit_of_an_image(&mut compare);
-    every_bit_of_a_frame(&mut compare);
-    cut_at_each_byte(&mut compare);
-    every_bit_of_a_mask(&mut compare);
-    every_count_and_entry(&mut compare);
-    decisions_of_two(&mut compare);
-    broken_cycles_of_two(&mut compare);
-    cycles_of_two_and_three(&mut compare);
-    let listed = compare.total();
-    println!("compare: {listed} calls with every length, number, bit and cut in turn agree");
-    while compare.total() < listed + calls {
+/// a series of steps on one block; now and then a damaged one is lent between two of them
+fn a_series(compare: &mut Compare) {
+    let mut machine = make::machine(&mut compare.random);
+    let mut block = block_of(&machine).to_vec();
+    for _ in 0..1 + compare.random.below(40) {
+        let step = make::step(&mut compare.random, &machine);
+        if compare.random.once_in(25) {
+            let damaged = make::damaged_block(&mut compare.random, &machine);
+            compare.step(&damaged, &step);
+        }
+        let (status, left) = compare.step(&block, &step);
+        let after = read_block(&left).expect("a step leaves a block that the next one accepts");
+        if status == 0 {
+            note_flags(compare, &machine, &step, &after);
+        }
+        (machine, block) = (after, left);
+    }
+}
+
+/// counts what became of each flag in an accepted step
+fn note_flags(compare: &mut Compare, before: &Machine, step: &Step, after: &Machine) {
+    let between = match *step {
+        Step::Write(address, value) | Step::WriteCycle(address, value, _) => written(before, address as usize, value),
+        _ => *before,
+    };
+    let (set, cleared) = (before.flags.byte(), before.flags.byte() & !between.flags.byte());
+    let up = raised(between.unit.state, after.unit.state).byte();
+    for (k, turns) in compare.flags.iter_mut().enumerate() {
+        for (turn, flags) in turns.iter_mut().zip([up & !set, cleared & !up, cleared & up]) {
+            *turn += u64::from(flags >> k & 1);
+        }
+    }
+}
+
+fn in_turn(compare: &mut Compare) {
+    counts_and_numbers(compare);
+    lengths(compare);
+    lengths_of_frames(compare);
+    every_bit_of_an_image(compare);
+    every_bit_of_a_frame(compare);
+    cut_at_each_byte(compare);
+    every_bit_of_a_mask(compare);
+    every_count_and_entry(compare);
+    decisions_of_two(compare);
+    broken_cycles_of_two(compare);
+    cycles_of_two_and_three(compare);
+    every_address_and_value(compare);
+    every_flag_and_enable(compare);
+    every_bit_of_a_block(compare);
+    lengths_of_blocks(compare);
+    println!("compare: {} calls with every length, number, bit and cut in turn agree", compare.total());
+}
+
+fn random_calls(compare: &mut Compare, calls: u64) {
+    let before = compare.total();
+    while compare.total() < before + calls {
         let n = make::count(&mut compare.random);
         let mut press = Press::new(&mut compare.random, n);
         for _ in 0..1 + compare.random.below(12) {
             for _ in 0..24 {
-                a_node(&mut compare, &press);
+                a_node(compare, &press);
             }
-            a_single_cycle(&mut compare, &press);
+            a_single_cycle(compare, &press);
             if compare.random.once_in(20) {
-                whole_cycle_of_nodes(&mut compare, &press);
+                whole_cycle_of_nodes(compare, &press);
             }
             press = press.next(&mut compare.random);
         }
-        a_table(&mut compare);
+        a_table(compare);
     }
+}
+
+/// ends the program if some flag was not raised, cleared, or both at once often enough
+fn random_series(compare: &mut Compare, series: u64) {
+    let before = compare.total();
+    (0..series).for_each(|_| a_series(compare));
+    println!("compare: {series} series of steps on a register block, {} steps, agree", compare.total() - before);
+    for (name, turns) in FLAG_NAMES.iter().zip(&compare.flags) {
+        let told: Vec<String> = FLAG_TURNS.iter().zip(turns).map(|(turn, count)| format!("{turn} {count} times")).collect();
+        println!("compare: flag {name} {}", told.join(", "));
+    }
+    if compare.flags.iter().flatten().any(|count| *count <= ENOUGH) {
+        println!("compare: a flag was not raised, cleared, or both in one step more than {ENOUGH} times");
+        std::process::exit(1);
+    }
+}
+
+/// a number that the environment gives
+fn given_number(name: &str, otherwise: u64) -> u64 {
+    std::env::var(name).map_or(otherwise, |text| text.parse().unwrap_or_else(|_| panic!("{name} is a number")))
+}
+
+fn main() {
+    let seed = std::env::args().nth(1).map_or_else(|| given_number("SEED", 1), |text| text.parse().expect("the seed is a number"));
+    let (calls, series) = (given_number("CALLS", 300_000), given_number("SERIES", 200_000));
+    println!("compare: seed {seed}, at least {calls} random calls, and {series} series of steps on a register block");
+    let mut compare = Compare {
+        random: Random::new(seed),
+        counts: [[0; STATUSES]; ENTRIES.len()],
+        shift: 0,
+        given: BTreeMap::new(),
+        flags: [[0; FLAG_TURNS.len()]; FLAG_NAMES.len()],
+    };
+    in_turn(&mut compare);
+    random_calls(&mut compare, calls);
+    random_series(&mut compare, series);
     for (entry, counts) in ENTRIES.iter().zip(&compare.counts) {
         let statuses: Vec<String> = counts.iter().enumerate().filter(|(_, count)| **count > 0).map(|(s, count)| format!("{s}: {count}")).collect();
-        println!("gm_{entry:<18} {:>8} calls; by status {}", counts.iter().sum::<u64>(), statuses.join(", "));
+        println!("gm_{entry:<20} {:>8} calls; by status {}", counts.iter().sum::<u64>(), statuses.join(", "));
     }
     compare.given.iter().for_each(|(text, count)| println!("{text}: {count}"));
     println!("compare: {} calls agree", compare.total());
