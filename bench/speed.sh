@@ -10,5 +10,7 @@ Processor time, the best of several turns taken in rotation. ours: libgm.a and g
 optimisation, without overflow checks. C: bench/plain, gcc -O3. All three are for plain x86-64 and work out both checks bit by bit.
 Ratios are of times: below 1, ours is faster. No entry gives a check alone: the header check is timed as a vote frame that is refused for it (refusal 6),
 the frame check as a frame of 262 bytes that is refused after it, as not due (refusal 9).
+Steps on a register block: a read of the pending byte, a write that clears a flag, a cycle, and both together. "to decide" is ours to our own decide on
+the same state and votes, timed in the same rotation.
 HEADING
 "$host"/target/fast/speed "${paths[@]}"

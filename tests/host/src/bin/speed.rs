@@ -6,6 +6,7 @@ use host::paper::entries::Paper;
 use host::paper::frames::{
     frame, heartbeat, vote_frame, vote_header, vote_payload, Header, HEARTBEAT_BYTES, VOTES_BYTES, VOTE_BYTES, VOTE_FRAME_BYTES,
 };
+use host::paper::registers::{block_of, Flags, Machine, BLOCK_BYTES, FLAGS, PENDING};
 use host::paper::rules::Vote;
 use host::paper::run::FRAMES_BYTES;
 use host::paper::sets::{all, only, Set};
@@ -24,6 +25,8 @@ const PROGRAM_SECONDS: f64 = 1.0;
 /// a turn has so many calls that it takes at least this long, in nanoseconds
 const TURN: f64 = 3e6;
 const COUNTS: [usize; 3] = [5, 16, 64];
+/// for the steps on a register block
+const ENDS: [usize; 2] = [5, 64];
 const FAULTS: [&str; 2] = ["clean", "mixed"];
 /// cycles of a table, for the calls on a row; and of a program's table, times N
 const CYCLES: usize = 400;
@@ -50,13 +53,13 @@ enum Shown {
     CyclesPerSecond,
 }
 
-fn print_row(name: &str, n: usize, shown: Shown, times: [f64; 3]) {
+fn row(name: &str, n: usize, shown: Shown, times: [f64; 3]) -> String {
     let cell = |time: f64| match shown {
         Shown::Nanoseconds => format!("{time:.0} ns"),
         Shown::CyclesPerSecond => format!("{:.0} cycles/s", 1e9 / time),
     };
     let [ours, rust, c] = times;
-    println!("{name:<42} {n:>3} {:>18} {:>18} {:>18} {:>8.2} {:>8.2}", cell(ours), cell(rust), cell(c), ours / rust, ours / c);
+    format!("{name:<42} {n:>3} {:>18} {:>18} {:>18} {:>8.2} {:>8.2}", cell(ours), cell(rust), cell(c), ours / rust, ours / c)
 }
 
 /// all three answer as they should and leave the same bytes
@@ -86,26 +89,32 @@ fn calls_of_a_turn(operation: &Operation, hand: &dyn NodeEnd, left: &mut [u8]) -
     calls
 }
 
-/// the time of one call of each, the least of its turns
-fn time(operation: &Operation) -> [f64; 3] {
-    check(operation);
-    let mut left = vec![0; operation.len];
-    let calls = HANDS.map(|hand| calls_of_a_turn(operation, hand, &mut left));
-    let mut least = [f64::INFINITY; 3];
-    for k in (0..TURNS).flat_map(|_| 0..HANDS.len()) {
-        least[k] = least[k].min(turn(operation, HANDS[k], &mut left, calls[k]) / f64::from(calls[k]));
+/// the time of one call of each operation by each hand, the least of its turns, which all take in rotation
+fn times<const K: usize>(operations: [&Operation; K]) -> [[f64; 3]; K] {
+    operations.iter().for_each(|operation| check(operation));
+    let mut left = operations.map(|operation| vec![0; operation.len]);
+    let mut calls = [[0; 3]; K];
+    let mut least = [[f64::INFINITY; 3]; K];
+    let places: Vec<(usize, usize)> = (0..K).flat_map(|k| (0..HANDS.len()).map(move |hand| (k, hand))).collect();
+    for &(k, hand) in &places {
+        calls[k][hand] = calls_of_a_turn(operations[k], HANDS[hand], &mut left[k]);
+    }
+    for &(k, hand) in (0..TURNS).flat_map(|_| &places) {
+        let calls = calls[k][hand];
+        least[k][hand] = least[k][hand].min(turn(operations[k], HANDS[hand], &mut left[k], calls) / f64::from(calls));
     }
     least
 }
 
 fn call(name: &str, n: usize, status: u32, len: usize, call: &dyn Fn(&dyn NodeEnd, &mut [u8]) -> u32) {
-    print_row(name, n, Shown::Nanoseconds, time(&Operation { name, n, status, len, call }));
+    let [times] = times([&Operation { name, n, status, len, call }]);
+    println!("{}", row(name, n, Shown::Nanoseconds, times));
 }
 
 /// one call is many cycles; it leaves `len` bytes
 fn cycles(name: &str, n: usize, count: usize, len: usize, call: &dyn Fn(&dyn NodeEnd, &mut [u8]) -> u32) {
-    let operation = Operation { name, n, status: 0, len, call };
-    print_row(name, n, Shown::CyclesPerSecond, time(&operation).map(|time| time / count as f64));
+    let [times] = times([&Operation { name, n, status: 0, len, call }]);
+    println!("{}", row(name, n, Shown::CyclesPerSecond, times.map(|time| time / count as f64)));
 }
 
 /// the checks, through frames that the reader of a vote refuses because of them or after them
@@ -185,31 +194,82 @@ struct Decision {
 }
 
 const DECISIONS: [Decision; 6] = [
-    Decision { name: "decide: member, all agree", joining: false, too_few: false, vote: |n, _| agreeing(n) },
-    Decision { name: "decide: member, outvoted", joining: false, too_few: false, vote: |n, _| without_last(n) },
-    Decision { name: "decide: member, too few votes", joining: false, too_few: true, vote: |n, _| without_last(n) },
-    Decision {
-        name: "decide: member, all votes differ",
-        joining: false,
-        too_few: false,
-        vote: |n, q| Vote { view: all(n) & !only(q + 1), ..agreeing(n) },
-    },
-    Decision { name: "decide: joiner, all agree", joining: true, too_few: false, vote: |n, _| with_last(n) },
-    Decision { name: "decide: joiner, too few votes", joining: true, too_few: true, vote: |n, _| with_last(n) },
+    Decision { name: "member, all agree", joining: false, too_few: false, vote: |n, _| agreeing(n) },
+    Decision { name: "member, outvoted", joining: false, too_few: false, vote: |n, _| without_last(n) },
+    Decision { name: "member, too few votes", joining: false, too_few: true, vote: |n, _| without_last(n) },
+    Decision { name: "member, all votes differ", joining: false, too_few: false, vote: |n, q| Vote { view: all(n) & !only(q + 1), ..agreeing(n) } },
+    Decision { name: "joiner, all agree", joining: true, too_few: false, vote: |n, _| with_last(n) },
+    Decision { name: "joiner, too few votes", joining: true, too_few: true, vote: |n, _| with_last(n) },
 ];
 
-fn decide(decision: &Decision, n: usize) {
-    let state = if decision.joining { State::Joining } else { State::Member(group(all(n))) };
-    let begun = image(&Unit { n, node: n - 1, state });
-    let voters = if decision.too_few { (n - 1) / 2 } else { n - 1 };
-    let mut slots = vec![0; VOTES_BYTES];
-    for q in 0..voters {
-        slots[VOTE_BYTES * q..VOTE_BYTES * (q + 1)].copy_from_slice(&vote_payload(&(decision.vote)(n, q)));
+impl Decision {
+    /// the unit that decides
+    fn unit(&self, n: usize) -> Unit {
+        Unit { n, node: n - 1, state: if self.joining { State::Joining } else { State::Member(group(all(n))) } }
     }
-    call(decision.name, n, 0, IMAGE_BYTES, &|hand, left| {
+
+    /// the votes lent to it, and whose they are
+    fn votes(&self, n: usize) -> (Vec<u8>, Set) {
+        let voters = if self.too_few { (n - 1) / 2 } else { n - 1 };
+        let mut slots = vec![0; VOTES_BYTES];
+        for q in 0..voters {
+            slots[VOTE_BYTES * q..VOTE_BYTES * (q + 1)].copy_from_slice(&vote_payload(&(self.vote)(n, q)));
+        }
+        (slots, all(voters))
+    }
+}
+
+fn decide(decision: &Decision, n: usize) {
+    let begun = image(&decision.unit(n));
+    let (slots, arrived) = decision.votes(n);
+    call(&format!("decide: {}", decision.name), n, 0, IMAGE_BYTES, &|hand, left| {
         left.copy_from_slice(&begun);
-        hand.decide(left, all(n), 0, &slots, all(voters))
+        hand.decide(left, all(n), 0, &slots, arrived)
     });
+}
+
+/// the block of a unit of which a card has not yet taken an enabled flag
+fn pending_block(unit: Unit) -> [u8; BLOCK_BYTES] {
+    block_of(&Machine { unit, flags: Flags { changed: true, ..Flags::default() }, enables: Flags::of(7) })
+}
+
+/// the card asks whether a flag is pending, and clears it
+fn registers(n: usize) {
+    let block = pending_block(Unit { n, node: n - 1, state: State::Member(group(all(n))) });
+    call("register read", n, 0, 4, &|hand, left| {
+        let mut value = 9;
+        let status = hand.register_read(&block, PENDING as u32, &mut value);
+        left.copy_from_slice(&value.to_ne_bytes());
+        status
+    });
+    call("register write", n, 0, BLOCK_BYTES, &|hand, left| {
+        left.copy_from_slice(&block);
+        hand.register_write(left, FLAGS as u32, 1)
+    });
+}
+
+/// a cycle of a block, alone and together with a write, beside a decision on the same state and votes
+fn register_cycles(decision: &Decision, n: usize) {
+    let block = pending_block(decision.unit(n));
+    let (slots, arrived) = decision.votes(n);
+    let on_block = |name, call| Operation { name, n, status: 0, len: BLOCK_BYTES, call };
+    let cycle = |hand: &dyn NodeEnd, left: &mut [u8]| {
+        left.copy_from_slice(&block);
+        hand.register_cycle(left, all(n), 0, &slots, arrived)
+    };
+    let write_cycle = |hand: &dyn NodeEnd, left: &mut [u8]| {
+        left.copy_from_slice(&block);
+        hand.register_write_cycle(left, FLAGS as u32, 1, all(n), 0, &slots, arrived)
+    };
+    let decide = |hand: &dyn NodeEnd, left: &mut [u8]| {
+        left.copy_from_slice(&block);
+        hand.decide(&mut left[..IMAGE_BYTES], all(n), 0, &slots, arrived)
+    };
+    let names = ["cycle", "write and cycle", "decide, in a block"].map(|step| format!("{step}: {}", decision.name));
+    let [cycled, joint, decided] = times([&on_block(&names[0], &cycle), &on_block(&names[1], &write_cycle), &on_block(&names[2], &decide)]);
+    for (name, times) in names.iter().zip([cycled, joint]) {
+        println!("{} {:>9.2}", row(name, n, Shown::Nanoseconds, times), times[0] / decided[0]);
+    }
 }
 
 /// a cycle of the last node of N in which all agree: its state, and both copies of the frames of all others
@@ -381,7 +441,7 @@ fn framed_run(places: &Places, n: usize, mode: usize) {
 
 fn programs(places: &Places, n: usize, mode: usize) {
     let cycles = PROGRAM_CYCLES / n;
-    print_row(&format!("grouprun, {}", FAULTS[mode]), n, Shown::CyclesPerSecond, places.time_programs(n, cycles, mode));
+    println!("{}", row(&format!("grouprun, {}", FAULTS[mode]), n, Shown::CyclesPerSecond, places.time_programs(n, cycles, mode)));
 }
 
 fn on_tables(places: &Places, operation: fn(&Places, usize, usize)) {
@@ -401,13 +461,17 @@ fn memory(places: &Places) {
 
 fn main() {
     let places = Places::of_arguments();
-    println!("{:<42} {:>3} {:>18} {:>18} {:>18} {:>8} {:>8}", "operation", "N", "ours", "Rust", "C", "to Rust", "to C");
+    println!("{:<42} {:>3} {:>18} {:>18} {:>18} {:>8} {:>8} {:>9}", "operation", "N", "ours", "Rust", "C", "to Rust", "to C", "to decide");
     checks();
     heartbeats();
     states();
     votes();
     for decision in &DECISIONS {
         COUNTS.into_iter().for_each(|n| decide(decision, n));
+    }
+    ENDS.into_iter().for_each(registers);
+    for decision in &DECISIONS {
+        ENDS.into_iter().for_each(|n| register_cycles(decision, n));
     }
     COUNTS.into_iter().for_each(unit_cycle);
     on_tables(&places, single_cycles);
