@@ -37,6 +37,39 @@
  *     bytes 8-15: set of a member, the present group, the node in it; else 0
  *     bytes 16-23: base of a member, the present group and that of one cycle earlier together; else 0
  *
+ * A REGISTER BLOCK is 64 bytes, as which a drive card sees one node. GM_REGISTER_.. are addresses, which
+ * count its bytes from 0:
+ *     bytes 0-23: a state; writes do nothing
+ *     byte 24: flags, GM_FLAG_..; a one that is written clears its flag, a zero does nothing; bits 3-7 are
+ *     always 0
+ *     byte 25: enables, a bit for each flag; of what is written bits 0-2 are kept
+ *     byte 26: pending, 1 exactly if an enabled flag is set, else 0; writes do nothing
+ *     byte 27: command, GM_COMMAND_..; what gm_stop or gm_start does is done with the write, and raises no
+ *     flag; other values do nothing, and it reads 0
+ *     bytes 28-63: 0; writes do nothing
+ * It begins as the 24 bytes of gm_begin, called on the block with length GM_STATE_BYTES, and 40 zero bytes
+ * behind them. The entries of the node end take its first 24 bytes as the state, as in gm_send_heartbeat
+ * (block, GM_STATE_BYTES, ..); but gm_stop, gm_start and gm_decide called so raise no flag. The cycle of a
+ * block, gm_register_cycle, decides as gm_decide does and raises at most one flag, by the state right
+ * before the decision and the one after it:
+ *   - GM_FLAG_CHANGED: a member before and after, and the set is another; a base or a number that changes
+ *     alone raises nothing
+ *   - GM_FLAG_HALTED: a member before, out after, with reason 1 or 2
+ *   - GM_FLAG_ENTERED: joining before, a member after
+ * A flag stays until it is cleared. gm_register_write_cycle is a write and a cycle in one step, the write
+ * first: a flag that is cleared and raised in one step stays set.
+ * A card polls byte 26 after each cycle. Where it is 1, the card reads byte 24 and writes back what it
+ * read, before the next cycle or together with it. This clears the flags that it has seen and no other, and
+ * what the next cycle raises stays set, so that nothing is lost. Where a cycle may come between reading and
+ * writing, the same flag may have been raised again: such a card reads bytes 0-23 after it has written.
+ * A stop or a start that shall count for a cycle is written to byte 27, by gm_register_write, before
+ * gm_send_heartbeat of that cycle (step 1 of ONE CYCLE). One that is written later, or together with the
+ * cycle, comes after frames of the cycle: a unit that is started so sends its first heartbeat in the next
+ * cycle, and one that is stopped so counts as one that lost its state in mid-cycle (see DUTIES, "A unit
+ * that lost its state").
+ * A block may be memory shared with the card only if during a call nobody writes it, and nobody reads it
+ * who must not see half a step.
+ *
  * A VOTE is 28 bytes (GM_VOTE_AT_..): bytes 0-3 group number, 4-11 set, 12-19 base, 20-27 view, the nodes
  * that its sender heard. The vote buffer has one for each of 64 nodes, that of node q at byte 28 q, and a
  * mask `arrived` beside it.
@@ -66,7 +99,7 @@
  *      and in heard1 after GM_HEARD_JOINING
  *   4. gm_send_vote for each channel, with these masks; the host sends the frame if there is one
  *   5. gm_receive_vote for every other node, into the vote buffer, whatever stands in it, and `arrived`
- *   6. gm_decide, with the same heard0 and heard1
+ *   6. gm_decide, with the same heard0 and heard1; of a register block gm_register_cycle in its place
  * A member sends both frames, a joining node its heartbeat alone, one that is out none. In 3 and 5 the
  * nodes may come in any order, and the call for a node of which nothing came on either channel may be left
  * out: its bit is then 0, which is why the masks are 0 before the cycle. After 6 gm_state tells what the
@@ -98,8 +131,8 @@
  *     receiving entry is the n of the state.
  *   - Every call of a cycle is made, in the order above, and each answered GM_OK. If one is refused, the
  *     unit sends nothing more in that cycle and counts as having lost its state.
- *   - gm_send_vote, on both channels, and gm_decide get the same heard0 and heard1: the decision makes the
- *     node's own vote from them again.
+ *   - gm_send_vote, on both channels, and gm_decide, or the cycle of a block, get the same heard0 and
+ *     heard1: the decision makes the node's own vote from them again.
  *   - No cycle is skipped: a unit that slept through one and goes on with its old state holds a state that
  *     the rules do not give. Only a node that is out, and neither stopped nor started, may make no calls at
  *     all, and one that is stopped and not started none but gm_stop.
@@ -107,7 +140,8 @@
  *     stopped in that cycle; one that loses it later as one whose frames are lost from then on and which is
  *     stopped in the next. It comes back, in the cycle in which it counts as stopped or a later one, by
  *     gm_begin, gm_stop and gm_start in step 1, and never by gm_begin alone (gm_begin with a founding set
- *     that lacks the node leaves what gm_begin and gm_stop leave).
+ *     that lacks the node leaves what gm_begin and gm_stop leave). A lost block likewise: it begins anew,
+ *     and the two commands are written.
  *   - gm_begin belongs to the beginning of the press. A founder that restarts by gm_begin alone takes
  *     itself for a member of the founding group, number 0. Its vote counts with those of every unit that
  *     holds that group, restarted so too or left in it by a lost vote. Together they can go on as a second
@@ -115,7 +149,8 @@
  *     halt: units hold different groups. One such restart can be enough, and no entry reports it.
  *   - The cycle count that is passed is that of the bus cycle, and a frame is handed over in the cycle in
  *     which it came.
- *   - From call to call nobody else writes a state or a row.
+ *   - From call to call nobody else writes a state, a row or a block; a card changes its block by
+ *     gm_register_write and gm_register_write_cycle alone.
  *
  * gm_cycle, gm_run and gm_run_frames work on a row: the states of all n nodes, one after the other, node q
  * at byte 24 q. They are for a test stand. AGREEMENT is promised of a row that held, before its first
@@ -146,6 +181,7 @@ extern "C" {
 /* sizes of buffers, in bytes */
 #define GM_SET_BYTES 8U
 #define GM_STATE_BYTES 24U
+#define GM_REGISTERS_BYTES 64U
 #define GM_HEARTBEAT_BYTES 10U
 #define GM_VOTE_FRAME_BYTES 36U
 #define GM_VOTE_BYTES 28U
@@ -166,6 +202,17 @@ extern "C" {
 #define GM_REASON_STOPPED 0U   /* stopped or never started; also of a node that is not out */
 #define GM_REASON_NO_QUORUM 1U /* halted: no view had a quorum */
 #define GM_REASON_OUTVOTED 2U  /* halted: another view than its own had one */
+
+/* addresses in a register block behind its state, then flags, which are the enables too, and commands */
+#define GM_REGISTER_FLAGS 24U
+#define GM_REGISTER_ENABLES 25U
+#define GM_REGISTER_PENDING 26U
+#define GM_REGISTER_COMMAND 27U
+#define GM_FLAG_CHANGED 1U
+#define GM_FLAG_HALTED 2U
+#define GM_FLAG_ENTERED 4U
+#define GM_COMMAND_STOP 1U
+#define GM_COMMAND_START 2U
 
 /* where the numbers of a vote stand */
 #define GM_VOTE_AT_NUMBER 0U
@@ -229,7 +276,11 @@ extern "C" {
 #define GM_REFUSED_NUMBER 2U
 /* a buffer of another length than its entry names, or a row not of n states */
 #define GM_REFUSED_LENGTH 3U
-/* a state that is not well formed, or in a row a state q that is not node q of n */
+/*
+ * a state that is not well formed, or in a row a state q that is not node q of n; a register block whose
+ * state is not well formed, or whose other bytes cannot be so: flags or enables above 7, pending other than
+ * these make it, a byte from 27 on that is not 0
+ */
 #define GM_REFUSED_STATE 4U
 /* of a frame: fewer than 8 bytes, or not 8 plus twice the length field */
 #define GM_REFUSED_FRAME_LENGTH 5U
@@ -253,6 +304,8 @@ extern "C" {
  * first byte is not above that of the entry before it; a cycle of a table above number 4294967295
  */
 #define GM_REFUSED_LIMIT 13U
+/* of a register block: an address above 63 */
+#define GM_REFUSED_ADDRESS 14U
 
 /*
  * The stack that an entry takes at most, on one node and on a row, in bytes below its caller's stack
@@ -373,6 +426,34 @@ uint32_t gm_receive_vote(uint32_t n, uint32_t node, uint32_t cycle, const uint8_
  */
 uint32_t gm_decide(uint8_t *state, size_t state_len, uint64_t heard0, uint64_t heard1, const uint8_t *votes,
                    size_t votes_len, uint64_t arrived);
+
+/*
+ * Reads a register: *value is the byte at `address`, 0 to 255.
+ * block: GM_REGISTERS_BYTES. Refusals: LENGTH, STATE, ADDRESS.
+ */
+uint32_t gm_register_read(const uint8_t *block, size_t block_len, uint32_t address, uint32_t *value);
+
+/*
+ * Writes a register: what a write to `address` does stands at A REGISTER BLOCK above.
+ * block: GM_REGISTERS_BYTES. Refusals: LENGTH, STATE, ADDRESS.
+ */
+uint32_t gm_register_write(uint8_t *block, size_t block_len, uint32_t address, uint8_t value);
+
+/*
+ * The cycle of a register block: decides as gm_decide does of the same arguments, and raises the flag of
+ * what became of the node.
+ * block: GM_REGISTERS_BYTES, votes: GM_VOTES_BYTES. Refusals: LENGTH, STATE.
+ */
+uint32_t gm_register_cycle(uint8_t *block, size_t block_len, uint64_t heard0, uint64_t heard1,
+                           const uint8_t *votes, size_t votes_len, uint64_t arrived);
+
+/*
+ * What gm_register_write does and then gm_register_cycle, in one step; refused, neither is done.
+ * block: GM_REGISTERS_BYTES, votes: GM_VOTES_BYTES. Refusals: LENGTH, STATE, ADDRESS.
+ */
+uint32_t gm_register_write_cycle(uint8_t *block, size_t block_len, uint32_t address, uint8_t value,
+                                 uint64_t heard0, uint64_t heard1, const uint8_t *votes, size_t votes_len,
+                                 uint64_t arrived);
 
 /*
  * One cycle of all n nodes under the faults of one record of kind 2, on the row as it is lent.

@@ -19,7 +19,7 @@ static inline const char *gm_refusal_text(uint32_t status)
                "or an indicator to be written is wrong.";
         break;
     case GM_REFUSED_LENGTH: text = "A buffer has another length than its entry names, or a row has not one state for each node."; break;
-    case GM_REFUSED_STATE: text = "A state is not well formed, or stands in a row at the place of another node."; break;
+    case GM_REFUSED_STATE: text = "A state or a register block is not well formed, or a state stands in a row at the place of another node."; break;
     case GM_REFUSED_FRAME_LENGTH: text = "The frame has fewer than 8 bytes, or not as many as its length field says."; break;
     case GM_REFUSED_HEADER_CHECK: text = "The header check of the frame is wrong."; break;
     case GM_REFUSED_FRAME_CHECK: text = "The frame check is wrong: the frame is damaged, or of the other channel."; break;
@@ -35,6 +35,7 @@ static inline const char *gm_refusal_text(uint32_t status)
     case GM_REFUSED_CUT: text = "The table is empty, or it or the record ends before the record is whole."; break;
     case GM_REFUSED_KIND: text = "A record has a wrong mark or kind, or stands where its kind may not."; break;
     case GM_REFUSED_LIMIT: text = "The founding set is empty, or a node, count, entry or cycle is not allowed."; break;
+    case GM_REFUSED_ADDRESS: text = "The address is above 63, the last register of a block."; break;
     default: text = "No entry answers this number."; break;
     }
     return text;
