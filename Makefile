@@ -37,7 +37,7 @@ TO = $(DESTDIR)$(PREFIX)
 
 # in the order of `make help`: first the commands, then the parts of `test` and of `load`; the line above a target is what `make help` says of it
 .PHONY: help run archive host test evidence trace edits install uninstall compare bench stack load load-full
-.PHONY: format trace-test commands-test archive-test vectors-test badinput-test examples-test text-test arguments-test install-test compare-test load-test load-program load-archive
+.PHONY: format trace-test commands-test archive-test series-test vectors-test badinput-test examples-test text-test arguments-test install-test compare-test load-test load-program load-archive
 
 # a command that is needed and not there is named in one sentence, before anything is done
 called_rt = the Rattle kit
@@ -46,7 +46,7 @@ needs = $(foreach command,$(1),$(if $(shell command -v $(command) || true),,\
     $(error this needs $(or $(called_$(command)),$(command)): there is no command $(command) on the path$(without_$(command)))))
 # what these use only after minutes, when the archive or the program is made
 asked = $(if $(filter $(1),$(MAKECMDGOALS)),$(2))
-$(call needs,$(call asked,run host stack archive-test bench install,gcc) $(call asked,archive-test,g++) $(call asked,compare compare-test bench,cargo))
+$(call needs,$(call asked,run host stack archive-test series-test bench install,gcc) $(call asked,archive-test,g++) $(call asked,compare compare-test bench,cargo))
 
 # this list
 help:
@@ -66,7 +66,7 @@ run: $(GROUPRUN) $(TABLETEXT)
 
 # what `make test` runs before the gate: first what needs no archive, then the archive and the programs, last what takes longest
 FIRST_TESTS = format trace-test commands-test
-BUILT_TESTS = archive-test host run examples-test vectors-test badinput-test text-test arguments-test install-test
+BUILT_TESTS = archive-test series-test host run examples-test vectors-test badinput-test text-test arguments-test install-test
 LONG_TESTS = compare-test load-test
 # whether make was given an option of one letter
 option = $(findstring $1,$(filter-out -%,$(firstword $(MAKEFLAGS))))
@@ -104,6 +104,12 @@ $(ARCHIVE): $(SOURCES)
 # header and archive agree
 archive-test: archive
 	@tests/archive.sh $(ARCHIVE) $(BUILD)
+
+# the stored series of steps on register blocks give their stored statuses, values and blocks
+series-test: archive
+	@mkdir -p $(BUILD)
+	@$(C99) tests/series.c $(ARCHIVE) -o $(BUILD)/series
+	@$(BUILD)/series tests/vectors/t01/series.txt
 
 # the program that prints the run of a table
 $(GROUPRUN): $(SOURCES)

@@ -1,0 +1,230 @@
+/*
+ * The series of tests/vectors/t01 on the archive, step by step: the status, the value read and the whole block after each step, and that no byte beside what is lent
+ * is written. The README beside the file says its form. Prints how many series and steps agree; the first difference ends it, with the series and the line.
+ * Usage: series FILE
+ */
+#include "gm.h"
+
+#include <stdio.h>
+#include <stdlib.h>
+#include <string.h>
+
+enum { LINE = 4096, MOST_FIELDS = 10, MOST_NAME = 64, GUARD = 64, MOST_BLOCK = 128, MOST_VOTES = 4096, FILL = 0xA5, NO_BYTE = 0x5A5A5A5A };
+
+/* how far the series is that is being read */
+enum stage { NONE, NAMED, LENT };
+
+static enum stage stage;
+static char name[MOST_NAME] = "none";
+static unsigned long at, series, steps;
+
+/* what is lent, between guard bytes, and what is to stand there after the step */
+static uint8_t block[GUARD + MOST_BLOCK + GUARD], block_due[sizeof block];
+static uint8_t votes[GUARD + MOST_VOTES + GUARD], votes_due[sizeof votes];
+static uint32_t value[3] = {NO_BYTE, NO_BYTE, NO_BYTE}, value_due[3] = {NO_BYTE, NO_BYTE, NO_BYTE};
+static size_t block_len;
+
+static void must(int fact, const char *what)
+{
+    if (!fact) {
+        fprintf(stderr, "tests/series: series %s, line %lu: %s\n", name, at, what);
+        exit(1);
+    }
+}
+
+/* ---- fields */
+
+static uint32_t decimal(const char *field)
+{
+    size_t digits = strspn(field, "0123456789");
+    unsigned long long number = strtoull(field, NULL, 10);
+    must(digits > 0 && digits < 11 && field[digits] == '\0' && number <= UINT32_MAX, "this is no decimal number");
+    return (uint32_t)number;
+}
+
+/* of the next digits of a field, two for each byte */
+static uint64_t hexadecimal(const char *digits, size_t bytes)
+{
+    static const char hex[] = "0123456789abcdef";
+    uint64_t number = 0;
+    must(strspn(digits, hex) >= 2 * bytes, "hexadecimal digits are missing");
+    for (size_t k = 0; k < 2 * bytes; k++)
+        number = number << 4 | (uint64_t)(strchr(hex, digits[k]) - hex);
+    return number;
+}
+
+static uint8_t byte(const char *field)
+{
+    must(strlen(field) == 2, "this is no byte");
+    return (uint8_t)hexadecimal(field, 1);
+}
+
+static uint64_t mask(const char *field)
+{
+    must(strlen(field) == 2 * GM_SET_BYTES, "this is no mask");
+    return hexadecimal(field, GM_SET_BYTES);
+}
+
+static void put_bytes(uint8_t *to, const char *digits, size_t bytes)
+{
+    for (size_t k = 0; k < bytes; k++)
+        to[k] = (uint8_t)hexadecimal(digits + 2 * k, 1);
+}
+
+/* how many bytes a field has, `-` being none */
+static size_t length(const char *field, size_t most)
+{
+    size_t digits = strcmp(field, "-") == 0 ? 0 : strlen(field);
+    must(digits % 2 == 0 && digits / 2 <= most, "these are no bytes, or too many");
+    return digits / 2;
+}
+
+/* ---- what is lent */
+
+/* a slot that is free holds the vote that comes next, or the last: it would count if it were looked at */
+static void put_votes(uint8_t *slots, uint64_t arrived, const char *field)
+{
+    size_t left = length(field, GM_VOTES_BYTES) / GM_VOTE_BYTES;
+    const char *vote = field;
+    must(left * GM_VOTE_BYTES == length(field, GM_VOTES_BYTES), "a vote is not whole");
+    for (unsigned q = 0; q < GM_NODES_MAX; q++) {
+        unsigned came = arrived >> q & 1U;
+        must(left >= came, "a vote is missing");
+        if (strcmp(field, "-") != 0)
+            put_bytes(slots + q * GM_VOTE_BYTES, vote, GM_VOTE_BYTES);
+        left -= came;
+        vote += came > 0 && left > 0 ? 2 * GM_VOTE_BYTES : 0;
+    }
+    must(left == 0, "a vote has no sender");
+}
+
+/* the 1,792 bytes, cut or with zeros behind */
+static size_t lend_votes(const char *arrived, const char *field, const char *len_field)
+{
+    size_t len = decimal(len_field);
+    must(len <= MOST_VOTES, "the vote buffer is too long");
+    memset(votes, FILL, sizeof votes);
+    put_votes(votes + GUARD, mask(arrived), field);
+    memset(votes + GUARD + GM_VOTES_BYTES, 0, MOST_VOTES - GM_VOTES_BYTES);
+    memset(votes + GUARD + len, FILL, sizeof votes - GUARD - len);
+    memcpy(votes_due, votes, sizeof votes);
+    return len;
+}
+
+static void settle(uint32_t status, const char *status_due, const char *after)
+{
+    must(status == decimal(status_due), "another status");
+    if (strcmp(after, "=") != 0) {
+        must(length(after, MOST_BLOCK) == block_len, "the block after the step has another length");
+        put_bytes(block_due + GUARD, after, block_len);
+    }
+    must(memcmp(value, value_due, sizeof value) == 0, "another value is read");
+    must(memcmp(block + GUARD, block_due + GUARD, block_len) == 0, "the step leaves another block");
+    must(memcmp(block, block_due, sizeof block) == 0, "a byte beside the block is written");
+    must(memcmp(votes, votes_due, sizeof votes) == 0, "the votes are written");
+    steps++;
+}
+
+/* ---- lines */
+
+static void begin_series(char **field)
+{
+    must(stage != NAMED, "a series before it has no block");
+    must(strlen(field[1]) < sizeof name, "the name is too long");
+    strcpy(name, field[1]);
+    stage = NAMED;
+    series++;
+}
+
+static void lend_block(char **field)
+{
+    must(stage == NAMED, "a block without a series");
+    block_len = length(field[1], MOST_BLOCK);
+    memset(block, FILL, sizeof block);
+    put_bytes(block + GUARD, field[1], block_len);
+    memcpy(block_due, block, sizeof block);
+    stage = LENT;
+}
+
+static void read_register(char **field)
+{
+    uint32_t status;
+    value[1] = NO_BYTE;
+    status = gm_register_read(block + GUARD, block_len, decimal(field[1]), &value[1]);
+    value_due[1] = strcmp(field[3], "-") == 0 ? NO_BYTE : byte(field[3]);
+    settle(status, field[2], field[4]);
+}
+
+static void write_register(char **field)
+{
+    settle(gm_register_write(block + GUARD, block_len, decimal(field[1]), byte(field[2])), field[3], field[4]);
+}
+
+static void cycle(char **field)
+{
+    size_t len = lend_votes(field[3], field[4], field[5]);
+    settle(gm_register_cycle(block + GUARD, block_len, mask(field[1]), mask(field[2]), votes + GUARD, len, mask(field[3])), field[6], field[7]);
+}
+
+static void write_and_cycle(char **field)
+{
+    size_t len = lend_votes(field[5], field[6], field[7]);
+    uint32_t status = gm_register_write_cycle(block + GUARD, block_len, decimal(field[1]), byte(field[2]), mask(field[3]), mask(field[4]), votes + GUARD, len,
+                                              mask(field[5]));
+    settle(status, field[8], field[9]);
+}
+
+static const struct {
+    const char *word;
+    unsigned fields;
+    void (*done)(char **field);
+} kinds[] = {{"series", 2, begin_series}, {"block", 2, lend_block}, {"read", 5, read_register}, {"write", 5, write_register}, {"cycle", 8, cycle},
+             {"writecycle", MOST_FIELDS, write_and_cycle}};
+enum { KINDS = sizeof kinds / sizeof *kinds, STEPS_FROM = 2 };
+
+/* a space ends a field; how many there are, the rest of a line with too many being one more */
+static unsigned split(char *line, char **field)
+{
+    unsigned count = 0;
+    for (char *next = line; next != NULL && count <= MOST_FIELDS; count++) {
+        field[count] = next;
+        next = strchr(next, ' ');
+        if (next != NULL)
+            *next++ = '\0';
+    }
+    return count;
+}
+
+static void take_line(char *line)
+{
+    char *field[MOST_FIELDS + 1];
+    size_t end = strcspn(line, "\n");
+    unsigned count, kind = 0;
+    must(line[end] == '\n', "the line is too long, or has no end");
+    line[end] = '\0';
+    if (line[0] == '#')
+        return;
+    count = split(line, field);
+    while (kind < KINDS && strcmp(field[0], kinds[kind].word) != 0)
+        kind++;
+    must(kind < KINDS && count == kinds[kind].fields, "this line is none of a series");
+    must(kind < STEPS_FROM || stage == LENT, "a step without a block");
+    kinds[kind].done(field);
+}
+
+int main(int argc, char **argv)
+{
+    static char line[LINE];
+    FILE *file = argc == 2 ? fopen(argv[1], "r") : NULL;
+    if (file == NULL) {
+        fputs("usage: series FILE, which can be read\n", stderr);
+        return 2;
+    }
+    for (at = 1; fgets(line, sizeof line, file) != NULL; at++)
+        take_line(line);
+    must(ferror(file) == 0, "the file cannot be read further");
+    must(stage == LENT && steps > 0, "the file ends without a step");
+    fclose(file);
+    printf("tests/series: %lu series agree, %lu steps\n", series, steps);
+    return 0;
+}
