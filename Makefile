@@ -29,7 +29,8 @@ MANUALS = man/grouprun.1 man/tabletext.1
 LIBRARY_MANUALS = man/gm.3
 PACKAGES = lib/pkgconfig/gm.pc lib/cmake/gm/gm-config.cmake lib/cmake/gm/gm-config-version.cmake
 DOCUMENTS = CHANGELOG.md $(addprefix docs/,CLAIMS.md DECISIONS.md DEMANDS.md LIMITS.md SAFETY.md)
-EXAMPLES = examples/host.c examples/host.out $(wildcard examples/p*)
+HOSTS = host card
+EXAMPLES = $(foreach host,$(HOSTS),examples/$(host).c examples/$(host).out) $(wildcard examples/p*)
 below = $(addprefix $(1)/,$(notdir $(2)))
 INSTALLED = $(call below,bin,$(PROGRAMS)) lib/libgm.a $(HEADERS) $(PACKAGES) $(call below,share/man/man1,$(MANUALS)) \
     $(call below,share/man/man3,$(LIBRARY_MANUALS)) $(call below,share/doc/gm,$(DOCUMENTS)) $(call below,share/doc/gm/examples,$(EXAMPLES))
@@ -86,12 +87,11 @@ test:
 evidence: $(if $(wildcard log/gate.log),$(ARCHIVE) $(PROGRAMS))
 	@$(call needs,rt git)tools/evidence.sh $(VERSION) $(ARCHIVE) $(HEADERS) $(PROGRAMS)
 
-# five units run the example of the paper through frames on both channels, beside gm_cycle and over a bus with damage
+# five units run the example of the paper through frames on both channels, beside gm_cycle and over a bus with damage; then drive cards on register blocks
 host: archive
 	@mkdir -p $(BUILD)
-	@$(C99) examples/host.c $(ARCHIVE) -o $(BUILD)/host
-	@$(BUILD)/host | tee $(BUILD)/host.out
-	@diff examples/host.out $(BUILD)/host.out
+	@for host in $(HOSTS); do $(C99) examples/$$host.c $(ARCHIVE) -o $(BUILD)/$$host && $(BUILD)/$$host | tee $(BUILD)/$$host.out && \
+	    diff examples/$$host.out $(BUILD)/$$host.out || exit 1; done
 
 # prove the library, and build the archive that a host links with include/gm.h
 archive: $(ARCHIVE)

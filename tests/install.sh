@@ -15,7 +15,7 @@ expected() {
     printf '755 bin/%s\n' grouprun tabletext
     printf '644 %s\n' include/gm{,_refusal}.h lib/libgm.a lib/pkgconfig/gm.pc lib/cmake/gm/gm-config{,-version}.cmake
     printf '644 share/man/%s\n' man1/{grouprun,tabletext}.1 man3/gm.3
-    printf '644 share/doc/gm/%s\n' {CHANGELOG,CLAIMS,DECISIONS,DEMANDS,LIMITS,SAFETY}.md examples/host.{c,out} examples/p{1,2,3,4,5,6,7,8,9,10}.{out,txt}
+    printf '644 share/doc/gm/%s\n' {CHANGELOG,CLAIMS,DECISIONS,DEMANDS,LIMITS,SAFETY}.md examples/{host,card}.{c,out} examples/p{1,2,3,4,5,6,7,8,9,10}.{out,txt}
 }
 
 # the same files with and without DESTDIR, which stands in none of them
@@ -28,10 +28,13 @@ check_files() {
     grep -q 'not an absolute path' "$work/log" || fail "a relative PREFIX fails otherwise: $(<"$work/log")"
 }
 
-# a host built outside the repository with the flags given, so that only what is installed can be found
-builds_host() {
-    (cd "$work" && gcc -std=c99 -Wall -Wextra -Werror -pedantic prefix/share/doc/gm/examples/host.c "$@" -o host) || fail "host.c does not build with $*"
-    "$work/host" | cmp - examples/host.out || fail "the host prints another run"
+# the example hosts built outside the repository with the flags given, so that only what is installed can be found
+builds_hosts() {
+    local host
+    for host in host card; do
+        (cd "$work" && gcc -std=c99 -Wall -Wextra -Werror -pedantic "prefix/share/doc/gm/examples/$host.c" "$@" -o "$host") || fail "$host.c does not build with $*"
+        "$work/$host" | cmp - "examples/$host.out" || fail "$host.c prints another run"
+    done
 }
 
 # the C library's functions are bound before the first call, on which the header's stack figures rest
@@ -40,8 +43,8 @@ binds_now() {
 }
 
 check_host() {
-    builds_host "-I$prefix/include" "-L$prefix/lib" -lgm
-    tried+=("a host")
+    builds_hosts "-I$prefix/include" "-L$prefix/lib" -lgm
+    tried+=("two hosts")
 }
 
 check_pkg_config() {
@@ -52,7 +55,7 @@ check_pkg_config() {
     version=$(pkg-config --modversion gm)
     [ "$version" = "$(sed -n 's/^VERSION = //p' Makefile)" ] || fail "gm.pc has version $version, the Makefile another"
     read -ra flags <<<"$(pkg-config --cflags --libs gm)"
-    builds_host "${flags[@]}"
+    builds_hosts "${flags[@]}"
     binds_now "$work/host"
     tried+=("gm.pc")
 }
