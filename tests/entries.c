@@ -217,6 +217,66 @@ static void rows(void)
     stop_node_2(0xFF, 0);
 }
 
+/* what a call on a register block is lent, between bytes that it may not write */
+struct lent {
+    uint8_t before[8], block[GM_REGISTERS_BYTES], between[8], votes[GM_VOTES_BYTES], after[8];
+    uint32_t value[3];
+};
+static struct lent lent, due;
+
+static void left(const char *entry)
+{
+    if (memcmp(&lent, &due, sizeof lent) != 0) {
+        fprintf(stderr, "%s left other bytes\n", entry);
+        exit(1);
+    }
+}
+
+/* each refusal of each, of several the lowest; a byte of the block that must be 0 is not */
+static void registers_refused(void)
+{
+    uint8_t *block = lent.block;
+    expect("gm_register_read", gm_register_read(block, sizeof lent.block, 64, lent.value + 1), GM_REFUSED_ADDRESS);
+    expect("gm_register_write", gm_register_write(block, sizeof lent.block, UINT32_MAX, 7), GM_REFUSED_ADDRESS);
+    expect("gm_register_write_cycle", gm_register_write_cycle(block, sizeof lent.block, 64, 7, 0, 0, lent.votes, sizeof lent.votes, 0), GM_REFUSED_ADDRESS);
+    block[40] = due.block[40] = 1;
+    expect("gm_register_read", gm_register_read(block, sizeof lent.block, 64, lent.value + 1), GM_REFUSED_STATE);
+    expect("gm_register_write", gm_register_write(block, sizeof lent.block, 64, 7), GM_REFUSED_STATE);
+    expect("gm_register_cycle", gm_register_cycle(block, sizeof lent.block, 0, 0, lent.votes, sizeof lent.votes, 0), GM_REFUSED_STATE);
+    expect("gm_register_write_cycle", gm_register_write_cycle(block, sizeof lent.block, 64, 7, 0, 0, lent.votes, sizeof lent.votes, 0), GM_REFUSED_STATE);
+    expect("gm_register_read", gm_register_read(block, sizeof lent.block - 1, 64, lent.value + 1), GM_REFUSED_LENGTH);
+    expect("gm_register_write", gm_register_write(block, GM_STATE_BYTES, 64, 7), GM_REFUSED_LENGTH);
+    expect("gm_register_cycle", gm_register_cycle(block, sizeof lent.block, 0, 0, lent.votes, sizeof lent.votes - 1, 0), GM_REFUSED_LENGTH);
+    expect("gm_register_write_cycle", gm_register_write_cycle(block, 0, 64, 7, 0, 0, lent.votes, 0, 0), GM_REFUSED_LENGTH);
+    block[40] = due.block[40] = 0;
+    left("an entry that refused a block");
+}
+
+/* a founder that enables its flags, halts since it hears nobody, and is started together with a cycle */
+static void registers(void)
+{
+    static const uint8_t halted[GM_REGISTERS_BYTES] = {0, 1, 1, 5, [24] = 2, 7, 1};
+    memset(&lent, 0xA5, sizeof lent);
+    memset(lent.block, 0, sizeof lent.block);
+    gm_begin(5, 1, 0x1f, lent.block, GM_STATE_BYTES);
+    due = lent;
+    registers_refused();
+    expect("gm_register_write", gm_register_write(lent.block, sizeof lent.block, GM_REGISTER_ENABLES, 0xFF), 0);
+    due.block[25] = 7;
+    left("gm_register_write");
+    expect("gm_register_read", gm_register_read(lent.block, sizeof lent.block, GM_REGISTER_ENABLES, lent.value + 1), 0);
+    due.value[1] = 7;
+    left("gm_register_read");
+    expect("gm_register_cycle", gm_register_cycle(lent.block, sizeof lent.block, 0, 0, lent.votes, sizeof lent.votes, 0), 0);
+    memcpy(due.block, halted, sizeof halted);
+    left("gm_register_cycle");
+    expect("gm_register_write_cycle",
+           gm_register_write_cycle(lent.block, sizeof lent.block, GM_REGISTER_COMMAND, GM_COMMAND_START, 0, 0, lent.votes, sizeof lent.votes, 0), 0);
+    due.block[0] = 1;
+    due.block[1] = 0;
+    left("gm_register_write_cycle");
+}
+
 int main(void)
 {
     states();
@@ -224,6 +284,7 @@ int main(void)
     heartbeats();
     views_and_votes();
     rows();
+    registers();
     expect("gm_decide", gm_decide(state, sizeof state, 0x1d, 0, votes, sizeof votes, 0), 0);
     expect("gm_decide", gm_decide(state, sizeof state, 0x1d, 0, votes, sizeof votes - 1, 0), GM_REFUSED_LENGTH);
     printf("%u\n", entries);

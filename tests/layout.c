@@ -48,6 +48,16 @@ static void states(void)
     hold(number == 0x01020304 && set == 0x0F8 && base == 0x1F9, "number, set or base stands elsewhere");
 }
 
+/* the votes of units 1 and 2 of three, with group number 0 */
+static void put_votes(uint8_t *votes, uint64_t set, uint64_t view)
+{
+    for (size_t q = 1; q < 3; q++) {
+        put(votes + q * GM_VOTE_BYTES + GM_VOTE_AT_SET, GM_SET_BYTES, set);
+        put(votes + q * GM_VOTE_BYTES + GM_VOTE_AT_BASE, GM_SET_BYTES, set);
+        put(votes + q * GM_VOTE_BYTES + GM_VOTE_AT_VIEW, GM_SET_BYTES, view);
+    }
+}
+
 /* what becomes of the member above when nobody is heard, and of a founder of three whose two others vote for a view without it */
 static void reasons(void)
 {
@@ -56,14 +66,61 @@ static void reasons(void)
     hold(gm_decide(state, sizeof state, 0, 0, votes, sizeof votes, 0) == GM_OK && state[GM_STATE_AT_KIND] == GM_KIND_OUT, "a lonely member does not halt");
     hold(state[GM_STATE_AT_REASON] == GM_REASON_NO_QUORUM, "its reason is another");
     gm_begin(3, 0, 7, state, sizeof state);
-    for (size_t q = 1; q < 3; q++) {
-        put(votes + q * GM_VOTE_BYTES + GM_VOTE_AT_SET, GM_SET_BYTES, 7);
-        put(votes + q * GM_VOTE_BYTES + GM_VOTE_AT_BASE, GM_SET_BYTES, 7);
-        put(votes + q * GM_VOTE_BYTES + GM_VOTE_AT_VIEW, GM_SET_BYTES, 6);
-    }
+    put_votes(votes, 7, 6);
     hold(gm_decide(state, sizeof state, 6, 0, votes, sizeof votes, 6) == GM_OK && state[GM_STATE_AT_REASON] == GM_REASON_OUTVOTED, "nobody is outvoted");
     hold(gm_start(state, sizeof state) == GM_OK && state[GM_STATE_AT_KIND] == GM_KIND_JOINING, "a start does not make it joining");
     hold(gm_stop(state, sizeof state) == GM_OK && state[GM_STATE_AT_REASON] == GM_REASON_STOPPED, "a stop leaves a reason");
+}
+
+static uint32_t reads(const uint8_t *block, uint32_t address)
+{
+    uint32_t value = UINT32_MAX;
+    hold(gm_register_read(block, GM_REGISTERS_BYTES, address, &value) == GM_OK && value == block[address], "a register is refused, or reads as another");
+    return value;
+}
+
+static void writes(uint8_t *block, uint32_t address, uint32_t value)
+{
+    hold(gm_register_write(block, GM_REGISTERS_BYTES, address, (uint8_t)value) == GM_OK, "a write to a register is refused");
+}
+
+/* one of three founders, which loses another one, halts, is started, enters and is stopped; each flag is acknowledged together with the next cycle */
+static void registers(void)
+{
+    uint8_t block[GM_REGISTERS_BYTES] = {0}, votes[GM_VOTES_BYTES] = {0};
+    const uint32_t all = GM_FLAG_CHANGED | GM_FLAG_HALTED | GM_FLAG_ENTERED;
+    gm_begin(3, 0, 7, block, GM_STATE_BYTES);
+    writes(block, GM_REGISTER_ENABLES, UINT8_MAX);
+    hold(reads(block, GM_REGISTER_ENABLES) == all && reads(block, GM_REGISTER_PENDING) == 0, "enables stand elsewhere, or are not those of the flags");
+    put_votes(votes, 7, 3);
+    hold(gm_register_cycle(block, sizeof block, 2, 0, votes, sizeof votes, 2) == GM_OK, "a cycle of a block is refused");
+    hold(reads(block, GM_REGISTER_FLAGS) == GM_FLAG_CHANGED && reads(block, GM_REGISTER_PENDING) == 1, "a changed set raises no flag, or another");
+    hold(gm_register_write_cycle(block, sizeof block, GM_REGISTER_FLAGS, GM_FLAG_CHANGED, 0, 0, votes, sizeof votes, 0) == GM_OK, "a joint step is refused");
+    hold(reads(block, GM_REGISTER_FLAGS) == GM_FLAG_HALTED, "a halt raises no flag, or another");
+    writes(block, GM_REGISTER_COMMAND, GM_COMMAND_START);
+    hold(reads(block, GM_STATE_AT_KIND) == GM_KIND_JOINING && reads(block, GM_REGISTER_COMMAND) == 0, "no start is commanded");
+    put_votes(votes, 6, 7);
+    gm_register_write_cycle(block, sizeof block, GM_REGISTER_FLAGS, GM_FLAG_HALTED, 6, 0, votes, sizeof votes, 6);
+    hold(reads(block, GM_REGISTER_FLAGS) == GM_FLAG_ENTERED, "an entry raises no flag, or another");
+    writes(block, GM_REGISTER_COMMAND, GM_COMMAND_STOP);
+    hold(reads(block, GM_STATE_AT_KIND) == GM_KIND_OUT && reads(block, GM_STATE_AT_REASON) == GM_REASON_STOPPED, "no stop is commanded");
+    hold(reads(block, GM_REGISTER_FLAGS) == GM_FLAG_ENTERED && reads(block, GM_REGISTER_PENDING) == 1, "a stop changes the flags");
+    writes(block, GM_REGISTER_FLAGS, all);
+    hold(reads(block, GM_REGISTER_FLAGS) == 0 && reads(block, GM_REGISTER_PENDING) == 0, "a flag is not cleared");
+}
+
+/* the last register is read and none behind it; a byte that is none of a block is refused before that, and another length before both */
+static void last_register(void)
+{
+    uint8_t block[GM_REGISTERS_BYTES + 1U] = {0};
+    uint32_t value = 9;
+    gm_begin(3, 0, 7, block, GM_STATE_BYTES);
+    hold(reads(block, GM_REGISTERS_BYTES - 1U) == 0, "the last register is another");
+    hold(gm_register_read(block, GM_REGISTERS_BYTES, GM_REGISTERS_BYTES, &value) == GM_REFUSED_ADDRESS, "a register too many");
+    block[GM_REGISTER_COMMAND] = 1;
+    hold(gm_register_write(block, GM_REGISTERS_BYTES, GM_REGISTERS_BYTES, 0) == GM_REFUSED_STATE, "a command stands in a block");
+    hold(gm_register_write(block, sizeof block, GM_REGISTERS_BYTES, 0) == GM_REFUSED_LENGTH, "a block of another length is refused otherwise");
+    hold(value == 9, "a refused read gives a value");
 }
 
 /* the frame number of a frame: the 11 bits behind the five indicators */
@@ -207,9 +264,10 @@ static void longest(void)
 /* a word of each sentence, by its status, so that no two are exchanged */
 static const char *const word[] = {
     [GM_OK] = "accepted", [GM_REFUSED_COUNT] = "number of nodes is not 2 to 64", [GM_REFUSED_NUMBER] = "cycle count is above", [GM_REFUSED_LENGTH] = "buffer",
-    [GM_REFUSED_STATE] = "state is not well formed", [GM_REFUSED_FRAME_LENGTH] = "fewer than 8 bytes", [GM_REFUSED_HEADER_CHECK] = "header check",
+    [GM_REFUSED_STATE] = "register block is not well formed", [GM_REFUSED_FRAME_LENGTH] = "fewer than 8 bytes", [GM_REFUSED_HEADER_CHECK] = "header check",
     [GM_REFUSED_FRAME_CHECK] = "frame check is wrong", [GM_REFUSED_NULL_FRAME] = "null frame", [GM_REFUSED_NOT_DUE] = "due", [GM_REFUSED_CONTENT] = "content",
-    [GM_REFUSED_CUT] = "before the record is whole", [GM_REFUSED_KIND] = "mark or kind", [GM_REFUSED_LIMIT] = "founding set is empty"};
+    [GM_REFUSED_CUT] = "before the record is whole", [GM_REFUSED_KIND] = "mark or kind", [GM_REFUSED_LIMIT] = "founding set is empty",
+    [GM_REFUSED_ADDRESS] = "address is above 63"};
 enum { STATUSES = sizeof word / sizeof *word };
 
 /* every status up to the last has a sentence of its own, and no other number has one */
@@ -228,6 +286,8 @@ int main(void)
 {
     states();
     reasons();
+    registers();
+    last_register();
     frames();
     coinciding();
     damaged();

@@ -22,7 +22,8 @@ enum { NODES = 64, CHANNELS = 2, COUNTS = 64, PAGE = 4096, MOST_TABLES = 64 };
 enum { FIRST_BYTES = 12, CYCLE_BYTES = 36, ENTRY_BYTES = 9, ENTRIES_AT = 35, LONGEST_FRAME = 64, HEADER_BYTES = 5, NULL_FRAME = 0x20 };
 enum { HEARTBEAT, VOTE, PHASES };
 enum { BEGIN, STOP, START, STATE, WRITE_HEARTBEAT, SEND_HEARTBEAT, READ_HEARTBEAT, RECEIVE_HEARTBEAT, VIEW };
-enum { WRITE_VOTE = VIEW + 1, SEND_VOTE, READ_VOTE, RECEIVE_VOTE, DECIDE, CYCLE, RUN, RUN_FRAMES, ENTRIES };
+enum { WRITE_VOTE = VIEW + 1, SEND_VOTE, READ_VOTE, RECEIVE_VOTE, DECIDE, REGISTER_READ, REGISTER_WRITE, REGISTER_CYCLE, REGISTER_WRITE_CYCLE };
+enum { CYCLE = REGISTER_WRITE_CYCLE + 1, RUN, RUN_FRAMES, ENTRIES };
 
 /* `before` is what the host wrote into it, or NULL */
 struct lent {
@@ -50,8 +51,9 @@ struct faults {
     uint64_t stop, start, lost[PHASES], missed[PHASES][NODES];
 };
 
+/* its state alone, and the same state in a register block */
 struct unit {
-    struct lent state, votes;
+    struct lent state, block, votes;
     uint64_t heard0, heard1, arrived;
 };
 
@@ -102,6 +104,10 @@ static const struct {
     {"gm_read_vote", NUMBERS | BIT(GM_REFUSED_LENGTH) | FRAMES},
     {"gm_receive_vote", NUMBERS | BIT(GM_REFUSED_LENGTH)},
     {"gm_decide", STATES},
+    {"gm_register_read", STATES | BIT(GM_REFUSED_ADDRESS)},
+    {"gm_register_write", STATES | BIT(GM_REFUSED_ADDRESS)},
+    {"gm_register_cycle", STATES},
+    {"gm_register_write_cycle", STATES | BIT(GM_REFUSED_ADDRESS)},
     {"gm_cycle", RECORDS | BIT(GM_REFUSED_STATE)},
     {"gm_run", RECORDS},
     {"gm_run_frames", RECORDS},
@@ -258,7 +264,7 @@ static void settle(struct work *w, struct lent *l, int written)
 static int answered(struct work *w, unsigned entry, uint32_t status)
 {
     w->entry = entry;
-    if (status != 0 && (status > GM_REFUSED_LIMIT || (entries[entry].refusals & BIT(status)) == 0))
+    if (status != 0 && (status > GM_REFUSED_ADDRESS || (entries[entry].refusals & BIT(status)) == 0))
         fail(w, "gave a refusal that the header does not name");
     w->given[entry] |= BIT(status);
     return status == 0;
@@ -315,6 +321,26 @@ static struct lent state_near(struct work *w)
     if (one_in(w, 8))
         image[below(w, GM_STATE_BYTES)] = (uint8_t)any(w);
     return kept(w, copy_of(w, image, length_near(w, GM_STATE_BYTES)));
+}
+
+/* a block with any flags and enables; at times one of its bytes is another */
+static struct lent block_near(struct work *w)
+{
+    uint8_t block[3 * GM_REGISTERS_BYTES] = {0};
+    uint32_t n = 2 + below(w, NODES - 1);
+    put_image(w, block, n, below(w, n));
+    block[GM_REGISTER_FLAGS] = (uint8_t)below(w, 8);
+    block[GM_REGISTER_ENABLES] = (uint8_t)below(w, 8);
+    block[GM_REGISTER_PENDING] = (block[GM_REGISTER_FLAGS] & block[GM_REGISTER_ENABLES]) != 0;
+    if (one_in(w, 8))
+        block[below(w, GM_REGISTERS_BYTES)] = (uint8_t)any(w);
+    return kept(w, copy_of(w, block, length_near(w, GM_REGISTERS_BYTES)));
+}
+
+/* mostly a register in which a write does something */
+static uint32_t address_near(struct work *w)
+{
+    return one_in(w, 2) ? GM_REGISTER_FLAGS + below(w, 4) : number_near(w, GM_REGISTERS_BYTES);
 }
 
 /* the check over the bits from `from` to before `to`, highest first */
@@ -548,6 +574,42 @@ static void call_decide(struct work *w)
     settle(w, &votes, 0);
 }
 
+static void call_register_read(struct work *w)
+{
+    struct lent block = block_near(w), value = output(w, sizeof(uint32_t));
+    int accepted = answered(w, REGISTER_READ, gm_register_read(block.bytes, block.len, address_near(w), number_in(&value)));
+    settle(w, &block, 0);
+    settle(w, &value, accepted);
+}
+
+static void call_register_write(struct work *w)
+{
+    struct lent block = block_near(w);
+    uint32_t address = address_near(w);
+    int accepted = answered(w, REGISTER_WRITE, gm_register_write(block.bytes, block.len, address, (uint8_t)below(w, 8)));
+    settle(w, &block, accepted);
+}
+
+static void call_register_cycle(struct work *w)
+{
+    uint64_t heard0 = any(w), heard1 = any(w), arrived = any(w);
+    struct lent block = block_near(w), votes = filled(w, length_near(w, GM_VOTES_BYTES));
+    int accepted = answered(w, REGISTER_CYCLE, gm_register_cycle(block.bytes, block.len, heard0, heard1, votes.bytes, votes.len, arrived));
+    settle(w, &block, accepted);
+    settle(w, &votes, 0);
+}
+
+static void call_register_write_cycle(struct work *w)
+{
+    uint64_t heard0 = any(w), heard1 = any(w), arrived = any(w);
+    struct lent block = block_near(w), votes = filled(w, length_near(w, GM_VOTES_BYTES));
+    uint32_t address = address_near(w);
+    int accepted = answered(w, REGISTER_WRITE_CYCLE, gm_register_write_cycle(block.bytes, block.len, address, (uint8_t)any(w), heard0, heard1, votes.bytes,
+                                                                             votes.len, arrived));
+    settle(w, &block, accepted);
+    settle(w, &votes, 0);
+}
+
 static size_t record_length(const uint8_t *record)
 {
     return CYCLE_BYTES + ENTRY_BYTES * (size_t)record[ENTRIES_AT];
@@ -629,9 +691,9 @@ static void call_run_frames(struct work *w)
 }
 
 static void (*const calls[ENTRIES])(struct work *) = {
-    call_begin, call_stop,       call_start,     call_state,     call_write_heartbeat, call_send_heartbeat, call_read_heartbeat, call_receive_heartbeat,
-    call_view,  call_write_vote, call_send_vote, call_read_vote, call_receive_vote,    call_decide,         call_cycle,          call_run,
-    call_run_frames,
+    call_begin,             call_stop,           call_start,          call_state,                call_write_heartbeat, call_send_heartbeat, call_read_heartbeat,
+    call_receive_heartbeat, call_view,           call_write_vote,     call_send_vote,            call_read_vote,       call_receive_vote,   call_decide,
+    call_register_read,     call_register_write, call_register_cycle, call_register_write_cycle, call_cycle,           call_run,            call_run_frames,
 };
 
 /* every entry was accepted, and gave each refusal that the header names for it */
@@ -729,15 +791,24 @@ static void receive(struct press *p, uint32_t q, unsigned phase, uint32_t count,
     }
 }
 
+static void write_register(struct press *p, struct unit *u, uint32_t address, uint8_t value)
+{
+    must(p->work, REGISTER_WRITE, gm_register_write(u->block.bytes, u->block.len, address, value));
+}
+
 static void stop_and_start(struct press *p, const struct faults *f)
 {
     for (uint32_t q = 0; q < p->n; q++) {
         struct unit *u = &p->units[q];
         u->heard0 = u->heard1 = u->arrived = 0;
-        if (f->stop & only(q))
+        if (f->stop & only(q)) {
             must(p->work, STOP, gm_stop(u->state.bytes, u->state.len));
-        if (f->start & only(q))
+            write_register(p, u, GM_REGISTER_COMMAND, GM_COMMAND_STOP);
+        }
+        if (f->start & only(q)) {
             must(p->work, START, gm_start(u->state.bytes, u->state.len));
+            write_register(p, u, GM_REGISTER_COMMAND, GM_COMMAND_START);
+        }
     }
 }
 
@@ -762,6 +833,24 @@ static void clear_bus(struct press *p)
         give_back(&p->bus[k / CHANNELS].copy[k % CHANNELS]);
 }
 
+/* with the flags of the cycle before acknowledged, where there are any; the state in the block is then that of the unit's own decision */
+static void cycle_block(struct press *p, struct unit *u)
+{
+    struct lent *b = &u->block;
+    uint32_t pending, flags;
+    must(p->work, REGISTER_READ, gm_register_read(b->bytes, b->len, GM_REGISTER_PENDING, &pending));
+    must(p->work, REGISTER_READ, gm_register_read(b->bytes, b->len, GM_REGISTER_FLAGS, &flags));
+    if (pending)
+        must(p->work, REGISTER_WRITE_CYCLE, gm_register_write_cycle(b->bytes, b->len, GM_REGISTER_FLAGS, (uint8_t)flags, u->heard0, u->heard1, u->votes.bytes,
+                                                                    u->votes.len, u->arrived));
+    else
+        must(p->work, REGISTER_CYCLE, gm_register_cycle(b->bytes, b->len, u->heard0, u->heard1, u->votes.bytes, u->votes.len, u->arrived));
+    if (memcmp(b->bytes, u->state.bytes, u->state.len) != 0)
+        fail(p->work, "leaves another state than gm_decide");
+    must_be_defined(p->work, b->bytes, b->len);
+    note(p->work, b->bytes, b->len);
+}
+
 /* the vote buffer is as it was allocated, but for the votes that arrived */
 static void decide_all(struct press *p)
 {
@@ -770,6 +859,7 @@ static void decide_all(struct press *p)
         must(p->work, DECIDE, gm_decide(u->state.bytes, u->state.len, u->heard0, u->heard1, u->votes.bytes, u->votes.len, u->arrived));
         must_be_defined(p->work, u->state.bytes, u->state.len);
         note(p->work, u->state.bytes, u->state.len);
+        cycle_block(p, u);
     }
 }
 
@@ -804,9 +894,14 @@ static void begin_press(struct press *p, struct work *w)
     p->n = w->tables->bytes[3];
     p->nothing = room_for(w, 0);
     for (uint32_t q = 0; q < p->n; q++) {
-        p->units[q].state = room_for(w, GM_STATE_BYTES);
-        p->units[q].votes = room_for(w, GM_VOTES_BYTES);
-        must(w, BEGIN, gm_begin(p->n, q, founding, p->units[q].state.bytes, GM_STATE_BYTES));
+        struct unit *u = &p->units[q];
+        u->state = room_for(w, GM_STATE_BYTES);
+        u->block = room_for(w, GM_REGISTERS_BYTES);
+        u->votes = room_for(w, GM_VOTES_BYTES);
+        must(w, BEGIN, gm_begin(p->n, q, founding, u->state.bytes, u->state.len));
+        memset(u->block.bytes, 0, u->block.len);
+        must(w, BEGIN, gm_begin(p->n, q, founding, u->block.bytes, GM_STATE_BYTES));
+        write_register(p, u, GM_REGISTER_ENABLES, UINT8_MAX);
     }
 }
 
@@ -814,6 +909,7 @@ static void end_press(struct press *p)
 {
     for (uint32_t q = 0; q < p->n; q++) {
         give_back(&p->units[q].state);
+        give_back(&p->units[q].block);
         give_back(&p->units[q].votes);
     }
     give_back(&p->nothing);

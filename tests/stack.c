@@ -15,7 +15,7 @@ enum { STACK = 1 << 18, PAINT = 0xA5, MARGIN = 256 };
 static uint8_t *stack;
 static uint8_t state[GM_STATE_BYTES], joiner[GM_STATE_BYTES], votes[GM_VOTES_BYTES], beat[GM_HEARTBEAT_BYTES], frame[GM_VOTE_FRAME_BYTES];
 static uint8_t payload[GM_VOTE_BYTES];
-static uint8_t row[64 * GM_STATE_BYTES], frames[GM_FRAMES_BYTES];
+static uint8_t row[64 * GM_STATE_BYTES], frames[GM_FRAMES_BYTES], block[GM_REGISTERS_BYTES];
 static uint8_t *origin;
 static uint32_t numbers[4];
 static uint64_t base;
@@ -67,6 +67,11 @@ static void run_entry(unsigned which)
     case 16: CALL(gm_run, row, sizeof row, table, sizeof table); break;
     case 17: CALL(gm_run_frames, row, sizeof row, table, sizeof table, frames, sizeof frames); break;
     case 18: CALL(gm_cycle, 64, row, sizeof row, table + 12, 36); break;
+    case 19: CALL(gm_begin, 64, 3, all, block, GM_STATE_BYTES); break;
+    case 20: CALL(gm_register_read, block, sizeof block, 0, &number); break;
+    case 21: CALL(gm_register_write_cycle, block, sizeof block, GM_REGISTER_ENABLES, 7, all, 0, votes, sizeof votes, all); break;
+    case 22: CALL(gm_register_write, block, sizeof block, GM_REGISTER_COMMAND, GM_COMMAND_START); break;
+    case 23: CALL(gm_register_cycle, block, sizeof block, all, 0, votes, sizeof votes, all); break;
     default: called = NULL;
     }
 }
