@@ -1,6 +1,7 @@
 /*
- * gm.h: proved group membership for a FlexRay cluster of 2 to 64 nodes: the node end, and runs over a fault
- * table. The archive libgm.a is for x86-64 Linux; this header is C99 and C++.
+ * gm.h: proved group membership for a FlexRay cluster of 2 to 64 nodes: the node end, the same as registers
+ * for a drive card, and runs over a fault table. The archive libgm.a is for x86-64 Linux; this header is
+ * C99 and C++.
  *
  * CALLS. Every entry answers GM_OK, or the number of its refusal (GM_REFUSED_..; gm_refusal.h has a
  * sentence for each). A refusal changes nothing: every buffer and every result is as it came in. Of several
@@ -19,8 +20,9 @@
  * not come lend the other one's pointer with length 0. What an entry only reads (const) may coincide with
  * or overlap anything else that it only reads in that call, such as one frame lent as both copies. A buffer
  * or a result that it writes overlaps nothing else of the call, no other result either; what happens where
- * it does is outside the promise. Nobody else writes a buffer, or reads one that is written, until the call
- * returns. Entries may be called from several threads at once on buffers of their own.
+ * it does is outside the promise. Nobody else writes a buffer, or reads one that is written (but see A
+ * REGISTER BLOCK), until the call returns. Entries may be called from several threads at once on buffers of
+ * their own.
  *
  * NUMBERS. A set of nodes is a mask of 64 bits, bit q for node q; nodes are numbered from 0, and n is how
  * many there are. Arguments and results are numbers of the host. In states, votes, frames and tables every
@@ -48,10 +50,10 @@
  *     flag; other values do nothing, and it reads 0
  *     bytes 28-63: 0; writes do nothing
  * It begins as the 24 bytes of gm_begin, called on the block with length GM_STATE_BYTES, and 40 zero bytes
- * behind them. The entries of the node end take its first 24 bytes as the state, as in gm_send_heartbeat
- * (block, GM_STATE_BYTES, ..); but gm_stop, gm_start and gm_decide called so raise no flag. The cycle of a
- * block, gm_register_cycle, decides as gm_decide does and raises at most one flag, by the state right
- * before the decision and the one after it:
+ * behind them. The entries of the node end take its first 24 bytes as the state, as in
+ * gm_send_heartbeat(block, GM_STATE_BYTES, ..); but gm_stop, gm_start and gm_decide called so raise no
+ * flag. The cycle of a block, gm_register_cycle, decides as gm_decide does and raises at most one flag, by
+ * the state right before the decision and the one after it:
  *   - GM_FLAG_CHANGED: a member before and after, and the set is another; a base or a number that changes
  *     alone raises nothing
  *   - GM_FLAG_HALTED: a member before, out after, with reason 1 or 2
@@ -93,7 +95,7 @@
  *     bytes ascend, and no two are equal.
  *
  * ONE CYCLE of a node, heard0, heard1 and arrived being 0 before it:
- *   1. gm_stop, gm_start where the host wants it
+ *   1. gm_stop, gm_start where the host wants it, or writes of these commands to a register block
  *   2. gm_send_heartbeat for each channel; the host sends the frame if there is one
  *   3. gm_receive_heartbeat for every other node; the sender's bit is set in heard0 after GM_HEARD_MEMBER
  *      and in heard1 after GM_HEARD_JOINING
