@@ -41,7 +41,7 @@
  *
  * A REGISTER BLOCK is 64 bytes, as which a drive card sees one node. GM_REGISTER_.. are addresses, which
  * count its bytes from 0:
- *     bytes 0-23: a state; writes do nothing
+ *     bytes 0-23: a state (GM_STATE_AT_..); writes do nothing
  *     byte 24: flags, GM_FLAG_..; a one that is written clears its flag, a zero does nothing; bits 3-7 are
  *     always 0
  *     byte 25: enables, a bit for each flag; of what is written bits 0-2 are kept
