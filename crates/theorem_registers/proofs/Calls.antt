@@ -83,9 +83,9 @@ done-shows (read {ts} {vs} {x} {z} κs a r s l p rest) m f h =
   where
     status : {k : ℕ} {x y : List ℕ} → k ≡ stepStatus (Read (a .1 .0)) x → x ≡ y → k ≡ stepStatus (Read (a .1 .0)) y
     status e q = e ∙ ap (stepStatus (Read (a .1 .0))) q
-done-shows (write {ts} {vs} {x} {y} {z} κs a r s l p q rest) m f h = by-step _ ts vs (now (a .0)) x (now (s .0)) y z r (λ m. refl) (l .0) (l .1) p q m f h (done-shows rest)
-done-shows (cycle {ts} {vs} {x} {y} {z} κs a r s l p q rest) m f h = by-step _ ts vs (now (a .0)) x (now (s .0)) y z r (λ m. refl) (l .0) (l .1) p q m f h (done-shows rest)
-done-shows (write-cycle {ts} {vs} {x} {y} {z} κs a r s l p q rest) m f h = by-step _ ts vs (now (a .0)) x (now (s .0)) y z r (λ m. refl) (l .0) (l .1) p q m f h (done-shows rest)
+done-shows (write {ts} {vs} {x} {y} {z} κs a r s l p q rest) m f h = by-step _ ts vs (now (a .0)) x (now (s .0)) y z r (λ m. refl) (l .0) (l .1) p q m f h (λ n g e. done-shows rest n g e)
+done-shows (cycle {ts} {vs} {x} {y} {z} κs a r s l p q rest) m f h = by-step _ ts vs (now (a .0)) x (now (s .0)) y z r (λ m. refl) (l .0) (l .1) p q m f h (λ n g e. done-shows rest n g e)
+done-shows (write-cycle {ts} {vs} {x} {y} {z} κs a r s l p q rest) m f h = by-step _ ts vs (now (a .0)) x (now (s .0)) y z r (λ m. refl) (l .0) (l .1) p q m f h (λ n g e. done-shows rest n g e)
 
 pub over-blocks : OverBlocks
 over-blocks m ts vs z f d =
