@@ -2,26 +2,72 @@
 ghost use mathlib.Core.Path.{_≡_};
 ghost use Prim.Native.Nat.{_≤_, _<_};
 ghost use lib.ListN.{length};
-ghost use Rattle.registers.specs.Steps.{Read, Write, Cycle, WriteCycle, cleared as theCleared, commanded as theCommanded, written as theWritten, raisedBy, raised as theRaised, cycled as theCycled, stepStatus, stepLeft, stepValue};
-use registers::Flags;
-use registers::LentBlock;
-use registers::Machine;
+ghost use Rattle.registers.specs.Block.{flagsByte, registersAt};
+ghost use Rattle.registers.specs.Steps.{Read, Write, Cycle, WriteCycle, commanded as theCommanded, raisedBy, stepStatus, stepLeft, stepValue};
+ghost use Rattle.entry_registers.specs.InPlace.{blockStatus, flagsAfter, enablesAfter, commandLeft, writeLeft, cycleLeft};
+use state::Decoded;
 use state::Node;
 use state::State;
 
-// A one clears its flag.
-fn cleared(value: u8, f: Flags) -> Flags
-    ensures { λ r. ⌜ r ≡ theCleared value f ⌝ }
+// Refusals 3 and 4 of a block.
+fn refusal(block: &[u8]) -> u32
+    ensures { λ r. ⌜ r ≡ blockStatus (registersAt (now (block .entry))) ⌝ }
 {
-    let v = register_block::flags_in(value);
-    Flags {
-        changed: f.changed & !v.changed,
-        halted: f.halted & !v.halted,
-        entered: f.entered & !v.entered,
+    let status = register_block::rest_refusal(block);
+    if status != 0 {
+        return status;
+    }
+    match state_decoding::decode(&block[0..24]) {
+        Decoded::Good(_) => 0,
+        Decoded::WrongLength => 4,
+        Decoded::Malformed => 4,
     }
 }
 
-// Rule 1 by command.
+// Byte 24 after a write: a one clears its flag.
+fn flags_after(address: u32, value: u8, flags: u8) -> u8
+    ensures { λ r. ⌜ r ≡ flagsAfter address value flags ⌝ }
+{
+    if address == 24 { flags & !value } else { flags }
+}
+
+// Byte 25 after a write.
+fn enables_after(address: u32, value: u8, enables: u8) -> u8
+    ensures { λ r. ⌜ r ≡ enablesAfter address value enables ⌝ }
+{
+    if address == 25 { value % 8 } else { enables }
+}
+
+// Rule 1 by command, on the state in a block.
+fn command(value: u8, block: &mut [u8])
+    requires { ⌜ length (now block) ≡ 64 ⌝ }
+    ensures { λ _. ⌜ now (block .exit) ≡ commandLeft value (now (block .entry)) ⌝ }
+{
+    match value {
+        1 => {
+            entry_stop_start::stop(&mut block[0..24]);
+        }
+        2 => {
+            entry_stop_start::start(&mut block[0..24]);
+        }
+        _ => {}
+    }
+}
+
+// A byte to an address of a block that was looked at.
+fn put_value(address: u32, value: u8, block: &mut [u8])
+    requires { ⌜ length (now block) ≡ 64 ⌝ }
+    ensures { λ _. ⌜ now (block .exit) ≡ writeLeft address value (now (block .entry)) ⌝ }
+{
+    let flags = flags_after(address, value, block[24]);
+    let enables = enables_after(address, value, block[25]);
+    register_block::put_flags(flags, enables, block);
+    if address == 27 {
+        command(value, block);
+    }
+}
+
+// Rule 1 by command, on a node.
 fn commanded(value: u8, n: Node) -> Node
     ensures { λ r. ⌜ r ≡ theCommanded value n ⌝ }
 {
@@ -32,85 +78,48 @@ fn commanded(value: u8, n: Node) -> Node
     }
 }
 
-fn written(address: u32, value: u8, m: Machine) -> Machine
-    ensures { λ r. ⌜ r ≡ theWritten address value m ⌝ }
+// The flag, as its bit, that a cycle raises which finds a node in state s and leaves it in state t.
+fn raised_by(s: State, t: State) -> u8
+    ensures { λ r. ⌜ r ≡ flagsByte (raisedBy s t) ⌝ }
 {
-    let node = m.node;
-    let flags = m.flags;
-    let enables = m.enables;
-    match address {
-        24 => Machine {
-            node,
-            flags: cleared(value, flags),
-            enables,
-        },
-        25 => Machine {
-            node,
-            flags,
-            enables: register_block::flags_in(value),
-        },
-        27 => Machine {
-            node: commanded(value, node),
-            flags,
-            enables,
-        },
-        _ => m,
-    }
-}
-
-// What a cycle raises that finds a node in state s and leaves it in state t.
-fn raised_by(s: State, t: State) -> Flags
-    ensures { λ r. ⌜ r ≡ raisedBy s t ⌝ }
-{
-    let mut changed = false;
-    let mut halted = false;
-    let mut entered = false;
     match s {
-        State::Out(_) => {}
-        State::Joining => entered = rule_steps::sends_member(t),
+        State::Out(_) => 0,
+        State::Joining => if rule_steps::sends_member(t) { 4 } else { 0 },
         State::Member(g) => match t {
-            State::Out(r) => halted = state_encoding::reason_code(r) != 0,
-            State::Joining => {}
-            State::Member(h) => changed = g.set != h.set,
+            State::Out(r) => if state_encoding::reason_code(r) != 0 {
+                2
+            } else {
+                0
+            },
+            State::Joining => 0,
+            State::Member(h) => if g.set != h.set { 1 } else { 0 },
         },
     }
-    Flags {
-        changed,
-        halted,
-        entered,
-    }
 }
 
-// Flags stay set until they are cleared.
-fn raised(f: Flags, g: Flags) -> Flags
-    ensures { λ r. ⌜ r ≡ theRaised f g ⌝ }
+// The rest of a cycle of node n, whose block has these flags and enables.
+fn decide(
+    n: Node,
+    flags: u8,
+    enables: u8,
+    heard0: u64,
+    heard1: u64,
+    votes: &[u8],
+    arrived: u64,
+    block: &mut [u8],
+)
+    requires { ⌜ (n .nodes ≤ 64) × (n .id < n .nodes) × (length (now votes) ≡ 1792) × (length (now block) ≡ 64) ⌝ }
+    ensures { λ _. ⌜ now (block .exit) ≡ cycleLeft n flags enables heard0 heard1 (now (votes .entry)) arrived (now (block .entry)) ⌝ }
 {
-    Flags {
-        changed: f.changed | g.changed,
-        halted: f.halted | g.halted,
-        entered: f.entered | g.entered,
-    }
-}
-
-// The rest of a cycle, and the flag that it raises.
-fn cycled(heard0: u64, heard1: u64, votes: &[u8], arrived: u64, m: Machine) -> Machine
-    requires { ⌜ (m .node .nodes ≤ 64) × (m .node .id < m .node .nodes) × (length (now votes) ≡ 1792) ⌝ }
-    ensures { λ r. ⌜ r ≡ theCycled heard0 heard1 (now (votes .entry)) arrived m ⌝ }
-{
-    let n = m.node;
-    let flags = m.flags;
-    let enables = m.enables;
     let before = n.state;
     let after = entry_decide::next_state(n, heard0, heard1, votes, arrived);
-    Machine {
-        node: Node {
-            state: after,
-            id: n.id,
-            nodes: n.nodes,
-        },
-        flags: raised(flags, raised_by(before, after)),
-        enables,
-    }
+    let image = state_encoding::encode(Node {
+        state: after,
+        id: n.id,
+        nodes: n.nodes,
+    });
+    parts::put(block, 0, &image);
+    register_block::put_flags(flags | raised_by(before, after), enables, block);
 }
 
 // The byte at an address.
@@ -118,17 +127,15 @@ pub fn read(block: &[u8], address: u32, value: &mut u32) -> u32
     ensures { λ r. ⌜ r ≡ stepStatus (Read address) (now (block .entry)) ⌝ }
     ensures { λ _. ⌜ now (value .exit) ≡ stepValue (Read address) (now (block .entry)) (now (value .entry)) ⌝ }
 {
-    match register_block::registers_at(block) {
-        LentBlock::Holds(_) => {
-            if 63 < address {
-                return 14;
-            }
-            *value = bigendian::wide(block[address as usize]);
-            0
-        }
-        LentBlock::WrongLength => 3,
-        LentBlock::Malformed => 4,
+    let status = refusal(block);
+    if status != 0 {
+        return status;
     }
+    if 63 < address {
+        return 14;
+    }
+    *value = bigendian::wide(block[address as usize]);
+    0
 }
 
 // A byte to an address.
@@ -136,20 +143,18 @@ pub fn write(block: &mut [u8], address: u32, value: u8) -> u32
     ensures { λ r. ⌜ r ≡ stepStatus (Write address value) (now (block .entry)) ⌝ }
     ensures { λ _. ⌜ now (block .exit) ≡ stepLeft (Write address value) (now (block .entry)) ⌝ }
 {
-    match register_block::registers_at(block) {
-        LentBlock::Holds(m) => {
-            if 63 < address {
-                return 14;
-            }
-            register_block::put_machine(written(address, value, m), block);
-            0
-        }
-        LentBlock::WrongLength => 3,
-        LentBlock::Malformed => 4,
+    let status = refusal(block);
+    if status != 0 {
+        return status;
     }
+    if 63 < address {
+        return 14;
+    }
+    put_value(address, value, block);
+    0
 }
 
-// A write and a cycle together, the write first.
+// A write and a cycle together, the write first. A command is done on the node, which is not read from the block again.
 pub fn write_cycle(
     block: &mut [u8],
     address: u32,
@@ -165,17 +170,35 @@ pub fn write_cycle(
     if votes.len() != 1792 {
         return 3;
     }
-    match register_block::registers_at(block) {
-        LentBlock::Holds(m) => {
+    let status = register_block::rest_refusal(block);
+    if status != 0 {
+        return status;
+    }
+    match state_decoding::decode(&block[0..24]) {
+        Decoded::Good(n) => {
             if 63 < address {
                 return 14;
             }
-            let next = cycled(heard0, heard1, votes, arrived, written(address, value, m));
-            register_block::put_machine(next, block);
+            let flags = flags_after(address, value, block[24]);
+            let enables = enables_after(address, value, block[25]);
+            if address == 27 {
+                decide(
+                    commanded(value, n),
+                    flags,
+                    enables,
+                    heard0,
+                    heard1,
+                    votes,
+                    arrived,
+                    block,
+                );
+            } else {
+                decide(n, flags, enables, heard0, heard1, votes, arrived, block);
+            }
             0
         }
-        LentBlock::WrongLength => 3,
-        LentBlock::Malformed => 4,
+        Decoded::WrongLength => 4,
+        Decoded::Malformed => 4,
     }
 }
 

@@ -1,3 +1,2 @@
 pub mod Zeros
-pub mod Putting
-pub mod Reading
+pub mod Flags

@@ -6,8 +6,7 @@ use native.Mathlib.Omega.{arith}
 use lib.Dec.{ltb}
 use Rattle.sets.specs.Sets.{has}
 use Rattle.sets.proofs.Booleans.{ltb-lt}
-use Rattle.registers.specs.declared.Flags.{Flags}
-use Rattle.registers.specs.Block.{flagsByte, flagsIn}
+use Rattle.registers.specs.Block.{Flags, flagsByte, flagsIn}
 
 abbrev pub three : Bool → Bool → Bool → Flags
 three c h e = record { changed = c; halted = h; entered = e }

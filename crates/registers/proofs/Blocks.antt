@@ -6,7 +6,7 @@ use Prim.Native.Nat.{ℕ, zero, suc, _+_, _-_, _≤_, _<_}
 use native.Mathlib.Omega.{arith}
 use lib.Dec.{eqb, ltb, lit<}
 use lib.ListN.{getD, length, take, drop, replicate, length-append, take-append-drop, length-drop, List·getD-append, List·getD-eq-default}
-use lib.Seq.{take-at, drop-append-add, getD-append-add, getD-take, drop-cons}
+use lib.Seq.{take-at, drop-at, drop-append-add, getD-append-add, getD-take, drop-cons}
 use borrow.Author.Tests.{eq-eqb, ne-eqb, ltb-false}
 use Rattle.sets.specs.Sets.{has}
 use Rattle.sets.proofs.Booleans.{eqb-self, eqb-true, ltb-lt, and-l, and-r, and-i}
@@ -16,10 +16,7 @@ use Rattle.state.specs.declared.Decoded.{Decoded}
 use Rattle.state.specs.declared.Decoded.the-variants.{Good, WrongLength as OfAnotherLength, Malformed as NoImage}
 use Rattle.state.specs.Image.{imageOf, decoded}
 use Rattle.state.proofs.RoundTrip.{image-length, round-trip, image-back, decoded-formed}
-use Rattle.registers.specs.declared.Machine.{Machine}
-use Rattle.registers.specs.declared.LentBlock.{LentBlock}
-use Rattle.registers.specs.declared.LentBlock.the-variants.{Holds, WrongLength, Malformed}
-use Rattle.registers.specs.Block.{flagsByte, flagsIn, pendingByte, blockOf, shown, formedMachine, allZero, readsSo, machineIn, registersAt}
+use Rattle.registers.specs.Block.{Machine, LentBlock, Holds, WrongLength, Malformed, flagsByte, flagsIn, pendingByte, blockOf, shown, formedMachine, allZero, readsSo, machineIn, registersAt}
 use Rattle.registers.proofs.Bits.{three, flags-back, flags-few, byte-back}
 
 -- ---- the parts of a block
@@ -36,15 +33,19 @@ pub image-part : (m : Machine) → take 24 (blockOf m) ≡ imageOf (m .node)
 unfolding blockOf
 image-part m = take-at (imageOf (m .node)) (behind m) 24 (image-length (m .node))
 
+pub rest-part : (m : Machine) → drop 24 (blockOf m) ≡ behind m
+unfolding blockOf
+rest-part m = drop-at (imageOf (m .node)) (behind m) 24 (image-length (m .node))
+
 at-behind : (m : Machine) (k : ℕ) → getD (blockOf m) (24 + k) 0 ≡ getD (behind m) k 0
 unfolding blockOf
 at-behind m k =
     ap (λ (l : ℕ). getD (imageOf (m .node) ++ behind m) (l + k) 0) (sym (image-length (m .node))) ∙ getD-append-add (imageOf (m .node)) (behind m) k 0
 
-flags-at : (m : Machine) → getD (blockOf m) 24 0 ≡ flagsByte (m .flags)
+pub flags-at : (m : Machine) → getD (blockOf m) 24 0 ≡ flagsByte (m .flags)
 flags-at m = at-behind m 0
 
-enables-at : (m : Machine) → getD (blockOf m) 25 0 ≡ flagsByte (m .enables)
+pub enables-at : (m : Machine) → getD (blockOf m) 25 0 ≡ flagsByte (m .enables)
 enables-at m = at-behind m 1
 
 pending-at : (m : Machine) → getD (blockOf m) 26 0 ≡ pendingByte (m .flags) (m .enables)
@@ -54,25 +55,6 @@ pub rest-at : (m : Machine) → drop 27 (blockOf m) ≡ replicate 37 0
 unfolding blockOf
 rest-at m =
     ap (λ (l : ℕ). drop (l + 3) (imageOf (m .node) ++ behind m)) (sym (image-length (m .node))) ∙ drop-append-add (imageOf (m .node)) (behind m) 3
-
--- ---- from a machine to its block and back
-
-block-reads : (m : Machine) → readsSo (blockOf m) ≡ true
-unfolding readsSo
-block-reads m =
-    let f = m .flags in
-    let e = m .enables in
-    let same : pendingByte (flagsIn (flagsByte f)) (flagsIn (flagsByte e)) ≡ pendingByte f e = ap₂ pendingByte (flags-back f) (flags-back e) in
-    and-i _ _ (and-i _ _ (and-i _ _ (ap (λ (b : ℕ). ltb b 8) (flags-at m) ∙ flags-few f) (ap (λ (b : ℕ). ltb b 8) (enables-at m) ∙ flags-few e))
-    (ap₂ eqb (pending-at m) (ap₂ (λ (a b : ℕ). pendingByte (flagsIn a) (flagsIn b)) (flags-at m) (enables-at m) ∙ same) ∙ eqb-self (pendingByte f e)))
-    (ap allZero (rest-at m))
-
-pub block-back : (m : Machine) → formedMachine m ≡ true → registersAt (blockOf m) ≡ Holds m
-unfolding registersAt
-block-back m f =
-    let machine : ℕ → ℕ → Machine = λ a b. record { node = m .node; flags = flagsIn a; enables = flagsIn b } in
-    rw (block-length m, block-reads m, image-part m, round-trip (m .node) f)
-    (ap Holds (ap₂ machine (flags-at m) (enables-at m) ∙ (λ i. record { node = m .node; flags = flags-back (m .flags) i; enables = flags-back (m .enables) i })))
 
 -- ---- from a block to its machine and back
 
@@ -127,6 +109,25 @@ held-block s m b = go (eqb (length s) 64) (readsSo s) (decoded (take 24 s)) refl
     go true true NoImage l r e h = let z : _≡_ {A = ℕ} 0 1 = cc in absurd (omega arith)
     go true false d l r e h = let z : _≡_ {A = ℕ} 0 1 = cc in absurd (omega arith)
     go false so d l r e h = let z : _≡_ {A = ℕ} 0 1 = cc in absurd (omega arith)
+
+-- ---- from a machine to its block and back
+
+block-reads : (m : Machine) → readsSo (blockOf m) ≡ true
+unfolding readsSo
+block-reads m =
+    let f = m .flags in
+    let e = m .enables in
+    let same : pendingByte (flagsIn (flagsByte f)) (flagsIn (flagsByte e)) ≡ pendingByte f e = ap₂ pendingByte (flags-back f) (flags-back e) in
+    and-i _ _ (and-i _ _ (and-i _ _ (ap (λ (b : ℕ). ltb b 8) (flags-at m) ∙ flags-few f) (ap (λ (b : ℕ). ltb b 8) (enables-at m) ∙ flags-few e))
+    (ap₂ eqb (pending-at m) (ap₂ (λ (a b : ℕ). pendingByte (flagsIn a) (flagsIn b)) (flags-at m) (enables-at m) ∙ same) ∙ eqb-self (pendingByte f e)))
+    (ap allZero (rest-at m))
+
+pub block-back : (m : Machine) → formedMachine m ≡ true → registersAt (blockOf m) ≡ Holds m
+unfolding registersAt
+block-back m f =
+    let machine : ℕ → ℕ → Machine = λ a b. record { node = m .node; flags = flagsIn a; enables = flagsIn b } in
+    rw (block-length m, block-reads m, image-part m, round-trip (m .node) f)
+    (ap Holds (ap₂ machine (flags-at m) (enables-at m) ∙ (λ i. record { node = m .node; flags = flags-back (m .flags) i; enables = flags-back (m .enables) i })))
 
 -- Accepted is exactly what is the block of a well-formed machine, and it is read as that machine: no accepted block hides a byte that the machine has not.
 pub accepted-is-a-block : (s : List ℕ) (m : Machine) → Bytes s

@@ -22,9 +22,8 @@ use Rattle.frames.specs.Written.{formedVote}
 use Rattle.entry_slots.specs.Slots.{slotVote, arrivedIn, bufferBallots}
 use Rattle.entry_stop_start.specs.StopStart.{stoppedAndStarted}
 use Rattle.entry_decide.specs.Decide.{decision}
-use Rattle.registers.specs.declared.Machine.{Machine}
-use Rattle.registers.specs.Block.{flagsIn, formedMachine}
-use Rattle.registers.specs.Steps.{Step, Read, Write, Cycle, WriteCycle, cleared, commanded, written, decidedNode, cycled, stepped}
+use Rattle.registers.specs.Block.{Machine, formedMachine}
+use Rattle.registers.specs.Steps.{Step, Read, Write, Cycle, WriteCycle, commanded, written, decidedNode, cycled, stepped}
 
 -- ---- the votes that count are of nodes that there are
 
@@ -90,18 +89,16 @@ decided-formed heard0 heard1 votes arrived n f = with-state n _ f (go (n .state)
 
 -- ---- a machine
 
+-- what holds of the machine after each kind of write
+of-each : (P : Machine → Type 0) (b c d : Bool) (x y z m : Machine) → P x → P y → P z → P m → P (cond b x (cond c y (cond d z m)))
+of-each P true c d x y z m p q r h = p
+of-each P false true d x y z m p q r h = q
+of-each P false false true x y z m p q r h = r
+of-each P false false false x y z m p q r h = h
+
 pub written-formed : (a v : ℕ) (m : Machine) → formedMachine m ≡ true → formedMachine (written a v m) ≡ true
 unfolding written
-written-formed a v m f = go (eqb a 24) (eqb a 25) (eqb a 27)
-  where
-    go : (b c d : Bool)
-        → formedMachine (cond b (record { node = m .node; flags = cleared v (m .flags); enables = m .enables })
-        (cond c (record { node = m .node; flags = m .flags; enables = flagsIn v })
-        (cond d (record { node = commanded v (m .node); flags = m .flags; enables = m .enables }) m))) ≡ true
-    go true c d = f
-    go false true d = f
-    go false false true = command-formed v (m .node) f
-    go false false false = f
+written-formed a v m f = of-each (λ (x : Machine). formedMachine x ≡ true) (eqb a 24) (eqb a 25) (eqb a 27) _ _ _ m f f (command-formed v (m .node) f) f
 
 pub cycled-formed : (heard0 heard1 : ℕ) (votes : List ℕ) (arrived : ℕ) (m : Machine) → formedMachine m ≡ true → formedMachine (cycled heard0 heard1 votes arrived m) ≡ true
 unfolding cycled

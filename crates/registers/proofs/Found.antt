@@ -15,10 +15,7 @@ use Rattle.state.specs.declared.Decoded.the-variants.{Good, WrongLength as OfAn
 use Rattle.state.specs.Image.{decoded}
 use Rattle.entry_lent.specs.Refusals.{wrongLength}
 use Rattle.entry_lent.proofs.Bounds.{length-is}
-use Rattle.registers.specs.declared.Machine.{Machine}
-use Rattle.registers.specs.declared.LentBlock.{LentBlock}
-use Rattle.registers.specs.declared.LentBlock.the-variants.{Holds, WrongLength, Malformed}
-use Rattle.registers.specs.Block.{blockOf, shown, readsSo, machineIn, registersAt}
+use Rattle.registers.specs.Block.{Machine, LentBlock, Holds, WrongLength, Malformed, blockOf, shown, readsSo, machineIn, registersAt}
 use Rattle.registers.proofs.Written.{cycle-alone}
 use Rattle.registers.specs.Steps.{Step, Read, Cycle, WriteCycle, stepped, readIn, wrongAddress, wrongVotes, malformedBlock, stepStatus, leftIn, stepLeft, readAt, stepRead, resultOf, stepValue}
 

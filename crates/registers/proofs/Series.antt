@@ -7,9 +7,7 @@ use Prim.Native.Nat.{ℕ}
 use lib.Dec.{eqb}
 use lib.ListN.{length}
 use Rattle.refusal.specs.Refusal.{first, unless}
-use Rattle.registers.specs.declared.Machine.{Machine}
-use Rattle.registers.specs.declared.LentBlock.{LentBlock}
-use Rattle.registers.specs.Block.{blockOf, formedMachine, registersAt}
+use Rattle.registers.specs.Block.{Machine, LentBlock, blockOf, formedMachine, registersAt}
 use Rattle.registers.specs.Steps.{Step, Read, stepped, readIn, stepStatus, leftIn, stepLeft, readAt, stepRead}
 use Rattle.registers.specs.Series.{Shown, answer, next, shows, after, blockShows, blockAfter, SameSeries}
 use Rattle.registers.proofs.Blocks.{block-length, block-back}

@@ -7,7 +7,7 @@ use native.Mathlib.Nat.{mod-lt}
 use native.Mathlib.Omega.{arith}
 use lib.Dec.{eqb, ltb, lit<}
 use lib.Bits.{bitAnd, and-le-l, or-lt}
-use borrow.Author.Tests.{ne-eqb, lt-ltb}
+use borrow.Author.Tests.{ne-eqb, lt-ltb, eqb-true, eqb-false}
 use Rattle.sets.specs.Sets.{has, _∪_, _∩_, _∖_, below}
 use Rattle.sets.proofs.Booleans.{ltb-lt}
 use Rattle.sets.proofs.Membership.{has-union, has-inter, has-diff}
@@ -16,10 +16,8 @@ use Rattle.state.specs.declared.State.{State}
 use Rattle.state.specs.declared.State.the-variants.{Out, Joining, Member}
 use Rattle.state.specs.State.{halted}
 use Rattle.rules.specs.OneCycle.{stopAndStart}
-use Rattle.registers.specs.declared.Flags.{Flags}
-use Rattle.registers.specs.declared.Machine.{Machine}
-use Rattle.registers.specs.Block.{flagsByte, flagsIn, pendingByte}
-use Rattle.registers.specs.Steps.{Cycle, WriteCycle, cleared, written, raisedBy, raised, cycled, stepped}
+use Rattle.registers.specs.Block.{Flags, Machine, flagsByte, flagsIn, pendingByte}
+use Rattle.registers.specs.Steps.{Cycle, WriteCycle, cleared, commanded, written, raisedBy, raised, cycled, stepped}
 use Rattle.registers.proofs.Bits.{three, flags-back, flags-few, byte-back}
 
 -- ---- by address
@@ -32,12 +30,16 @@ ignored a v m f e c = rw (ne-eqb a 24 f, ne-eqb a 25 e, ne-eqb a 27 c)
 -- only a command changes the node
 pub node-kept : (a v : ℕ) (m : Machine) → (a ≡ 27 → ⊥) → written a v m .node ≡ m .node
 unfolding written
-node-kept a v m c = rw (ne-eqb a 27 c) (go (eqb a 24) (eqb a 25))
+node-kept a v m c = rw (ne-eqb a 27 c) (go (eqb a 24) (eqb a 25) _ _ refl refl)
   where
-    go : (b d : Bool) → cond b (record { node = m .node; flags = cleared v (m .flags); enables = m .enables }) (cond d (record { node = m .node; flags = m .flags; enables = flagsIn v }) m) .node ≡ m .node
-    go true d = refl
-    go false true = refl
-    go false false = refl
+    go : (b d : Bool) (x y : Machine) → x .node ≡ m .node → y .node ≡ m .node → cond b x (cond d y m) .node ≡ m .node
+    go true d x y p q = p
+    go false true x y p q = q
+    go false false x y p q = refl
+
+by-command : (v : ℕ) (m : Machine) → written 27 v m .node ≡ commanded v (m .node)
+unfolding written
+by-command v m = refl
 
 -- so that a cycle alone is one together with such a write
 pub cycle-alone : (heard0 heard1 : ℕ) (votes : List ℕ) (arrived : ℕ) (m : Machine)
@@ -114,6 +116,39 @@ pending-byte f e =
     some false true false = refl
     some false false true = refl
     some false false false = refl
+
+-- ---- the bytes and the node after a write
+
+module _ (a v : ℕ) (m : Machine) where
+  pub flags-after : flagsByte (written a v m .flags) ≡ cond (eqb a 24) (flagsByte (m .flags) ∖ v) (flagsByte (m .flags))
+  unfolding written
+  flags-after = go (eqb a 24) (eqb a 25) (eqb a 27) _ _ _ (cleared-byte v (m .flags)) refl refl
+    where
+      go : (b c d : Bool) (x y z : Machine) → flagsByte (x .flags) ≡ flagsByte (m .flags) ∖ v → y .flags ≡ m .flags → z .flags ≡ m .flags
+          → flagsByte (cond b x (cond c y (cond d z m)) .flags) ≡ cond b (flagsByte (m .flags) ∖ v) (flagsByte (m .flags))
+      go true c d x y z p q r = p
+      go false true d x y z p q r = ap flagsByte q
+      go false false true x y z p q r = ap flagsByte r
+      go false false false x y z p q r = refl
+
+  pub enables-after : flagsByte (written a v m .enables) ≡ cond (eqb a 25) (v % 8) (flagsByte (m .enables))
+  unfolding written
+  enables-after = go (eqb a 24) (eqb a 25) (eqb a 27) _ _ _ refl refl refl (low-three v) refl
+    where
+      go : (b c d : Bool) (x y z : Machine) → eqb a 24 ≡ b → eqb a 25 ≡ c → x .enables ≡ m .enables → flagsByte (y .enables) ≡ v % 8 → z .enables ≡ m .enables
+          → flagsByte (cond b x (cond c y (cond d z m)) .enables) ≡ cond c (v % 8) (flagsByte (m .enables))
+      go true true d x y z e f p q r = let h = eqb-true a 24 e in let k = eqb-true a 25 f in absurd (omega arith)
+      go true false d x y z e f p q r = ap flagsByte p
+      go false true d x y z e f p q r = q
+      go false false true x y z e f p q r = ap flagsByte r
+      go false false false x y z e f p q r = refl
+
+  pub node-after : written a v m .node ≡ cond (eqb a 27) (commanded v (m .node)) (m .node)
+  node-after = go (eqb a 27) refl
+    where
+      go : (b : Bool) → eqb a 27 ≡ b → written a v m .node ≡ cond b (commanded v (m .node)) (m .node)
+      go true e = ap (λ (x : ℕ). written x v m .node) (eqb-true a 27 e) ∙ by-command v m
+      go false e = node-kept a v m (eqb-false a 27 e)
 
 -- ---- what a cycle raises
 

@@ -1,4 +1,4 @@
--- Request 1, "A register block for the drive card": the 64 bytes of a plain machine, and the machine of 64 bytes. The types are those of src/lib.rt.
+-- Request 1, "A register block for the drive card": the 64 bytes of a plain machine, and the machine of 64 bytes.
 -- Assumes nothing.
 use mathlib.Core.Bool.{Bool, true, _&&_, _||_, cond}
 use mathlib.Core.List.{List, [], _∷_, _++_}
@@ -11,10 +11,24 @@ use Rattle.state.specs.declared.Decoded.{Decoded}
 use Rattle.state.specs.declared.Decoded.the-variants.{Good, WrongLength as OfAnotherLength, Malformed as NoImage}
 use Rattle.state.specs.State.{formed}
 use Rattle.state.specs.Image.{imageOf, decoded}
-use Rattle.registers.specs.declared.Flags.{Flags}
-use Rattle.registers.specs.declared.Machine.{Machine}
-use Rattle.registers.specs.declared.LentBlock.{LentBlock}
-use Rattle.registers.specs.declared.LentBlock.the-variants.{Holds, WrongLength, Malformed}
+
+-- one bit for each of the three things that a cycle can do to a node: its set changed, it halted, it entered
+pub record Flags : Type 0 where
+  pub changed : Bool
+  pub halted : Bool
+  pub entered : Bool
+
+-- "a plain machine of state, flags and enables": a node, the flags that are set, and those that are enabled
+pub record Machine : Type 0 where
+  pub node : Node
+  pub flags : Flags
+  pub enables : Flags
+
+-- what reading a lent block finds
+pub data LentBlock : Type 0 where
+  Holds : Machine → LentBlock
+  WrongLength : LentBlock
+  Malformed : LentBlock
 
 -- "bit 0 the set changed in a cycle in which the node stayed a member, bit 1 halted, bit 2 entered; the rest are 0"
 abbrev pub flagsByte : Flags → ℕ

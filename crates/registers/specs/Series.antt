@@ -6,8 +6,7 @@ use mathlib.Core.List.{List, [], _∷_}
 use mathlib.Core.Option.{Option, none}
 use Prim.Native.Nat.{ℕ}
 use Rattle.refusal.specs.Refusal.{when, first, unless}
-use Rattle.registers.specs.declared.Machine.{Machine}
-use Rattle.registers.specs.Block.{blockOf, formedMachine}
+use Rattle.registers.specs.Block.{Machine, blockOf, formedMachine}
 use Rattle.registers.specs.Steps.{Step, stepped, readIn, wrongAddress, wrongVotes, stepStatus, stepLeft, stepRead}
 
 -- what a step shows: its status, and for a read that is not refused the byte

@@ -15,11 +15,7 @@ use Rattle.refusal.specs.Refusal.{Condition, when, first, unless}
 use Rattle.entry_lent.specs.Refusals.{wrongLength}
 use Rattle.entry_stop_start.specs.StopStart.{stoppedAndStarted}
 use Rattle.entry_decide.specs.Decide.{decision}
-use Rattle.registers.specs.declared.Flags.{Flags}
-use Rattle.registers.specs.declared.Machine.{Machine}
-use Rattle.registers.specs.declared.LentBlock.{LentBlock}
-use Rattle.registers.specs.declared.LentBlock.the-variants.{Holds, WrongLength, Malformed}
-use Rattle.registers.specs.Block.{flagsIn, blockOf, shown, registersAt}
+use Rattle.registers.specs.Block.{Flags, Machine, LentBlock, Holds, WrongLength, Malformed, flagsIn, blockOf, shown, registersAt}
 
 -- A cycle takes what `gm_decide` takes: what was heard with join 0 and 1, the vote buffer, and whose votes arrived.
 pub data Step : Type 0 where

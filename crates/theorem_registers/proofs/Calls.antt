@@ -9,8 +9,7 @@ use denote.Ref.{now}
 use borrow.Author.Tests.{eqb-true, eqb-false}
 use Rattle.refusal.specs.Refusal.{unless}
 use Rattle.refusal.proofs.Laws.{unless-done, unless-refused}
-use Rattle.registers.specs.declared.Machine.{Machine}
-use Rattle.registers.specs.Block.{blockOf, formedMachine}
+use Rattle.registers.specs.Block.{Machine, blockOf, formedMachine}
 use Rattle.registers.specs.Steps.{Step, Read, readIn, stepStatus, stepLeft, stepRead, stepValue}
 use Rattle.registers.specs.Series.{Shown, next, blockShows, blockAfter}
 use Rattle.registers.proofs.Found.{accepted, refused-read, done-read, done-value, reads-none}

@@ -15,7 +15,7 @@ use Rattle.entry_lent.proofs.Bounds.{length-is}
 use Rattle.entry_lent.proofs.Images.{by-image}
 use Rattle.entry_stop_start.specs.StopStart.{stoppedAndStarted, ruleOneOf, stopLeft, startLeft}
 use Rattle.entry_decide.specs.Decide.{decideStatus, decidedFrom, decideLeft}
-use Rattle.registers.specs.declared.Machine.{Machine}
+use Rattle.registers.specs.Block.{Machine}
 use Rattle.registers.specs.Steps.{Step, Write, Cycle, WriteCycle, commanded, written, decidedNode, cycled, stepped, wrongVotes, stepStatus, stepLeft}
 use Rattle.registers.proofs.Blocks.{image-part}
 use Rattle.registers.proofs.Found.{image-in, accepted, done-left}

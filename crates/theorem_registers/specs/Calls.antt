@@ -8,8 +8,7 @@ use mathlib.Core.Option.{none, some}
 use Prim.Native.Nat.{ℕ}
 use denote.Ref.{now}
 use Rattle.refusal.specs.Refusal.{unless}
-use Rattle.registers.specs.declared.Machine.{Machine}
-use Rattle.registers.specs.Block.{blockOf, formedMachine}
+use Rattle.registers.specs.Block.{Machine, blockOf, formedMachine}
 use Rattle.registers.specs.Steps.{Step, Read, Write, Cycle, WriteCycle}
 use Rattle.registers.specs.Series.{Shown, shows, after}
 use Rattle.gm.proofs.gm_register_read.Reads as gm-register-read

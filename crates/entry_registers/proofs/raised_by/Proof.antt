@@ -1,8 +1,10 @@
-use mathlib.Core.Path.{_≡_, refl}
-use mathlib.Core.Bool.{false}
+use borrow.Author.Tests.{eq-eqb, ne-eqb}
+use mathlib.Core.Path.{_≡_, _∙_, sym}
+use mathlib.Core.Bool.{Bool, true, false, cond}
 use Rattle.state.specs.declared.State.{State}
 use Rattle.state.specs.declared.State.the-variants.{Out, Joining, Member}
 use Rattle.rules.specs.OneCycle.{sendsMember}
+use Rattle.registers.specs.Block.{flagsByte}
 use Rattle.registers.specs.Steps.{raisedBy}
 use borrow.Author.Needs.{needs}
 use Rattle.entry_registers.proofs.raised_by.Statement.{statement}
@@ -32,36 +34,53 @@ enum-told-3 c = search needs
 enum-known-t-2 : tie.Need-enum-known-t-2
 enum-known-t-2 c = search needs
 
--- a joining node that is a member
-by-rule-6 : (t : State) → record { changed = false; halted = false; entered = sendsMember t } ≡ raisedBy Joining t
+-- a joining node enters if it is a member then
+joined : (s t : State) (b : Bool) → s ≡ Joining → sendsMember t ≡ b → cond b 4 0 ≡ flagsByte (raisedBy s t)
 unfolding raisedBy
-by-rule-6 (Out r) = refl
-by-rule-6 Joining = refl
-by-rule-6 (Member g) = refl
+joined s t b e h = rw e (go t b h)
+  where
+    go : (t : State) (b : Bool) → sendsMember t ≡ b → cond b 4 0 ≡ flagsByte (raisedBy Joining t)
+    go (Out r) b h = rw (sym h)
+    go Joining b h = rw (sym h)
+    go (Member g) b h = rw (sym h)
 
 returns : tie.Need-returns
 unfolding raisedBy
 returns c = rw (c .enum-told .given .1)
 
 returns-2 : tie.Need-returns-2
-unfolding raisedBy
-returns-2 c = rw (c .before .enum-told2 .given .1, c .sends-member .ensures) (by-rule-6 (c .before .before .before .args .t))
+returns-2 c = joined _ (c .before .before .before .before .args .t) true (c .before .before .enum-told2 .given .1) (sym (c .before .sends-member .ensures) ∙ c .if1 .taken)
 
 returns-3 : tie.Need-returns-3
-unfolding raisedBy
-returns-3 c =
-    let t = c .before .before in
-    rw (t .before .before .before .s .given .1, t .t .given .1, c .reason-code .ensures)
+returns-3 c = joined _ (c .before .before .before .before .args .t) false (c .before .before .enum-told2 .given .1) (sym (c .before .sends-member .ensures) ∙ c .if1 .left)
 
 returns-4 : tie.Need-returns-4
 unfolding raisedBy
-returns-4 c = rw (c .before .before .before .s .given .1, c .enum-told3 .given .1)
+returns-4 c =
+    let t = c .before .before .before in
+    rw (t .before .before .before .s .given .1, t .t .given .1, sym (c .before .reason-code .ensures), ne-eqb _ 0 (c .if2 .taken))
 
 returns-5 : tie.Need-returns-5
 unfolding raisedBy
 returns-5 c =
     let t = c .before .before .before in
-    rw (t .before .before .before .s .given .1, t .t2 .given .1)
+    rw (t .before .before .before .s .given .1, t .t .given .1, sym (c .before .reason-code .ensures), eq-eqb _ 0 (c .if2 .left))
+
+returns-6 : tie.Need-returns-6
+unfolding raisedBy
+returns-6 c = rw (c .before .before .before .s .given .1, c .enum-told3 .given .1)
+
+returns-7 : tie.Need-returns-7
+unfolding raisedBy
+returns-7 c =
+    let t = c .before .before .before .before in
+    rw (t .before .before .before .s .given .1, t .t2 .given .1, ne-eqb _ _ (c .if3 .taken))
+
+returns-8 : tie.Need-returns-8
+unfolding raisedBy
+returns-8 c =
+    let t = c .before .before .before .before in
+    rw (t .before .before .before .s .given .1, t .t2 .given .1, eq-eqb _ _ (c .if3 .left))
 
 pub raised-by-spec : {M : Type 1} → statement M
 raised-by-spec =
@@ -79,4 +98,7 @@ raised-by-spec =
     returns-2
     returns-3
     returns-4
-    returns-5)
+    returns-5
+    returns-6
+    returns-7
+    returns-8)

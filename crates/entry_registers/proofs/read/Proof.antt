@@ -3,69 +3,49 @@ use native.Mathlib.Omega.{arith}
 use borrow.Author.Tests.{lt-ltb, le-ltb}
 use Rattle.registers.specs.Steps.{Read}
 use Rattle.registers.proofs.Found.{holds-length}
-use Rattle.entry_registers.proofs.Stepping.{other-length, no-block, past-the-end, passed, value-kept, byte-read}
+use Rattle.entry_registers.proofs.Stepping.{holds, block-refused, past-the-end, passed, value-kept, byte-read}
 use borrow.Author.Needs.{needs}
 use Rattle.entry_registers.proofs.read.Statement.{statement}
 use Rattle.entry_registers.proofs.read.Tie as tie
 
-registers-at-requires : tie.Need-registers-at-requires
-registers-at-requires c κs = search needs
-
-enum-told : tie.Need-enum-told
-enum-told c = search needs
+refusal-requires : tie.Need-refusal-requires
+refusal-requires c κs = search needs
 
 returns : tie.Need-returns
 returns c =
-    let r = c .before .before .before in
+    let r = c .before in
     let a = r .before .before .args in
-    value-kept (Read (a .address)) (a .block .now) (a .value .now) 13
-    (past-the-end (Read (a .address)) (a .block .now) _ refl (sym (r .registers-at .ensures) ∙ c .before .enum-told .given .1) (lt-ltb 63 (a .address) (c .if1 .taken)))
+    let t = Read (a .address) in
+    value-kept t (a .block .now) (a .value .now) _ (c .if1 .taken) (block-refused t (a .block .now) refl _ (r .refusal .ensures) (c .if1 .taken))
+
+returns-2 : tie.Need-returns-2
+returns-2 c =
+    let r = c .before .before in
+    let a = r .before .before .args in
+    let t = Read (a .address) in
+    let m = holds (a .block .now) _ (r .refusal .ensures) (c .before .if1 .left) in
+    value-kept t (a .block .now) (a .value .now) 14 (λ z. omega arith) (past-the-end t (a .block .now) (m .0) refl (m .1) (lt-ltb 63 (a .address) (c .if2 .taken)))
 
 shared-slice-read-wide : tie.Need-shared-slice-read-wide
 shared-slice-read-wide c =
-    let r = c .before .before .before .before in
-    omega (arith, holds-length (r .before .before .args .block .now) _ (sym (r .registers-at .ensures) ∙ c .before .before .enum-told .given .1), c .before .if1 .left)
+    let r = c .before .before .before in
+    let s = r .before .before .args .block .now in
+    let m = holds s _ (r .refusal .ensures) (c .before .before .if1 .left) in
+    omega (arith, holds-length s (m .0) (m .1), c .before .if2 .left)
 
 wide-requires : tie.Need-wide-requires
 wide-requires c κs = search needs
 
-enum-told-2 : tie.Need-enum-told-2
-enum-told-2 c = search needs
-
-enum-told-3 : tie.Need-enum-told-3
-enum-told-3 c = search needs
-
-returns-2 : tie.Need-returns-2
-returns-2 c =
-    let e = c .before .before in
-    let r = e .before .before .before in
-    let a = r .before .before .args in
-    let held = sym (r .registers-at .ensures) ∙ e .before .enum-told .given .1 in
-    byte-read (a .address) (a .block .now) (a .value .now) _ _ (λ i. r .before .shared-slice-known .given i .fits) held (passed (Read (a .address)) (a .block .now) _ refl held (le-ltb 63 (a .address) (e .if1 .left))) (c .wide .ensures .0)
-
 returns-3 : tie.Need-returns-3
 returns-3 c =
-    let r = c .before .before in
+    let e = c .before .before in
+    let r = e .before .before in
     let a = r .before .before .args in
-    value-kept (Read (a .address)) (a .block .now) (a .value .now) 2 (other-length (Read (a .address)) (a .block .now) (sym (r .registers-at .ensures) ∙ c .enum-told2 .given .1))
-
-returns-4 : tie.Need-returns-4
-returns-4 c =
-    let r = c .before .before in
-    let a = r .before .before .args in
-    value-kept (Read (a .address)) (a .block .now) (a .value .now) 3 (no-block (Read (a .address)) (a .block .now) refl (sym (r .registers-at .ensures) ∙ c .enum-told3 .given .1))
+    let m = holds (a .block .now) _ (r .refusal .ensures) (e .before .if1 .left) in
+    byte-read (a .address) (a .block .now) (a .value .now) (m .0) _ (λ i. r .before .shared-slice-known .given i .fits) (m .1)
+    (passed (Read (a .address)) (a .block .now) (m .0) refl (m .1) (le-ltb 63 (a .address) (e .if2 .left))) (c .wide .ensures .0)
 
 pub read-spec : {M : Type 1} → statement M
 read-spec =
     tie.close
-    (tie.spec
-    registers-at-requires
-    enum-told
-    returns
-    shared-slice-read-wide
-    wide-requires
-    enum-told-2
-    enum-told-3
-    returns-2
-    returns-3
-    returns-4)
+    (tie.spec refusal-requires returns returns-2 shared-slice-read-wide wide-requires returns-3)

@@ -1,0 +1,50 @@
+use Rattle.entry_registers.proofs.InPlace.{decide-left}
+use Rattle.sets.specs.Sets.{_∪_}
+use borrow.Author.Needs.{needs}
+use Rattle.entry_registers.proofs.decide.Statement.{statement}
+use Rattle.entry_registers.proofs.decide.Tie as tie
+
+next-state-requires : tie.Need-next-state-requires
+next-state-requires c κs = search needs
+
+encode-requires : tie.Need-encode-requires
+encode-requires c κs = search needs
+
+slice-aggregate-put : tie.Need-slice-aggregate-put
+slice-aggregate-put c = search needs
+
+put-requires : tie.Need-put-requires
+put-requires c κs = search needs
+
+raised-by-requires : tie.Need-raised-by-requires
+raised-by-requires c κs = search needs
+
+put-flags-requires : tie.Need-put-flags-requires
+put-flags-requires c κs = search needs
+
+same-length : tie.Need-same-length
+same-length c = search needs
+
+returns : tie.Need-returns
+unfolding _∪_
+returns c =
+    let f = c .before .before in
+    let r = f .before .before in
+    let p = r .before .before .before in
+    let i = p .before .before .before in
+    let n = i .before in
+    let a = n .before .before .before .args in
+    decide-left (a .n) (a .flags) (a .enables) (a .heard0) (a .heard1) (a .votes .now) (a .arrived) (a .block .now) _ _ _ _ _ (n .next-state .ensures) (i .encode .ensures) (p .put .ensures) (r .raised-by .ensures) (f .put-flags .ensures)
+
+pub decide-spec : {M : Type 1} → statement M
+decide-spec =
+    tie.close
+    (tie.spec
+    next-state-requires
+    encode-requires
+    slice-aggregate-put
+    put-requires
+    raised-by-requires
+    put-flags-requires
+    same-length
+    returns)

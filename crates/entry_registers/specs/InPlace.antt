@@ -1,0 +1,43 @@
+-- What a write and a cycle do to the bytes of a block, as the code does it, in place.
+-- Assumes nothing.
+use mathlib.Core.Bool.{cond}
+use mathlib.Core.List.{List, _++_}
+use Prim.Native.Nat.{ℕ, _%_}
+use lib.Dec.{eqb}
+use lib.ListN.{getD, take, drop}
+use Rattle.sets.specs.Sets.{_∪_, _∖_}
+use Rattle.state.specs.declared.Node.{Node}
+use Rattle.state.specs.Image.{imageOf}
+use Rattle.entry_stop_start.specs.StopStart.{stopLeft, startLeft}
+use Rattle.registers.specs.Block.{LentBlock, Holds, WrongLength, Malformed, flagsByte}
+use Rattle.registers.specs.Steps.{raisedBy, decidedNode}
+use Rattle.register_block.specs.Bytes.{withFlags}
+
+-- 3 and 4 of a lent block, its state too
+abbrev pub blockStatus : LentBlock → ℕ
+blockStatus (Holds m) = 0
+blockStatus WrongLength = 3
+blockStatus Malformed = 4
+
+-- bytes 24 and 25 after a write
+abbrev pub flagsAfter : ℕ → ℕ → ℕ → ℕ
+flagsAfter a v flags = cond (eqb a 24) (flags ∖ v) flags
+
+abbrev pub enablesAfter : ℕ → ℕ → ℕ → ℕ
+enablesAfter a v enables = cond (eqb a 25) (v % 8) enables
+
+-- a command, on the state in the block
+abbrev pub commandLeft : ℕ → List ℕ → List ℕ
+commandLeft v s = cond (eqb v 1) (stopLeft (take 24 s)) (cond (eqb v 2) (startLeft (take 24 s)) (take 24 s)) ++ drop 24 s
+
+-- a write
+unfoldable pub writeLeft : ℕ → ℕ → List ℕ → List ℕ
+writeLeft a v s =
+    let t = withFlags (flagsAfter a v (getD s 24 0)) (enablesAfter a v (getD s 25 0)) s in
+    cond (eqb a 27) (commandLeft v t) t
+
+-- a cycle of node n, where these flags and enables stand before it
+unfoldable pub cycleLeft : Node → ℕ → ℕ → ℕ → ℕ → List ℕ → ℕ → List ℕ → List ℕ
+cycleLeft n flags enables heard0 heard1 votes arrived s =
+    let next = decidedNode heard0 heard1 votes arrived n in
+    withFlags (flags ∪ flagsByte (raisedBy (n .state) (next .state))) enables (imageOf next ++ drop 24 s)
