@@ -6,7 +6,7 @@ use Prim.Native.Nat.{ℕ, _≤_, _<_}
 use native.Mathlib.Omega.{arith}
 use lib.Dec.{eqb}
 use lib.ListN.{getD, length, take}
-use borrow.Author.Tests.{eq-eqb, ne-eqb, eqb-true}
+use borrow.Author.Tests.{eq-eqb, eqb-true, eqb-false}
 use Rattle.bigendian.proofs.Laws.{Bytes}
 use Rattle.sets.proofs.Booleans.{and-l}
 use Rattle.state.specs.declared.Node.{Node}
@@ -15,12 +15,12 @@ use Rattle.state.specs.declared.Decoded.the-variants.{Good, WrongLength as OfAn
 use Rattle.state.specs.State.{formed, formedPlace, formedState}
 use Rattle.state.specs.Image.{decoded}
 use Rattle.state.proofs.Fields.{place-bounds}
-use Rattle.entry_stop_start.specs.StopStart.{stoppedAndStarted}
 use Rattle.registers.specs.Block.{Machine, LentBlock, Holds, WrongLength, Malformed, blockOf, readsSo, machineIn, registersAt}
-use Rattle.registers.specs.Steps.{Step, Read, commanded, stepped, wrongAddress, wrongVotes, stepStatus, stepLeft, stepValue}
-use Rattle.registers.proofs.Blocks.{held-block, shown-is-byte}
-use Rattle.registers.proofs.Found.{image-in, status-found, done-left, done-value, refused-left, refused-value}
-use Rattle.registers.proofs.Formed.{command-formed}
+use Rattle.registers.specs.Steps.{Step, Read, Write, WriteCycle, written, cycled, stepped, wrongAddress, wrongVotes, stepStatus, stepLeft, stepValue}
+use Rattle.registers.proofs.Blocks.{block-back, held-block, shown-is-byte}
+use Rattle.registers.proofs.Found.{status-found, accepted, done-left, done-value, refused-left, refused-value}
+use Rattle.registers.proofs.Formed.{written-formed}
+use Rattle.registers.proofs.Written.{ignored}
 use Rattle.register_block.specs.Bytes.{restStatus}
 use Rattle.entry_registers.specs.InPlace.{blockStatus}
 
@@ -61,32 +61,13 @@ holds s k e z = go (registersAt s) refl
     go WrongLength h = let x : _≡_ {A = ℕ} 3 0 = sym (ap blockStatus h) ∙ sym e ∙ z in absurd (omega arith)
     go Malformed h = let x : _≡_ {A = ℕ} 4 0 = sym (ap blockStatus h) ∙ sym e ∙ z in absurd (omega arith)
 
--- the place of its node, before and after a command
+-- the place of its node
 pub placed : (s : List ℕ) (m : Machine) → Bytes s → registersAt s ≡ Holds m → (n : Node) → n ≡ m .node → (n .nodes ≤ 64) × (n .id < n .nodes)
 unfolding formed
 placed s m b e n k =
     let f : formed n ≡ true = ap formed k ∙ held-block s m b e .0 in
     let p = place-bounds (n .id) (n .nodes) (and-l (formedPlace (n .id) (n .nodes)) (formedState (n .id) (n .nodes) (n .state)) f) in
     (p .1, p .2)
-
-pub placed-then : (s : List ℕ) (m : Machine) → Bytes s → registersAt s ≡ Holds m → (v : ℕ) (n c : Node) → n ≡ m .node → c ≡ commanded v n → (c .nodes ≤ 64) × (c .id < c .nodes)
-unfolding formed
-placed-then s m b e v n c k l =
-    let f : formed c ≡ true = ap formed l ∙ command-formed v n (ap formed k ∙ held-block s m b e .0) in
-    let p = place-bounds (c .id) (c .nodes) (and-l (formedPlace (c .id) (c .nodes)) (formedState (c .id) (c .nodes) (c .state)) f) in
-    (p .1, p .2)
-
--- ---- by value
-
-module _ (v : ℕ) (n : Node) where
-  pub by-stop : (r : Node) → v ≡ 1 → r ≡ stoppedAndStarted true false n → r ≡ commanded v n
-  by-stop r e k = k ∙ rw (eq-eqb v 1 e)
-
-  pub by-start : (r : Node) → v ≡ 2 → r ≡ stoppedAndStarted false true n → r ≡ commanded v n
-  by-start r e k = k ∙ rw (ne-eqb v 1 (λ z. omega arith), eq-eqb v 2 e)
-
-  pub by-none : (v ≡ 1 → ⊥) → (v ≡ 2 → ⊥) → n ≡ commanded v n
-  by-none a b = rw (ne-eqb v 1 a, ne-eqb v 2 b)
 
 -- ---- the status of an entry, and what it leaves
 
@@ -126,3 +107,61 @@ pub byte-read : (a : ℕ) (s : List ℕ) (before : ℕ) (m : Machine) (value : �
     → (0 ≡ stepStatus (Read a) s) × (value ≡ stepValue (Read a) s before)
 byte-read a s before m value b e h l =
     (h, l ∙ ap (λ (x : List ℕ). getD x a 0) (held-block s m b e .1) ∙ sym (done-value a s before m e (sym h) ∙ shown-is-byte m a))
+
+-- ---- a command and a cycle together: the command, and then a cycle with a write that does nothing
+
+-- where a write goes that is no command
+pub left-address : (a left : ℕ) → left ≡ cond (eqb a 27) 28 a → left ≡ 27 → ⊥
+left-address a left e z = go (eqb a 27) refl (sym e ∙ z)
+  where
+    go : (b : Bool) → eqb a 27 ≡ b → cond b 28 a ≡ 27 → ⊥
+    go true h k = let x : _≡_ {A = ℕ} 28 27 = k in omega arith
+    go false h k = eqb-false a 27 h k
+
+module _ (a v heard0 heard1 : ℕ) (votes : List ℕ) (arrived : ℕ) (s : List ℕ) (b : Bytes s) (l : wrongVotes (WriteCycle a v heard0 heard1 votes arrived) ≡ false) where
+  abbrev joint : ℕ → Step
+  joint i = WriteCycle i v heard0 heard1 votes arrived
+
+  -- it is refused as its write is
+  as-write : stepStatus (joint 27) s ≡ stepStatus (Write 27 v) s
+  unfolding stepStatus
+  as-write = rw l
+
+  command-then : stepStatus (Write 27 v) s ≡ 0
+      → (stepStatus (joint 28) (stepLeft (Write 27 v) s) ≡ stepStatus (joint 27) s) × (stepLeft (joint 28) (stepLeft (Write 27 v) s) ≡ stepLeft (joint 27) s)
+  command-then z =
+      let m = accepted (Write 27 v) s z in
+      let x = written 27 v (m .0) in
+      let y = done-left (Write 27 v) s (m .0) (m .1) z in
+      let held : registersAt (stepLeft (Write 27 v) s) ≡ Holds x = ap registersAt y ∙ block-back x (written-formed 27 v (m .0) (held-block s (m .0) b (m .1) .0)) in
+      let then = passed (joint 28) (stepLeft (Write 27 v) s) x l held refl in
+      let whole = passed (joint 27) s (m .0) l (m .1) refl in (
+        sym then ∙ whole,
+        done-left (joint 28) (stepLeft (Write 27 v) s) x held (sym then)
+            ∙ ap (λ (w : Machine). blockOf (cycled heard0 heard1 votes arrived w)) (ignored 28 v x (λ k. omega arith) (λ k. omega arith) (λ k. omega arith))
+            ∙ sym (done-left (joint 27) s (m .0) (m .1) (sym whole)),
+      )
+
+  module _ (r : ℕ) (y : List ℕ) (e : r ≡ cond (eqb a 27) (stepStatus (Write 27 v) s) 0) (k : y ≡ cond (eqb a 27) (stepLeft (Write 27 v) s) s) where
+    pub command-refused : (r ≡ 0 → ⊥) → (r ≡ stepStatus (joint a) s) × (y ≡ stepLeft (joint a) s)
+    command-refused n = go (eqb a 27) refl e k
+      where
+        go : (t : Bool) → eqb a 27 ≡ t → r ≡ cond t (stepStatus (Write 27 v) s) 0 → y ≡ cond t (stepLeft (Write 27 v) s) s → (r ≡ stepStatus (joint a) s) × (y ≡ stepLeft (joint a) s)
+        go true h e k =
+            let at : stepStatus (joint a) s ≡ stepStatus (Write 27 v) s = ap (λ (i : ℕ). stepStatus (joint i) s) (eqb-true a 27 h) ∙ as-write in
+            (e ∙ sym at, k ∙ refused-left (Write 27 v) s (λ z. n (e ∙ z)) ∙ sym (refused-left (joint a) s (λ z. n (e ∙ sym at ∙ z))))
+        go false h e k = absurd (n e)
+
+    pub command-done : r ≡ 0 → (left status : ℕ) (x : List ℕ) → left ≡ cond (eqb a 27) 28 a → status ≡ stepStatus (joint left) y → x ≡ stepLeft (joint left) y
+        → (status ≡ stepStatus (joint a) s) × (x ≡ stepLeft (joint a) s)
+    command-done z left status x d p q = go (eqb a 27) refl e k d
+      where
+        go : (t : Bool) → eqb a 27 ≡ t → r ≡ cond t (stepStatus (Write 27 v) s) 0 → y ≡ cond t (stepLeft (Write 27 v) s) s → left ≡ cond t 28 a
+            → (status ≡ stepStatus (joint a) s) × (x ≡ stepLeft (joint a) s)
+        go true h e k d =
+            let same = command-then (sym e ∙ z) in
+            let at = sym (eqb-true a 27 h) in (
+              p ∙ (λ i. stepStatus (joint (d i)) (k i)) ∙ same .0 ∙ ap (λ (i : ℕ). stepStatus (joint i) s) at,
+              q ∙ (λ i. stepLeft (joint (d i)) (k i)) ∙ same .1 ∙ ap (λ (i : ℕ). stepLeft (joint i) s) at,
+            )
+        go false h e k d = (p ∙ (λ i. stepStatus (joint (d i)) (k i)), q ∙ (λ i. stepLeft (joint (d i)) (k i)))

@@ -1,9 +1,11 @@
 // The steps of a register block: read, write, cycle, and a write and a cycle together.
 ghost use mathlib.Core.Path.{_≡_};
+ghost use mathlib.Core.Bool.{cond};
 ghost use Prim.Native.Nat.{_≤_, _<_};
+ghost use lib.Dec.{eqb};
 ghost use lib.ListN.{length};
 ghost use Rattle.registers.specs.Block.{flagsByte, registersAt};
-ghost use Rattle.registers.specs.Steps.{Read, Write, Cycle, WriteCycle, commanded as theCommanded, raisedBy, stepStatus, stepLeft, stepValue};
+ghost use Rattle.registers.specs.Steps.{Read, Write, Cycle, WriteCycle, raisedBy, stepStatus, stepLeft, stepValue};
 ghost use Rattle.entry_registers.specs.InPlace.{blockStatus, flagsAfter, enablesAfter, commandLeft, writeLeft, cycleLeft};
 use state::Decoded;
 use state::Node;
@@ -64,17 +66,6 @@ fn put_value(address: u32, value: u8, block: &mut [u8])
     register_block::put_flags(flags, enables, block);
     if address == 27 {
         command(value, block);
-    }
-}
-
-// Rule 1 by command, on a node.
-fn commanded(value: u8, n: Node) -> Node
-    ensures { λ r. ⌜ r ≡ theCommanded value n ⌝ }
-{
-    match value {
-        1 => entry_stop_start::stopped_and_started(true, false, n),
-        2 => entry_stop_start::stopped_and_started(false, true, n),
-        _ => n,
     }
 }
 
@@ -154,7 +145,58 @@ pub fn write(block: &mut [u8], address: u32, value: u8) -> u32
     0
 }
 
-// A write and a cycle together, the write first. A command is done on the node, which is not read from the block again.
+// A command, which is done first; no other write.
+fn command_first(address: u32, value: u8, block: &mut [u8]) -> u32
+    ensures { λ r. ⌜ r ≡ cond (eqb address 27) (stepStatus (Write 27 value) (now (block .entry))) 0 ⌝ }
+    ensures { λ _. ⌜ now (block .exit) ≡ cond (eqb address 27) (stepLeft (Write 27 value) (now (block .entry))) (now (block .entry)) ⌝ }
+{
+    if address == 27 {
+        return write(block, 27, value);
+    }
+    0
+}
+
+// Where a write goes after that: a command has nothing more to do.
+fn address_left(address: u32) -> u32
+    ensures { λ r. ⌜ r ≡ cond (eqb address 27) 28 address ⌝ }
+{
+    if address == 27 { 28 } else { address }
+}
+
+// A write that is no command, and a cycle, on the state as it was decoded.
+fn write_and_decide(
+    block: &mut [u8],
+    address: u32,
+    value: u8,
+    heard0: u64,
+    heard1: u64,
+    votes: &[u8],
+    arrived: u64,
+) -> u32
+    requires { ⌜ (address ≡ 27 → ⊥) × (length (now votes) ≡ 1792) ⌝ }
+    ensures { λ r. ⌜ r ≡ stepStatus (WriteCycle address value heard0 heard1 (now (votes .entry)) arrived) (now (block .entry)) ⌝ }
+    ensures { λ _. ⌜ now (block .exit) ≡ stepLeft (WriteCycle address value heard0 heard1 (now (votes .entry)) arrived) (now (block .entry)) ⌝ }
+{
+    let status = register_block::rest_refusal(block);
+    if status != 0 {
+        return status;
+    }
+    match state_decoding::decode(&block[0..24]) {
+        Decoded::Good(n) => {
+            if 63 < address {
+                return 14;
+            }
+            let flags = flags_after(address, value, block[24]);
+            let enables = enables_after(address, value, block[25]);
+            decide(n, flags, enables, heard0, heard1, votes, arrived, block);
+            0
+        }
+        Decoded::WrongLength => 4,
+        Decoded::Malformed => 4,
+    }
+}
+
+// A write and a cycle together, the write first. A command goes through the block, so that every other step decodes the state once.
 pub fn write_cycle(
     block: &mut [u8],
     address: u32,
@@ -170,36 +212,12 @@ pub fn write_cycle(
     if votes.len() != 1792 {
         return 3;
     }
-    let status = register_block::rest_refusal(block);
+    let status = command_first(address, value, block);
     if status != 0 {
         return status;
     }
-    match state_decoding::decode(&block[0..24]) {
-        Decoded::Good(n) => {
-            if 63 < address {
-                return 14;
-            }
-            let flags = flags_after(address, value, block[24]);
-            let enables = enables_after(address, value, block[25]);
-            if address == 27 {
-                decide(
-                    commanded(value, n),
-                    flags,
-                    enables,
-                    heard0,
-                    heard1,
-                    votes,
-                    arrived,
-                    block,
-                );
-            } else {
-                decide(n, flags, enables, heard0, heard1, votes, arrived, block);
-            }
-            0
-        }
-        Decoded::WrongLength => 4,
-        Decoded::Malformed => 4,
-    }
+    let left = address_left(address);
+    write_and_decide(block, left, value, heard0, heard1, votes, arrived)
 }
 
 // A cycle alone: together with a write that does nothing.

@@ -1,16 +1,11 @@
-use mathlib.Core.Path.{_≡_, refl, sym, ap, _∙_}
+use mathlib.Core.Path.{_≡_, ap}
 use mathlib.Core.Bool.{false, not}
 use native.Mathlib.Omega.{arith}
 use lib.Dec.{eqb}
 use lib.ListN.{length}
-use borrow.Author.Tests.{lt-ltb, le-ltb, eq-eqb, ne-eqb}
-use Rattle.state.specs.declared.Decoded.{Decoded}
-use Rattle.registers.specs.Block.{machineIn, registersAt}
+use borrow.Author.Tests.{eq-eqb, ne-eqb}
 use Rattle.registers.specs.Steps.{WriteCycle}
-use Rattle.registers.proofs.Blocks.{held-block}
-use Rattle.entry_registers.specs.InPlace.{blockStatus}
-use Rattle.entry_registers.proofs.InPlace.{cycle-is}
-use Rattle.entry_registers.proofs.Stepping.{rest-refused, rest-passed, by-state, placed, placed-then, other-votes, block-refused, past-the-end, passed, kept, done}
+use Rattle.entry_registers.proofs.Stepping.{other-votes, kept, left-address, command-refused, command-done}
 use borrow.Author.Needs.{needs}
 use Rattle.entry_registers.proofs.write_cycle.Statement.{statement}
 use Rattle.entry_registers.proofs.write_cycle.Tie as tie
@@ -19,198 +14,59 @@ use Rattle.entry_registers.proofs.write_cycle.Tie as tie
 voted : (v : tie.Else1) → not (eqb (length (v .before .before .before .args .votes .now)) 1792) ≡ false
 voted v = ap not (eq-eqb (length (v .before .before .before .args .votes .now)) 1792 (v .if1 .left))
 
--- past the bytes behind it, by what reading the state finds
-state-read : (d : tie.After-decode) {r : Decoded} → d .decode .result ≡ r
-    → let s = d .before .before .before .before .before .before .before .before .before .args .block .now in registersAt s ≡ machineIn r s
-state-read d {r} e =
-    let left = d .before .before .before in
-    by-state (left .before .before .before .before .before .before .args .block .now) _ _ r (left .before .rest-refusal .ensures) (left .if2 .left) (d .decode .ensures) e
-
--- as long as a block is
-sized : (e : tie.Else2) → length (e .before .before .before .before .before .before .args .block .now) ≡ 64
-sized e = rest-passed (e .before .before .before .before .before .before .args .block .now) (sym (e .before .rest-refusal .ensures) ∙ e .if2 .left) .0
-
 returns : tie.Need-returns
 returns c =
     let a = c .before .before .before .args in
     let t = WriteCycle (a .address) (a .value) (a .heard0) (a .heard1) (a .votes .now) (a .arrived) in
     kept t (a .block .now) 3 (λ z. omega arith) (other-votes t (a .block .now) (ap not (ne-eqb (length (a .votes .now)) 1792 (c .if1 .taken))))
 
-rest-refusal-requires : tie.Need-rest-refusal-requires
-rest-refusal-requires c κs = search needs
+command-first-requires : tie.Need-command-first-requires
+command-first-requires c κs = search needs
 
 same-length : tie.Need-same-length
 same-length c = search needs
 
 returns-2 : tie.Need-returns-2
 returns-2 c =
-    let r = c .before in
-    let v = r .before .before in
-    let a = v .before .before .before .args in
-    let t = WriteCycle (a .address) (a .value) (a .heard0) (a .heard1) (a .votes .now) (a .arrived) in
-    let e = r .rest-refusal .ensures in
-    kept t (a .block .now) _ (c .if2 .taken)
-    (block-refused t (a .block .now) (voted v) _ (e ∙ rest-refused (a .block .now) (λ z. c .if2 .taken (e ∙ z))) (c .if2 .taken))
+    let f = c .before .before .before in
+    let v = f .before .before in
+    let k = v .before .before in
+    let a = k .before .args in
+    command-refused (a .address) (a .value) (a .heard0) (a .heard1) (a .votes .now) (a .arrived) (a .block .now) (λ i. k .slice-known .given i .fits) (voted v) _ _
+    (f .command-first .ensures .0) (f .command-first .ensures .1) (c .if2 .taken)
 
-sub-decode : tie.Need-sub-decode
-sub-decode c = search needs
+address-left-requires : tie.Need-address-left-requires
+address-left-requires c κs = search needs
 
-part-decode-start : tie.Need-part-decode-start
-part-decode-start c = search needs
-
-part-decode-end : tie.Need-part-decode-end
-part-decode-end c = omega (arith, sized (c .before))
-
-decode-requires : tie.Need-decode-requires
-decode-requires c κs = search needs
-
-enum-known-n : tie.Need-enum-known-n
-enum-known-n c = search needs
+write-and-decide-requires : tie.Need-write-and-decide-requires
+write-and-decide-requires c κs =
+    let l = c .before in
+    let v = l .before .before .before .before .before .before in
+    (left-address (v .before .before .before .args .address) _ (l .address-left .ensures), v .if1 .left)
 
 same-length-2 : tie.Need-same-length-2
 same-length-2 c = search needs
 
 returns-3 : tie.Need-returns-3
 returns-3 c =
-    let n = c .before .before in
-    let d = n .before .before in
-    let v = d .before .before .before .before .before .before in
-    let a = v .before .before .before .args in
-    let t = WriteCycle (a .address) (a .value) (a .heard0) (a .heard1) (a .votes .now) (a .arrived) in
-    kept t (a .block .now) 14 (λ z. omega arith) (past-the-end t (a .block .now) _ (voted v) (state-read d (n .n .given .1)) (lt-ltb 63 (a .address) (c .if3 .taken)))
-
-slice-read-flags-after : tie.Need-slice-read-flags-after
-slice-read-flags-after c = omega (arith, sized (c .before .before .before .before .before .before .before .before))
-
-flags-after-requires : tie.Need-flags-after-requires
-flags-after-requires c κs = search needs
-
-slice-read-enables-after : tie.Need-slice-read-enables-after
-slice-read-enables-after c = omega (arith, sized (c .before .before .before .before .before .before .before .before .before .before))
-
-enables-after-requires : tie.Need-enables-after-requires
-enables-after-requires c κs = search needs
-
-commanded-requires : tie.Need-commanded-requires
-commanded-requires c κs = search needs
-
-decide-requires : tie.Need-decide-requires
-decide-requires c κs =
-    let n = c .before .before .before .before .before .before .before .before .before in
-    let d = n .before .before in
-    let e = d .before .before .before in
-    let v = e .before .before .before in
-    let k = v .before .before in
-    let p = placed-then (k .before .args .block .now) _ (λ i. k .slice-known .given i .fits) (state-read d (n .n .given .1)) (k .before .args .value) _ _ refl (c .before .commanded .ensures) in
-    (p .0, p .1, v .if1 .left, sized e)
-
-decide-requires-2 : tie.Need-decide-requires-2
-decide-requires-2 c κs =
-    let n = c .before .before .before .before .before .before .before .before in
-    let d = n .before .before in
-    let e = d .before .before .before in
-    let v = e .before .before .before in
-    let k = v .before .before in
-    let p = placed (k .before .args .block .now) _ (λ i. k .slice-known .given i .fits) (state-read d (n .n .given .1)) _ refl in
-    (p .0, p .1, v .if1 .left, sized e)
-
-enum-told : tie.Need-enum-told
-enum-told c = search needs
-
-enum-told-2 : tie.Need-enum-told-2
-enum-told-2 c = search needs
-
-same-length-3 : tie.Need-same-length-3
-same-length-3 c = search needs
-
-returns-4 : tie.Need-returns-4
-returns-4 c =
-    let y = c .before .before in
-    let o = y .before .before in
-    let e = o .before .before in
-    let f = e .before .before in
-    let n = f .before .before .before .before in
-    let d = n .before .before in
-    let v = d .before .before .before .before .before .before in
+    let w = c .before .before in
+    let l = w .before .before in
+    let f = l .before .before .before .before in
+    let v = f .before .before in
     let k = v .before .before in
     let a = k .before .args in
-    let t = WriteCycle (a .address) (a .value) (a .heard0) (a .heard1) (a .votes .now) (a .arrived) in
-    let held = state-read d (n .n .given .1) in
-    done t (a .block .now) _ _ held (passed t (a .block .now) _ (voted v) held (le-ltb 63 (a .address) (f .before .before .if3 .left)))
-    (y .decide .ensures ∙ cycle-is (a .address) (a .value) _ _ _ _ _ _ _ (a .block .now) _ (held-block (a .block .now) _ (λ i. k .slice-known .given i .fits) held .1)
-    (o .commanded .ensures ∙ rw (eq-eqb (a .address) 27 (o .before .if4 .taken))) (f .flags-after .ensures) (e .enables-after .ensures))
-
-same-length-4 : tie.Need-same-length-4
-same-length-4 c = search needs
-
-returns-5 : tie.Need-returns-5
-returns-5 c =
-    let y = c .before .before in
-    let o = y .before .before in
-    let e = o .before in
-    let f = e .before .before in
-    let n = f .before .before .before .before in
-    let d = n .before .before in
-    let v = d .before .before .before .before .before .before in
-    let k = v .before .before in
-    let a = k .before .args in
-    let t = WriteCycle (a .address) (a .value) (a .heard0) (a .heard1) (a .votes .now) (a .arrived) in
-    let held = state-read d (n .n .given .1) in
-    done t (a .block .now) _ _ held (passed t (a .block .now) _ (voted v) held (le-ltb 63 (a .address) (f .before .before .if3 .left)))
-    (y .decide2 .ensures ∙ cycle-is (a .address) (a .value) _ _ _ _ _ _ _ (a .block .now) _ (held-block (a .block .now) _ (λ i. k .slice-known .given i .fits) held .1)
-    (rw (ne-eqb (a .address) 27 (o .if4 .left))) (f .flags-after .ensures) (e .enables-after .ensures))
-
-same-length-5 : tie.Need-same-length-5
-same-length-5 c = search needs
-
-returns-6 : tie.Need-returns-6
-returns-6 c =
-    let d = c .before .before in
-    let v = d .before .before .before .before .before .before in
-    let a = v .before .before .before .args in
-    let t = WriteCycle (a .address) (a .value) (a .heard0) (a .heard1) (a .votes .now) (a .arrived) in
-    kept t (a .block .now) 4 (λ z. omega arith) (block-refused t (a .block .now) (voted v) 4 (sym (ap blockStatus (state-read d (c .enum-told .given .1)))) (λ z. omega arith))
-
-same-length-6 : tie.Need-same-length-6
-same-length-6 c = search needs
-
-returns-7 : tie.Need-returns-7
-returns-7 c =
-    let d = c .before .before in
-    let v = d .before .before .before .before .before .before in
-    let a = v .before .before .before .args in
-    let t = WriteCycle (a .address) (a .value) (a .heard0) (a .heard1) (a .votes .now) (a .arrived) in
-    kept t (a .block .now) 4 (λ z. omega arith) (block-refused t (a .block .now) (voted v) 4 (sym (ap blockStatus (state-read d (c .enum-told2 .given .1)))) (λ z. omega arith))
+    command-done (a .address) (a .value) (a .heard0) (a .heard1) (a .votes .now) (a .arrived) (a .block .now) (λ i. k .slice-known .given i .fits) (voted v) _ _
+    (f .command-first .ensures .0) (f .command-first .ensures .1) (l .before .if2 .left) _ _ _ (l .address-left .ensures) (w .write-and-decide .ensures .0) (w .write-and-decide .ensures .1)
 
 pub write-cycle-spec : {M : Type 1} → statement M
 write-cycle-spec =
     tie.close
     (tie.spec
     returns
-    rest-refusal-requires
+    command-first-requires
     same-length
     returns-2
-    sub-decode
-    part-decode-start
-    part-decode-end
-    decode-requires
-    enum-known-n
+    address-left-requires
+    write-and-decide-requires
     same-length-2
-    returns-3
-    slice-read-flags-after
-    flags-after-requires
-    slice-read-enables-after
-    enables-after-requires
-    commanded-requires
-    decide-requires
-    decide-requires-2
-    enum-told
-    enum-told-2
-    same-length-3
-    returns-4
-    same-length-4
-    returns-5
-    same-length-5
-    returns-6
-    same-length-6
-    returns-7)
+    returns-3)
