@@ -23,6 +23,7 @@ use Rattle.entry_slots.specs.Slots.{slotVote, arrivedIn, bufferBallots}
 use Rattle.entry_stop_start.specs.StopStart.{stoppedAndStarted}
 use Rattle.entry_decide.specs.Decide.{decision}
 use Rattle.registers.specs.Block.{Machine, formedMachine}
+use Rattle.registers.proofs.Written.{node-after}
 use Rattle.registers.specs.Steps.{Step, Read, Write, Cycle, WriteCycle, commanded, written, decidedNode, cycled, stepped}
 
 -- ---- the votes that count are of nodes that there are
@@ -89,16 +90,12 @@ decided-formed heard0 heard1 votes arrived n f = with-state n _ f (go (n .state)
 
 -- ---- a machine
 
--- what holds of the machine after each kind of write
-of-each : (P : Machine → Type 0) (b c d : Bool) (x y z m : Machine) → P x → P y → P z → P m → P (cond b x (cond c y (cond d z m)))
-of-each P true c d x y z m p q r h = p
-of-each P false true d x y z m p q r h = q
-of-each P false false true x y z m p q r h = r
-of-each P false false false x y z m p q r h = h
-
 pub written-formed : (a v : ℕ) (m : Machine) → formedMachine m ≡ true → formedMachine (written a v m) ≡ true
-unfolding written
-written-formed a v m f = of-each (λ (x : Machine). formedMachine x ≡ true) (eqb a 24) (eqb a 25) (eqb a 27) _ _ _ m f f (command-formed v (m .node) f) f
+written-formed a v m f = ap formed (node-after a v m) ∙ go (eqb a 27)
+  where
+    go : (b : Bool) → formed (cond b (commanded v (m .node)) (m .node)) ≡ true
+    go true = command-formed v (m .node) f
+    go false = f
 
 pub cycled-formed : (heard0 heard1 : ℕ) (votes : List ℕ) (arrived : ℕ) (m : Machine) → formedMachine m ≡ true → formedMachine (cycled heard0 heard1 votes arrived m) ≡ true
 unfolding cycled

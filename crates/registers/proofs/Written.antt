@@ -12,10 +12,11 @@ use Rattle.sets.specs.Sets.{has, _∪_, _∩_, _∖_, below}
 use Rattle.sets.proofs.Booleans.{ltb-lt}
 use Rattle.sets.proofs.Membership.{has-union, has-inter, has-diff}
 use Rattle.sets.proofs.Nodes.{has-below}
+use Rattle.state.specs.declared.Group.{Group}
 use Rattle.state.specs.declared.State.{State}
 use Rattle.state.specs.declared.State.the-variants.{Out, Joining, Member}
 use Rattle.state.specs.State.{halted}
-use Rattle.rules.specs.OneCycle.{stopAndStart}
+use Rattle.rules.specs.OneCycle.{startIf, stopAndStart}
 use Rattle.registers.specs.Block.{Flags, Machine, flagsByte, flagsIn, pendingByte}
 use Rattle.registers.specs.Steps.{Cycle, WriteCycle, cleared, commanded, written, raisedBy, raised, cycled, stepped}
 use Rattle.registers.proofs.Bits.{three, flags-back, flags-few, byte-back}
@@ -46,6 +47,48 @@ pub cycle-alone : (heard0 heard1 : ℕ) (votes : List ℕ) (arrived : ℕ) (m : 
     → stepped (Cycle heard0 heard1 votes arrived) m ≡ stepped (WriteCycle 28 0 heard0 heard1 votes arrived) m
 unfolding written
 cycle-alone heard0 heard1 votes arrived m = refl
+
+-- ---- what a step does to the flags and the node
+
+-- "A flag raised in the same step as it is cleared stays set."
+pub stays-set : (a v heard0 heard1 : ℕ) (votes : List ℕ) (arrived : ℕ) (m : Machine) (flag : Flags → Bool) → ((f g : Flags) → flag (raised f g) ≡ (flag f || flag g))
+    → flag (raisedBy (written a v m .node .state) (stepped (WriteCycle a v heard0 heard1 votes arrived) m .node .state)) ≡ true
+    → flag (stepped (WriteCycle a v heard0 heard1 votes arrived) m .flags) ≡ true
+unfolding cycled
+stays-set a v heard0 heard1 votes arrived m flag each e = each _ _ ∙ ap (λ (b : Bool). flag (written a v m .flags) || b) e ∙ or-yes (flag (written a v m .flags))
+  where
+    or-yes : (b : Bool) → (b || true) ≡ true
+    or-yes true = refl
+    or-yes false = refl
+
+and-no : (b : Bool) → (b && false) ≡ false
+and-no true = refl
+and-no false = refl
+
+-- one cycle raises at most one flag
+pub at-most-one : (s t : State) → let f = raisedBy s t in ((f .changed && f .halted) ≡ false) × ((f .changed && f .entered) ≡ false) × ((f .halted && f .entered) ≡ false)
+unfolding raisedBy
+at-most-one (Out r) t = (refl, refl, refl)
+at-most-one Joining t = (refl, refl, refl)
+at-most-one (Member g) (Out r) = (refl, refl, and-no (halted (Out r)))
+at-most-one (Member g) Joining = (refl, refl, refl)
+at-most-one (Member g) (Member h) = (and-no (not (eqb (g .set) (h .set))), and-no (not (eqb (g .set) (h .set))), refl)
+
+-- "raising no flag": a stop, also together with a cycle
+pub stop-raises-none : (heard0 heard1 : ℕ) (votes : List ℕ) (arrived : ℕ) (m : Machine) → stepped (WriteCycle 27 1 heard0 heard1 votes arrived) m .flags ≡ m .flags
+unfolding written cycled raisedBy stopAndStart
+stop-raises-none heard0 heard1 votes arrived m = λ i. three (or-none (m .flags .changed) i) (or-none (m .flags .halted) i) (or-none (m .flags .entered) i)
+  where
+    or-none : (b : Bool) → (b || false) ≡ b
+    or-none true = refl
+    or-none false = refl
+
+-- "as rule 1 says": a start leaves a member
+pub start-leaves-member : (m : Machine) (g : Group) → m .node .state ≡ Member g → written 27 2 m ≡ m
+unfolding written stopAndStart
+start-leaves-member m g e =
+    let of : State → Machine = λ s. record { node = record { state = s; id = m .node .id; nodes = m .node .nodes }; flags = m .flags; enables = m .enables } in
+    ap (λ (s : State). of (startIf true s)) e ∙ sym (ap of e)
 
 -- ---- in bytes
 
@@ -149,38 +192,3 @@ module _ (a v : ℕ) (m : Machine) where
       go : (b : Bool) → eqb a 27 ≡ b → written a v m .node ≡ cond b (commanded v (m .node)) (m .node)
       go true e = ap (λ (x : ℕ). written x v m .node) (eqb-true a 27 e) ∙ by-command v m
       go false e = node-kept a v m (eqb-false a 27 e)
-
--- ---- what a cycle raises
-
-and-no : (b : Bool) → (b && false) ≡ false
-and-no true = refl
-and-no false = refl
-
--- one cycle raises at most one flag
-pub at-most-one : (s t : State) → let f = raisedBy s t in ((f .changed && f .halted) ≡ false) × ((f .changed && f .entered) ≡ false) × ((f .halted && f .entered) ≡ false)
-unfolding raisedBy
-at-most-one (Out r) t = (refl, refl, refl)
-at-most-one Joining t = (refl, refl, refl)
-at-most-one (Member g) (Out r) = (refl, refl, and-no (halted (Out r)))
-at-most-one (Member g) Joining = (refl, refl, refl)
-at-most-one (Member g) (Member h) = (and-no (not (eqb (g .set) (h .set))), and-no (not (eqb (g .set) (h .set))), refl)
-
--- "raising no flag": a stop, also together with a cycle
-pub stop-raises-none : (heard0 heard1 : ℕ) (votes : List ℕ) (arrived : ℕ) (m : Machine) → stepped (WriteCycle 27 1 heard0 heard1 votes arrived) m .flags ≡ m .flags
-unfolding written cycled raisedBy stopAndStart
-stop-raises-none heard0 heard1 votes arrived m = λ i. three (or-none (m .flags .changed) i) (or-none (m .flags .halted) i) (or-none (m .flags .entered) i)
-  where
-    or-none : (b : Bool) → (b || false) ≡ b
-    or-none true = refl
-    or-none false = refl
-
--- "A flag raised in the same step as it is cleared stays set."
-pub stays-set : (a v heard0 heard1 : ℕ) (votes : List ℕ) (arrived : ℕ) (m : Machine) (flag : Flags → Bool) → ((f g : Flags) → flag (raised f g) ≡ (flag f || flag g))
-    → flag (raisedBy (written a v m .node .state) (stepped (WriteCycle a v heard0 heard1 votes arrived) m .node .state)) ≡ true
-    → flag (stepped (WriteCycle a v heard0 heard1 votes arrived) m .flags) ≡ true
-unfolding cycled
-stays-set a v heard0 heard1 votes arrived m flag each e = each _ _ ∙ ap (λ (b : Bool). flag (written a v m .flags) || b) e ∙ or-yes (flag (written a v m .flags))
-  where
-    or-yes : (b : Bool) → (b || true) ≡ true
-    or-yes true = refl
-    or-yes false = refl

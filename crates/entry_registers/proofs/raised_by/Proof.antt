@@ -1,6 +1,8 @@
 use borrow.Author.Tests.{eq-eqb, ne-eqb}
-use mathlib.Core.Path.{_≡_, _∙_, sym}
-use mathlib.Core.Bool.{Bool, true, false, cond}
+use mathlib.Core.Path.{_≡_, refl, ap, _∙_, sym}
+use mathlib.Core.Bool.{Bool, true, false, not, cond}
+use lib.Dec.{eqb}
+use Rattle.state.specs.declared.Group.{Group}
 use Rattle.state.specs.declared.State.{State}
 use Rattle.state.specs.declared.State.the-variants.{Out, Joining, Member}
 use Rattle.rules.specs.OneCycle.{sendsMember}
@@ -44,6 +46,15 @@ joined s t b e h = rw e (go t b h)
     go Joining b h = rw (sym h)
     go (Member g) b h = rw (sym h)
 
+-- a member that stays one raises changed if its set differs
+stayed : (s t : State) (g h : Group) (b : Bool) → s ≡ Member g → t ≡ Member h → not (eqb (g .set) (h .set)) ≡ b → cond b 1 0 ≡ flagsByte (raisedBy s t)
+unfolding raisedBy
+stayed s t g h b e f k = rw (e, f, k, go b)
+  where
+    go : (b : Bool) → flagsByte (record { changed = b; halted = false; entered = false }) ≡ cond b 1 0
+    go true = refl
+    go false = refl
+
 returns : tie.Need-returns
 unfolding raisedBy
 returns c = rw (c .enum-told .given .1)
@@ -71,16 +82,14 @@ unfolding raisedBy
 returns-6 c = rw (c .before .before .before .s .given .1, c .enum-told3 .given .1)
 
 returns-7 : tie.Need-returns-7
-unfolding raisedBy
 returns-7 c =
     let t = c .before .before .before .before in
-    rw (t .before .before .before .s .given .1, t .t2 .given .1, ne-eqb _ _ (c .if3 .taken))
+    stayed _ _ _ _ true (t .before .before .before .s .given .1) (t .t2 .given .1) (ap not (ne-eqb _ _ (c .if3 .taken)))
 
 returns-8 : tie.Need-returns-8
-unfolding raisedBy
 returns-8 c =
     let t = c .before .before .before .before in
-    rw (t .before .before .before .s .given .1, t .t2 .given .1, eq-eqb _ _ (c .if3 .left))
+    stayed _ _ _ _ false (t .before .before .before .s .given .1) (t .t2 .given .1) (ap not (eq-eqb _ _ (c .if3 .left)))
 
 pub raised-by-spec : {M : Type 1} → statement M
 raised-by-spec =

@@ -64,6 +64,22 @@ enum-known-n c = search needs
 same-length-2 : tie.Need-same-length-2
 same-length-2 c = search needs
 
+returns-3 : tie.Need-returns-3
+returns-3 c =
+    let y = c .before .before in
+    let e = y .before .before in
+    let f = e .before .before in
+    let n = f .before .before .before .before in
+    let d = n .before .before in
+    let k = d .before .before .before .before .before .before .before in
+    let b = k .before in
+    let a = b .args in
+    let t = WriteCycle (a .address) (a .value) (a .heard0) (a .heard1) (a .votes .now) (a .arrived) in
+    let held = state-read d (n .n .given .1) in
+    done t (a .block .now) _ _ held (passed t (a .block .now) _ (voted b) held (le-ltb 63 (a .address) (f .before .before .if2 .left)))
+    (y .decide .ensures ∙ cycle-is (a .address) (a .value) _ _ _ _ _ _ _ (a .block .now) _ (held-block (a .block .now) _ (λ i. k .slice-known .given i .fits) held .1)
+    (rw (ne-eqb (a .address) 27 (b .pre .0))) (f .flags-after .ensures) (e .enables-after .ensures))
+
 returns-2 : tie.Need-returns-2
 returns-2 c =
     let n = c .before .before in
@@ -102,22 +118,6 @@ enum-told-2 c = search needs
 
 same-length-3 : tie.Need-same-length-3
 same-length-3 c = search needs
-
-returns-3 : tie.Need-returns-3
-returns-3 c =
-    let y = c .before .before in
-    let e = y .before .before in
-    let f = e .before .before in
-    let n = f .before .before .before .before in
-    let d = n .before .before in
-    let k = d .before .before .before .before .before .before .before in
-    let b = k .before in
-    let a = b .args in
-    let t = WriteCycle (a .address) (a .value) (a .heard0) (a .heard1) (a .votes .now) (a .arrived) in
-    let held = state-read d (n .n .given .1) in
-    done t (a .block .now) _ _ held (passed t (a .block .now) _ (voted b) held (le-ltb 63 (a .address) (f .before .before .if2 .left)))
-    (y .decide .ensures ∙ cycle-is (a .address) (a .value) _ _ _ _ _ _ _ (a .block .now) _ (held-block (a .block .now) _ (λ i. k .slice-known .given i .fits) held .1)
-    (rw (ne-eqb (a .address) 27 (b .pre .0))) (f .flags-after .ensures) (e .enables-after .ensures))
 
 same-length-4 : tie.Need-same-length-4
 same-length-4 c = search needs
