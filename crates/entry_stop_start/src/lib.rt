@@ -6,7 +6,7 @@ ghost use Rattle.entry_stop_start.specs.StopStart.{stoppedAndStarted, ru
 use state::Decoded;
 use state::Node;
 
-pub fn stopped_and_started(stop: bool, start: bool, n: Node) -> Node
+fn stopped_and_started(stop: bool, start: bool, n: Node) -> Node
     ensures { λ r. ⌜ r ≡ stoppedAndStarted stop start n ⌝ }
 {
     let s = n.state;
