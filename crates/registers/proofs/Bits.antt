@@ -11,32 +11,26 @@ use Rattle.registers.specs.Block.{Flags, flagsByte, flagsIn}
 abbrev pub three : Bool → Bool → Bool → Flags
 three c h e = record { changed = c; halted = h; entered = e }
 
-pub flags-back : (f : Flags) → flagsIn (flagsByte f) ≡ f
+-- written and read, and below 8
+both : (f : Flags) → (flagsIn (flagsByte f) ≡ f) × (ltb (flagsByte f) 8 ≡ true)
 unfolding has
-flags-back f = go (f .changed) (f .halted) (f .entered)
+both f = go (f .changed) (f .halted) (f .entered)
   where
-    go : (c h e : Bool) → flagsIn (flagsByte (three c h e)) ≡ three c h e
-    go true true true = refl
-    go true true false = refl
-    go true false true = refl
-    go true false false = refl
-    go false true true = refl
-    go false true false = refl
-    go false false true = refl
-    go false false false = refl
+    go : (c h e : Bool) → (flagsIn (flagsByte (three c h e)) ≡ three c h e) × (ltb (flagsByte (three c h e)) 8 ≡ true)
+    go true true true = (refl, refl)
+    go true true false = (refl, refl)
+    go true false true = (refl, refl)
+    go true false false = (refl, refl)
+    go false true true = (refl, refl)
+    go false true false = (refl, refl)
+    go false false true = (refl, refl)
+    go false false false = (refl, refl)
+
+pub flags-back : (f : Flags) → flagsIn (flagsByte f) ≡ f
+flags-back f = both f .0
 
 pub flags-few : (f : Flags) → ltb (flagsByte f) 8 ≡ true
-flags-few f = go (f .changed) (f .halted) (f .entered)
-  where
-    go : (c h e : Bool) → ltb (flagsByte (three c h e)) 8 ≡ true
-    go true true true = refl
-    go true true false = refl
-    go true false true = refl
-    go true false false = refl
-    go false true true = refl
-    go false true false = refl
-    go false false true = refl
-    go false false false = refl
+flags-few f = both f .1
 
 -- a byte that has no other bits
 pub byte-back : (b : ℕ) → ltb b 8 ≡ true → flagsByte (flagsIn b) ≡ b
