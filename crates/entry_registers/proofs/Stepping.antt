@@ -11,7 +11,6 @@ use Rattle.bigendian.proofs.Laws.{Bytes}
 use Rattle.sets.proofs.Booleans.{and-l}
 use Rattle.state.specs.declared.Node.{Node}
 use Rattle.state.specs.declared.Decoded.{Decoded}
-use Rattle.state.specs.declared.Decoded.the-variants.{Good, WrongLength as OfAnotherLength, Malformed as NoImage}
 use Rattle.state.specs.State.{formed, formedPlace, formedState}
 use Rattle.state.specs.Image.{decoded}
 use Rattle.state.proofs.Fields.{place-bounds}

@@ -1,14 +1,13 @@
 -- Flags, enables and the byte that follows from both, looked at and written. Assumes nothing.
 use mathlib.Core.Path.{_≡_, refl, sym, ap, ap₂, _∙_}
-use mathlib.Core.Bool.{Bool, true, false, _&&_, cond}
+use mathlib.Core.Bool.{Bool, true, false, _&&_}
 use mathlib.Core.List.{List, [], _∷_, _++_}
 use Prim.Native.Nat.{ℕ, suc}
 use native.Mathlib.Omega.{arith}
 use lib.Dec.{eqb, ltb}
 use lib.ListN.{getD, length, take, drop, set, take-append-drop}
 use lib.Seq.{drop-cons, length-take-le}
-use Rattle.sets.specs.Sets.{_∩_}
-use Rattle.registers.specs.Block.{flagsByte, flagsIn, pendingByte, allZero, readsSo}
+use Rattle.registers.specs.Block.{flagsIn, pendingByte, allZero, readsSo}
 use Rattle.registers.proofs.Bits.{byte-back}
 use Rattle.registers.proofs.Written.{pending-byte}
 use Rattle.register_block.specs.Bytes.{shares, withFlags}

@@ -5,8 +5,8 @@ use mathlib.Core.List.{List, [], _∷_, _++_}
 use Prim.Native.Nat.{ℕ, zero, suc, _+_, _-_, _≤_, _<_}
 use native.Mathlib.Omega.{arith}
 use lib.Dec.{eqb, ltb, lit<}
-use lib.ListN.{getD, length, take, drop, replicate, length-append, take-append-drop, length-drop, List·getD-append, List·getD-eq-default}
-use lib.Seq.{take-at, drop-at, drop-append-add, getD-append-add, getD-take, drop-cons}
+use lib.ListN.{getD, length, take, drop, replicate, length-append, take-append-drop, length-drop, List·getD-append}
+use lib.Seq.{take-at, drop-at, drop-append-add, getD-append-add, drop-cons}
 use borrow.Author.Tests.{eq-eqb, ne-eqb, ltb-false}
 use Rattle.sets.specs.Sets.{has}
 use Rattle.sets.proofs.Booleans.{eqb-self, eqb-true, ltb-lt, and-l, and-r, and-i}
@@ -16,7 +16,7 @@ use Rattle.state.specs.declared.Decoded.{Decoded}
 use Rattle.state.specs.declared.Decoded.the-variants.{Good, WrongLength as OfAnotherLength, Malformed as NoImage}
 use Rattle.state.specs.Image.{imageOf, decoded}
 use Rattle.state.proofs.RoundTrip.{image-length, round-trip, image-back, decoded-formed}
-use Rattle.registers.specs.Block.{Machine, LentBlock, Holds, WrongLength, Malformed, flagsByte, flagsIn, pendingByte, blockOf, shown, formedMachine, allZero, readsSo, machineIn, registersAt}
+use Rattle.registers.specs.Block.{Machine, Holds, WrongLength, Malformed, flagsByte, flagsIn, pendingByte, blockOf, shown, formedMachine, allZero, readsSo, machineIn, registersAt}
 use Rattle.registers.proofs.Bits.{three, flags-back, flags-few, byte-back}
 
 -- ---- the parts of a block

@@ -2,10 +2,10 @@
 use mathlib.Core.Path.{_≡_, refl, sym, ap, _∙_}
 use mathlib.Core.Bool.{Bool, true, false, not, _&&_, cond}
 use mathlib.Core.List.{List}
-use mathlib.Core.Option.{Option, none, some}
-use Prim.Native.Nat.{ℕ, _<_}
-use lib.Dec.{eqb, ltb}
-use Rattle.sets.specs.Sets.{has, those, subset, below}
+use mathlib.Core.Option.{none, some}
+use Prim.Native.Nat.{ℕ}
+use lib.Dec.{eqb}
+use Rattle.sets.specs.Sets.{has, subset, below}
 use Rattle.sets.proofs.Booleans.{and-l, and-r, and-i, eqb-true}
 use Rattle.sets.proofs.Membership.{subset-in}
 use Rattle.sets.proofs.Nodes.{of-those}

@@ -1,15 +1,14 @@
 -- What a step answers, leaves and reads, by what reading the block finds. Assumes nothing.
-use mathlib.Core.Path.{_≡_, refl, sym, ap, ap₂, _∙_}
+use mathlib.Core.Path.{_≡_, refl, sym, ap, _∙_}
 use mathlib.Core.Bool.{Bool, true, false, not, _||_, cond}
-use mathlib.Core.List.{List, [], _∷_}
+use mathlib.Core.List.{List}
 use mathlib.Core.Option.{Option, none, some}
 use Prim.Native.Nat.{ℕ}
 use native.Mathlib.Omega.{arith}
 use lib.Dec.{eqb}
 use lib.ListN.{length, take}
-use Rattle.refusal.specs.Refusal.{when, first, unless}
+use Rattle.refusal.specs.Refusal.{first, unless}
 use Rattle.refusal.proofs.Laws.{unless-done, unless-refused}
-use Rattle.state.specs.declared.Node.{Node}
 use Rattle.state.specs.declared.Decoded.{Decoded}
 use Rattle.state.specs.declared.Decoded.the-variants.{Good, WrongLength as OfAnotherLength, Malformed as NoImage}
 use Rattle.state.specs.Image.{decoded}

@@ -1,6 +1,6 @@
 -- The flags of the card and the columns of a printed run speak of the same cycle. Assumes nothing.
 use mathlib.Core.Path.{_≡_, refl, sym, ap, ap₂, _∙_}
-use mathlib.Core.Bool.{Bool, true, false, _&&_}
+use mathlib.Core.Bool.{Bool, false, _&&_}
 use Prim.Native.Nat.{ℕ, _<_}
 use Rattle.sets.specs.Sets.{has}
 use Rattle.sets.proofs.Nodes.{those-in}

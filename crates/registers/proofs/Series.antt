@@ -1,13 +1,12 @@
 -- Every series of steps on the block of a machine shows and leaves what the machine does. Assumes nothing.
-use mathlib.Core.Path.{_≡_, refl, sym, ap, ap₂, _∙_}
+use mathlib.Core.Path.{_≡_, refl, ap, ap₂, _∙_}
 use mathlib.Core.Bool.{Bool, true, false, cond}
 use mathlib.Core.List.{List, [], _∷_}
-use mathlib.Core.Option.{Option, none}
+use mathlib.Core.Option.{none}
 use Prim.Native.Nat.{ℕ}
 use lib.Dec.{eqb}
-use lib.ListN.{length}
 use Rattle.refusal.specs.Refusal.{first, unless}
-use Rattle.registers.specs.Block.{Machine, LentBlock, blockOf, formedMachine, registersAt}
+use Rattle.registers.specs.Block.{Machine, LentBlock, blockOf, formedMachine}
 use Rattle.registers.specs.Steps.{Step, Read, stepped, readIn, stepStatus, leftIn, stepLeft, readAt, stepRead}
 use Rattle.registers.specs.Series.{Shown, answer, next, shows, after, blockShows, blockAfter, SameSeries}
 use Rattle.registers.proofs.Blocks.{block-length, block-back}

@@ -2,11 +2,11 @@
 use mathlib.Core.Path.{_≡_, refl, sym, ap, _∙_}
 use mathlib.Core.Bool.{Bool, true, false, not, _&&_, _||_, cond}
 use mathlib.Core.List.{List}
-use Prim.Native.Nat.{ℕ, _%_, _^_, _≤_, _<_}
+use Prim.Native.Nat.{ℕ, _%_, _<_}
 use native.Mathlib.Nat.{mod-lt}
 use native.Mathlib.Omega.{arith}
-use lib.Dec.{eqb, ltb, lit<}
-use lib.Bits.{bitAnd, and-le-l, or-lt}
+use lib.Dec.{eqb, lit<}
+use lib.Bits.{and-le-l, or-lt}
 use borrow.Author.Tests.{ne-eqb, lt-ltb, eqb-true, eqb-false}
 use Rattle.sets.specs.Sets.{has, _∪_, _∩_, _∖_, below}
 use Rattle.sets.proofs.Booleans.{ltb-lt}

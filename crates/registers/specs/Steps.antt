@@ -11,7 +11,7 @@ use Rattle.state.specs.declared.State.{State}
 use Rattle.state.specs.declared.State.the-variants.{Out, Joining, Member}
 use Rattle.state.specs.declared.Node.{Node}
 use Rattle.state.specs.State.{halted}
-use Rattle.refusal.specs.Refusal.{Condition, when, first, unless}
+use Rattle.refusal.specs.Refusal.{when, first, unless}
 use Rattle.entry_lent.specs.Refusals.{wrongLength}
 use Rattle.entry_stop_start.specs.StopStart.{stoppedAndStarted}
 use Rattle.entry_decide.specs.Decide.{decision}
