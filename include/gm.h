@@ -66,9 +66,9 @@
  * writing, the same flag may have been raised again: such a card reads bytes 0-23 after it has written.
  * A stop or a start that shall count for a cycle is written to byte 27, by gm_register_write, before
  * gm_send_heartbeat of that cycle (step 1 of ONE CYCLE). One that is written later, or together with the
- * cycle, comes after frames of the cycle: a unit that is started so sends its first heartbeat in the next
- * cycle, and one that is stopped so counts as one that lost its state in mid-cycle (see DUTIES, "A unit
- * that lost its state").
+ * cycle, comes after frames of the cycle. A unit that was out and is started so sends its first heartbeat
+ * in the next cycle. One that is stopped so counts as one that lost its state in mid-cycle (see DUTIES, "A
+ * unit that lost its state"), and a start after that is written before the heartbeats of the next.
  * A block may be memory shared with the card only if during a call nobody writes it, and nobody reads it
  * who must not see half a step.
  *

@@ -1,7 +1,8 @@
--- The premises over blocks can be met: for every founding set and list of fault records there is a press whose units keep their states in blocks. Assumes nothing.
+-- The premises over blocks can be met: any steps can be made on any block, and for every founding set and list of fault records there is a press whose units keep their
+-- states in blocks. Assumes nothing.
 use mathlib.Core.Path.{_≡_, refl, sym, ap, _∙_, subst}
 use mathlib.Core.Bool.{false, not, _||_}
-use mathlib.Core.List.{List, [], _++_}
+use mathlib.Core.List.{List, [], _∷_, _++_}
 use Prim.Native.Nat.{ℕ, _≤_}
 use native.Mathlib.Omega.{arith}
 use lib.Dec.{eqb}
@@ -21,7 +22,8 @@ use Rattle.entry_lent.proofs.Bounds.{length-is}
 use Rattle.entry_lent.proofs.Images.{good-length, by-image}
 use Rattle.entry_decide.specs.Decide.{decideStatus, decideLeft}
 use Rattle.rules.specs.declared.Faults.{Faults}
-use Rattle.registers.specs.Steps.{Step, Write, Cycle, WriteCycle, wrongVotes, wrongAddress, stepStatus, stepLeft}
+use Rattle.registers.specs.Steps.{Step, Read, Write, Cycle, WriteCycle, wrongVotes, wrongAddress, stepStatus, stepLeft, stepValue}
+use Rattle.registers.specs.Series.{Shown}
 use Rattle.registers.proofs.Blocks.{begins}
 use Rattle.registers.proofs.Found.{status-found}
 use Rattle.theorem_unit_calls.specs.Entries.{Within, byDefinition}
@@ -29,12 +31,41 @@ use Rattle.theorem_unit_calls.specs.Cycle.{Pressed}
 use Rattle.theorem_unit_calls.specs.Promise.{Begins}
 use Rattle.theorem_unit_calls.proofs.There.{press-there}
 use Rattle.theorem_units.proofs.Compiled as single
+use Rattle.theorem_registers.specs.Calls.{Done, none-more, read, write, cycle, write-cycle}
 use Rattle.theorem_registers.specs.Units.{Commands, command, Cycles, alone, with-a-write, inBlocks}
 use Rattle.theorem_registers.proofs.Units.{told}
 
 -- a reference to a value, at any place
 abbrev ref : {X : Type 0} → X → RefT X
 ref x = record { ptr = (0, 0); name = 0; now = x }
+
+-- for every list of steps, on any bytes, there are calls of which the contracts tell so
+pub calls-there : (ts : List Step) (x : List ℕ) → (vs : List Shown) × (z : List ℕ) × Done ts vs x z
+calls-there [] x = ([], x, none-more)
+calls-there (Read a ∷ ts) x =
+    let t = Read a in
+    let rest = calls-there ts x in
+    (_, rest .1, read ([], ([], tt)) (ref x, (a, (ref 0, tt))) (stepStatus t x) (ref x, (a, (ref (stepValue t x 0), tt))) (refl, refl) refl (rest .2))
+calls-there (Write a v ∷ ts) x =
+    let t = Write a v in
+    let rest = calls-there ts (stepLeft t x) in
+    (_, rest .1, write ([], tt) (ref x, (a, (v, tt))) (stepStatus t x) (ref (stepLeft t x), (a, (v, tt))) (refl, refl) refl refl (rest .2))
+calls-there (Cycle heard0 heard1 votes arrived ∷ ts) x =
+    let t = Cycle heard0 heard1 votes arrived in
+    let rest = calls-there ts (stepLeft t x) in (
+      _,
+      rest .1,
+      cycle ([], ([], tt)) (ref x, (heard0, (heard1, (ref votes, (arrived, tt))))) (stepStatus t x) (ref (stepLeft t x), (heard0, (heard1, (ref votes, (arrived, tt)))))
+      (refl, refl) refl refl (rest .2),
+    )
+calls-there (WriteCycle a v heard0 heard1 votes arrived ∷ ts) x =
+    let t = WriteCycle a v heard0 heard1 votes arrived in
+    let rest = calls-there ts (stepLeft t x) in (
+      _,
+      rest .1,
+      write-cycle ([], ([], tt)) (ref x, (a, (v, (heard0, (heard1, (ref votes, (arrived, tt))))))) (stepStatus t x)
+      (ref (stepLeft t x), (a, (v, (heard0, (heard1, (ref votes, (arrived, tt))))))) (refl, refl) refl refl (rest .2),
+    )
 
 -- the node of a state that is accepted
 node-in : (x : List ℕ) → 0 ≡ imageStatus x → (n : Node) × (decoded x ≡ Good n)
