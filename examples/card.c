@@ -210,8 +210,10 @@ static void print_cycle(const struct press *p, uint32_t number, uint64_t touched
     unsigned q = 0;
     while (q < UNITS && (in(touched, q) || read_register(&u[q], GM_STATE_AT_KIND) != GM_KIND_MEMBER))
         q++;
-    if (q == UNITS)
+    if (q == UNITS) {
+        fprintf(stderr, "no unit that was not touched is a member\n");
         exit(1);
+    }
     printf("%5" PRIu32 " %5" PRIu64 " %016" PRIx64, number, read_number(&u[q], GM_STATE_AT_NUMBER, 4), read_number(&u[q], GM_STATE_AT_SET, GM_SET_BYTES));
     for (q = 0; q < UNITS; q++)
         print_unit(&u[q]);

@@ -61,14 +61,16 @@
  * A flag stays until it is cleared. gm_register_write_cycle is a write and a cycle in one step, the write
  * first: a flag that is cleared and raised in one step stays set.
  * A card polls byte 26 after each cycle. Where it is 1, the card reads byte 24 and writes back what it
- * read, before the next cycle or together with it. This clears the flags that it has seen and no other, and
- * what the next cycle raises stays set, so that nothing is lost. Where a cycle may come between reading and
- * writing, the same flag may have been raised again: such a card reads bytes 0-23 after it has written.
+ * read, before the next cycle or together with it. This clears the flags that it has seen and no other,
+ * and what the next cycle raises stays set: no raising of an enabled flag is lost. Where a cycle may
+ * come between reading and writing, the same flag may have been raised again: such a card reads bytes
+ * 0-23 after it has written.
  * A stop or a start that shall count for a cycle is written to byte 27, by gm_register_write, before
  * gm_send_heartbeat of that cycle (step 1 of ONE CYCLE). One that is written later, or together with the
- * cycle, comes after frames of the cycle. A unit that was out and is started so sends its first heartbeat
- * in the next cycle. One that is stopped so counts as one that lost its state in mid-cycle (see DUTIES, "A
- * unit that lost its state"), and a start after that is written before the heartbeats of the next.
+ * cycle, comes after frames of the cycle, and no theorem of AGREEMENT is about it: a unit that was out
+ * and is started so sends its first heartbeat in the next cycle; one that is stopped so counts as one
+ * that lost its state in mid-cycle (see DUTIES, "A unit that lost its state"), and a start after that is
+ * written before the heartbeats of the next.
  * A block may be memory shared with the card only if during a call nobody writes it, and nobody reads it
  * who must not see half a step.
  *
@@ -101,7 +103,8 @@
  *      and in heard1 after GM_HEARD_JOINING
  *   4. gm_send_vote for each channel, with these masks; the host sends the frame if there is one
  *   5. gm_receive_vote for every other node, into the vote buffer, whatever stands in it, and `arrived`
- *   6. gm_decide, with the same heard0 and heard1; of a register block gm_register_cycle in its place
+ *   6. gm_decide, with the same heard0 and heard1; of a register block gm_register_cycle in its place, or
+ *      gm_register_write_cycle with a write that is no command
  * A member sends both frames, a joining node its heartbeat alone, one that is out none. In 3 and 5 the
  * nodes may come in any order, and the call for a node of which nothing came on either channel may be left
  * out: its bit is then 0, which is why the masks are 0 before the cycle. After 6 gm_state tells what the
@@ -137,7 +140,7 @@
  *     heard1: the decision makes the node's own vote from them again.
  *   - No cycle is skipped: a unit that slept through one and goes on with its old state holds a state that
  *     the rules do not give. Only a node that is out, and neither stopped nor started, may make no calls at
- *     all, and one that is stopped and not started none but gm_stop.
+ *     all, and one that is stopped and not started none but gm_stop or the write of that command.
  *   - A unit that lost its state, or its power, before any copy of its heartbeat went out counts as
  *     stopped in that cycle; one that loses it later as one whose frames are lost from then on and which is
  *     stopped in the next. It comes back, in the cycle in which it counts as stopped or a later one, by

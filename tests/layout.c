@@ -84,7 +84,7 @@ static void writes(uint8_t *block, uint32_t address, uint32_t value)
     hold(gm_register_write(block, GM_REGISTERS_BYTES, address, (uint8_t)value) == GM_OK, "a write to a register is refused");
 }
 
-/* one of three founders, which loses another one, halts, is started, enters and is stopped; each flag is acknowledged together with the next cycle */
+/* one of three founders, which loses another one, halts, is started, enters and is stopped; the first two flags are acknowledged together with a cycle, the third by a write alone */
 static void registers(void)
 {
     uint8_t block[GM_REGISTERS_BYTES] = {0}, votes[GM_VOTES_BYTES] = {0};

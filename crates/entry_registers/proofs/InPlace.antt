@@ -22,7 +22,7 @@ use Rattle.entry_decide.specs.Decide.{decision}
 use Rattle.registers.specs.Block.{Flags, Machine, flagsByte, blockOf, formedMachine}
 use Rattle.registers.specs.Steps.{commanded, written, raisedBy, raised, decidedNode, cycled}
 use Rattle.registers.proofs.Blocks.{image-part, rest-part, rest-at, flags-at, enables-at}
-use Rattle.registers.proofs.Written.{flags-after, enables-after, node-after, raised-byte, pending-byte}
+use Rattle.registers.proofs.Written.{node-kept, flags-after, enables-after, node-after, raised-byte, pending-byte}
 use Rattle.register_block.specs.Bytes.{shares, withFlags}
 use Rattle.entry_registers.specs.InPlace.{flagsAfter, enablesAfter, commandLeft, writeLeft, cycleLeft}
 
@@ -89,16 +89,16 @@ write-is a v s m f same =
 
 -- ---- a cycle
 
--- after a write of which the node, the flags and the enables are known
+-- after a write that is no command, of which the flags and the enables are known
 pub cycle-is : (a v : ℕ) (n : Node) (flags enables heard0 heard1 : ℕ) (votes : List ℕ) (arrived : ℕ) (s : List ℕ) (m : Machine) → s ≡ blockOf m
-    → n ≡ cond (eqb a 27) (commanded v (m .node)) (m .node) → flags ≡ flagsAfter a v (getD s 24 0) → enables ≡ enablesAfter a v (getD s 25 0)
+    → n ≡ m .node → (a ≡ 27 → ⊥) → flags ≡ flagsAfter a v (getD s 24 0) → enables ≡ enablesAfter a v (getD s 25 0)
     → cycleLeft n flags enables heard0 heard1 votes arrived s ≡ blockOf (cycled heard0 heard1 votes arrived (written a v m))
 unfolding cycleLeft cycled
-cycle-is a v n flags enables heard0 heard1 votes arrived s m same en ef ee =
+cycle-is a v n flags enables heard0 heard1 votes arrived s m same en c ef ee =
     let x = written a v m in
     let next = decidedNode heard0 heard1 votes arrived (x .node) in
     let raises = raisedBy (x .node .state) (next .state) in
-    (λ i. cycleLeft ((en ∙ sym (node-after a v m)) i) ((ef ∙ flags-then a v s m same) i) ((ee ∙ enables-then a v s m same) i) heard0 heard1 votes arrived (same i))
+    (λ i. cycleLeft ((en ∙ sym (node-kept a v m c)) i) ((ef ∙ flags-then a v s m same) i) ((ee ∙ enables-then a v s m same) i) heard0 heard1 votes arrived (same i))
     ∙ ap₂ (λ (b : ℕ) (t : List ℕ). withFlags b (flagsByte (x .enables)) t) (sym (raised-byte (x .flags) raises)) (node-replaced m next)
     ∙ flags-replaced (machine next (m .flags) (m .enables)) (raised (x .flags) raises) (x .enables)
 

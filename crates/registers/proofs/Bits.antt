@@ -11,6 +11,10 @@ use Rattle.registers.specs.Block.{Flags, flagsByte, flagsIn}
 abbrev pub three : Bool → Bool → Bool → Flags
 three c h e = record { changed = c; halted = h; entered = e }
 
+-- "bit 0 the set changed .., bit 1 halted, bit 2 entered"
+pub places : (flagsByte (three true false false) ≡ 1) × (flagsByte (three false true false) ≡ 2) × (flagsByte (three false false true) ≡ 4)
+places = (refl, refl, refl)
+
 -- written and read, and below 8
 both : (f : Flags) → (flagsIn (flagsByte f) ≡ f) × (ltb (flagsByte f) 8 ≡ true)
 unfolding has

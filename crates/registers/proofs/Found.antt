@@ -16,7 +16,7 @@ use Rattle.entry_lent.specs.Refusals.{wrongLength}
 use Rattle.entry_lent.proofs.Bounds.{length-is}
 use Rattle.registers.specs.Block.{Machine, LentBlock, Holds, WrongLength, Malformed, blockOf, shown, readsSo, machineIn, registersAt}
 use Rattle.registers.proofs.Written.{cycle-alone}
-use Rattle.registers.specs.Steps.{Step, Read, Cycle, WriteCycle, stepped, readIn, wrongAddress, wrongVotes, malformedBlock, stepStatus, leftIn, stepLeft, readAt, stepRead, resultOf, stepValue}
+use Rattle.registers.specs.Steps.{Step, Read, Write, Cycle, WriteCycle, stepped, readIn, wrongAddress, wrongVotes, malformedBlock, stepStatus, leftIn, stepLeft, readAt, stepRead, resultOf, stepValue}
 
 -- a block of another length than 64
 abbrev isWrong : LentBlock → Bool
@@ -49,6 +49,12 @@ image-in s m = go (eqb (length s) 64) (readsSo s) (decoded (take 24 s))
     go true true NoImage h = let z : _≡_ {A = ℕ} 0 1 = cc in absurd (omega arith)
     go true false d h = let z : _≡_ {A = ℕ} 0 1 = cc in absurd (omega arith)
     go false c d h = let z : _≡_ {A = ℕ} 0 1 = cc in absurd (omega arith)
+
+-- "an address above 63": the last register is 63
+pub last-register : (v heard0 heard1 : ℕ) (votes : List ℕ) (arrived : ℕ) → let joint : ℕ → Step = λ a. WriteCycle a v heard0 heard1 votes arrived in
+    (wrongAddress (Read 63) ≡ false) × (wrongAddress (Write 63 v) ≡ false) × (wrongAddress (joint 63) ≡ false)
+    × (wrongAddress (Read 64) ≡ true) × (wrongAddress (Write 64 v) ≡ true) × (wrongAddress (joint 64) ≡ true)
+last-register v heard0 heard1 votes arrived = (refl, refl, refl, refl, refl, refl)
 
 -- the status of a step that finds d
 abbrev pub statusIn : Step → LentBlock → ℕ

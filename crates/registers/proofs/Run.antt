@@ -1,5 +1,5 @@
 -- The flags of the card and the columns of a printed run speak of the same cycle. Assumes nothing.
-use mathlib.Core.Path.{_≡_, refl, sym, ap, ap₂, _∙_}
+use mathlib.Core.Path.{_≡_, refl, sym, ap₂, _∙_, subst}
 use mathlib.Core.Bool.{Bool, false, _&&_}
 use Prim.Native.Nat.{ℕ, _<_}
 use Rattle.sets.specs.Sets.{has}
@@ -27,6 +27,16 @@ entered-by Joining Joining = refl
 entered-by Joining (Member h) = refl
 entered-by (Member g) t = refl
 
+-- In every cycle of the rules: of the state as the heartbeats go out and the one after the cycle, a node raises halted exactly if it is among the halted of the run, and
+-- entered exactly if it is among the entered.
+pub flags-of-a-cycle : (C : Config) (c : Faults) (row : Row) (q : ℕ) → q < C .nodes → let f = raisedBy (at (ruleOne (C .nodes) c row) q) (at (cycle C c row) q) in
+    (f .halted ≡ has q (haltedIn C c row)) × (f .entered ≡ has q (enteredIn C c row))
+unfolding raisedBy haltedIn enteredIn
+flags-of-a-cycle C c row q l =
+    let before = at (ruleOne (C .nodes) c row) q in
+    let left = at (cycle C c row) q in
+    (halted-by before left ∙ sym (those-in q (C .nodes) _ l), entered-by before left ∙ sym (those-in q (C .nodes) _ l))
+
 -- rule 1 leaves a node that is neither stopped nor started
 left-alone : (n : ℕ) (c : Faults) (row : Row) (q : ℕ) → q < n → has q (c .stop) ≡ false → has q (c .start) ≡ false → at (ruleOne n c row) q ≡ at row q
 unfolding ruleOne stopAndStart
@@ -34,14 +44,9 @@ left-alone n c row q l a b =
     get-tabulate n q (λ x. stopAndStart (has x (c .stop)) (has x (c .start)) (at row x)) stopped l
     ∙ ap₂ (λ (stop start : Bool). stopAndStart stop start (at row q)) a b
 
--- In a cycle of the rules in which q is neither stopped nor started, its states raise halted exactly if q is among the halted of the run, and entered exactly if it is
--- among the entered.
+-- so that of one that is neither, the states before and after the cycle say it
 pub flags-of-a-run : (C : Config) (c : Faults) (row : Row) (q : ℕ) → q < C .nodes → has q (c .stop) ≡ false → has q (c .start) ≡ false
     → (raisedBy (at row q) (at (cycle C c row) q) .halted ≡ has q (haltedIn C c row)) × (raisedBy (at row q) (at (cycle C c row) q) .entered ≡ has q (enteredIn C c row))
-unfolding raisedBy haltedIn enteredIn
 flags-of-a-run C c row q l a b =
-    let before = sym (left-alone (C .nodes) c row q l a b) in
-    let left = at (cycle C c row) q in (
-      halted-by (at row q) left ∙ ap (λ (s : State). sendsMember s && halted left) before ∙ sym (those-in q (C .nodes) _ l),
-      entered-by (at row q) left ∙ ap (λ (s : State). sendsJoin s && sendsMember left) before ∙ sym (those-in q (C .nodes) _ l),
-    )
+    subst (λ (s : State). (raisedBy s (at (cycle C c row) q) .halted ≡ has q (haltedIn C c row)) × (raisedBy s (at (cycle C c row) q) .entered ≡ has q (enteredIn C c row)))
+    (left-alone (C .nodes) c row q l a b) (flags-of-a-cycle C c row q l)

@@ -56,7 +56,7 @@ calls-there (Cycle heard0 heard1 votes arrived ∷ ts) x =
       _,
       rest .1,
       cycle ([], ([], tt)) (ref x, (heard0, (heard1, (ref votes, (arrived, tt))))) (stepStatus t x) (ref (stepLeft t x), (heard0, (heard1, (ref votes, (arrived, tt)))))
-      (refl, refl) refl refl (rest .2),
+          (refl, refl) refl refl (rest .2),
     )
 calls-there (WriteCycle a v heard0 heard1 votes arrived ∷ ts) x =
     let t = WriteCycle a v heard0 heard1 votes arrived in
@@ -64,7 +64,7 @@ calls-there (WriteCycle a v heard0 heard1 votes arrived ∷ ts) x =
       _,
       rest .1,
       write-cycle ([], ([], tt)) (ref x, (a, (v, (heard0, (heard1, (ref votes, (arrived, tt))))))) (stepStatus t x)
-      (ref (stepLeft t x), (a, (v, (heard0, (heard1, (ref votes, (arrived, tt))))))) (refl, refl) refl refl (rest .2),
+          (ref (stepLeft t x), (a, (v, (heard0, (heard1, (ref votes, (arrived, tt))))))) (refl, refl) refl refl (rest .2),
     )
 
 -- the node of a state that is accepted

@@ -4,7 +4,10 @@ use mathlib.Core.Bool.{Bool, true, false}
 use mathlib.Core.List.{List}
 use Prim.Native.Nat.{ℕ}
 use lib.ListN.{length, take}
+use lib.Dec.{eqb}
 use denote.Ref.{now}
+use borrow.Author.Tests.{eqb-true, eqb-false}
+use Rattle.bigendian.proofs.Laws.{Bytes}
 use Rattle.refusal.proofs.Laws.{unless-done}
 use Rattle.state.specs.declared.Node.{Node}
 use Rattle.state.specs.declared.Decoded.{Decoded}
@@ -17,13 +20,14 @@ use Rattle.entry_stop_start.specs.StopStart.{stoppedAndStarted, ruleOneOf, stop
 use Rattle.entry_decide.specs.Decide.{decideStatus, decidedFrom, decideLeft}
 use Rattle.registers.specs.Block.{Machine}
 use Rattle.registers.specs.Steps.{Step, Write, Cycle, WriteCycle, commanded, written, decidedNode, cycled, stepped, wrongVotes, stepStatus, stepLeft}
-use Rattle.registers.proofs.Blocks.{image-part}
-use Rattle.registers.proofs.Found.{image-in, accepted, done-left}
+use Rattle.registers.proofs.Blocks.{image-part, held-block}
+use Rattle.registers.proofs.Found.{image-in, accepted, done-left, refused-left}
 use Rattle.registers.proofs.Written.{node-kept}
 use Rattle.theorem_unit_calls.specs.Entries.{Within, byDefinition}
 use Rattle.theorem_unit_calls.specs.Promise.{OverUnits, OverAnyBus}
 use Rattle.theorem_unit_calls.proofs.Press.{over-units, over-any-bus}
 use Rattle.theorem_units.proofs.Compiled as single
+use Rattle.gm.proofs.gm_register_write.Reads as gm-register-write
 use Rattle.theorem_registers.specs.Units.{Commands, command, Cycles, alone, with-a-write, inBlocks}
 
 -- ---- what an accepted step does to the state in a block
@@ -44,6 +48,24 @@ did t x y r e l z =
       voted = m .2;
       state = ap (take 24) (l ∙ done-left t x (m .0) (m .1) (sym e ∙ z)) ∙ image-part (stepped t (m .0));
     }
+
+-- a write that is no command leaves the state, refused or not, so that it may come between the calls of a unit
+pub write-keeps-state : (κs : _) (a : _) (r : _) (s : _) → gm-register-write.Learnt κs a r s → Bytes (now (a .0)) → (a .1 .0 ≡ 27 → ⊥) → take 24 (now (s .0)) ≡ take 24 (now (a .0))
+write-keeps-state κs a r s l b c = ap (take 24) (l .1) ∙ go (eqb (stepStatus t x) 0) refl
+  where
+    x : List ℕ
+    x = now (a .0)
+
+    t : Step
+    t = Write (a .1 .0) (a .1 .1 .0)
+
+    go : (done : Bool) → eqb (stepStatus t x) 0 ≡ done → take 24 (stepLeft t x) ≡ take 24 x
+    go true z =
+        let m = accepted t x (eqb-true (stepStatus t x) 0 z) in
+        let same = held-block x (m .0) b (m .1) .1 in
+        ap (take 24) (done-left t x (m .0) (m .1) (eqb-true (stepStatus t x) 0 z)) ∙ image-part (stepped t (m .0))
+        ∙ ap imageOf (node-kept (a .1 .0) (a .1 .1 .0) (m .0) c) ∙ sym (ap (take 24) same ∙ image-part (m .0))
+    go false z = ap (take 24) (refused-left t x (eqb-false (stepStatus t x) 0 z))
 
 -- a command is rule 1 on that state
 command-told : (v : ℕ) (stop start : Bool) → ((n : Node) → commanded v n ≡ stoppedAndStarted stop start n) → (x y : List ℕ) → Commands v x y

@@ -1,5 +1,5 @@
 -- Units that keep their states in blocks: the first 24 bytes of a block are the state. A unit begins and sends with the entries for one node, and stops, starts and
--- decides by steps of its block.
+-- decides by steps of its block. Reads leave the block, and writes that are no command its state (`write-keeps-state`): they may come between these calls.
 -- Assumes nothing.
 use mathlib.Core.Path.{_≡_}
 use mathlib.Core.List.{List}

@@ -78,7 +78,7 @@ returns-3 c =
     let held = state-read d (n .n .given .1) in
     done t (a .block .now) _ _ held (passed t (a .block .now) _ (voted b) held (le-ltb 63 (a .address) (f .before .before .if2 .left)))
     (y .decide .ensures ∙ cycle-is (a .address) (a .value) _ _ _ _ _ _ _ (a .block .now) _ (held-block (a .block .now) _ (λ i. k .slice-known .given i .fits) held .1)
-    (rw (ne-eqb (a .address) 27 (b .pre .0))) (f .flags-after .ensures) (e .enables-after .ensures))
+    refl (b .pre .0) (f .flags-after .ensures) (e .enables-after .ensures))
 
 returns-2 : tie.Need-returns-2
 returns-2 c =
