@@ -23,8 +23,8 @@ use Rattle.registers.specs.Block.{Flags, Machine, flagsByte, blockOf, formedMac
 use Rattle.registers.specs.Steps.{commanded, written, raisedBy, raised, decidedNode, cycled}
 use Rattle.registers.proofs.Blocks.{image-part, rest-part, rest-at, flags-at, enables-at}
 use Rattle.registers.proofs.Written.{node-kept, flags-after, enables-after, node-after, raised-byte, pending-byte}
-use Rattle.register_block.specs.Bytes.{shares, withFlags}
-use Rattle.entry_registers.specs.InPlace.{flagsAfter, enablesAfter, commandLeft, writeLeft, cycleLeft}
+use Rattle.register_block.specs.Bytes.{shares, withFlags, flagsAfter, enablesAfter}
+use Rattle.entry_registers.specs.InPlace.{commandLeft, writeLeft, cycleLeft}
 
 -- ---- parts of a block replaced
 

@@ -2,29 +2,22 @@
 -- Assumes nothing.
 use mathlib.Core.Bool.{cond}
 use mathlib.Core.List.{List, _++_}
-use Prim.Native.Nat.{ℕ, _%_}
+use Prim.Native.Nat.{ℕ}
 use lib.Dec.{eqb}
 use lib.ListN.{getD, take, drop}
-use Rattle.sets.specs.Sets.{_∪_, _∖_}
+use Rattle.sets.specs.Sets.{_∪_}
 use Rattle.state.specs.declared.Node.{Node}
 use Rattle.state.specs.Image.{imageOf}
 use Rattle.entry_stop_start.specs.StopStart.{stopLeft, startLeft}
 use Rattle.registers.specs.Block.{LentBlock, Holds, WrongLength, Malformed, flagsByte}
 use Rattle.registers.specs.Steps.{raisedBy, decidedNode}
-use Rattle.register_block.specs.Bytes.{withFlags}
+use Rattle.register_block.specs.Bytes.{withFlags, flagsAfter, enablesAfter}
 
 -- 3 and 4 of a lent block, its state too
 abbrev pub blockStatus : LentBlock → ℕ
 blockStatus (Holds m) = 0
 blockStatus WrongLength = 3
 blockStatus Malformed = 4
-
--- bytes 24 and 25 after a write
-abbrev pub flagsAfter : ℕ → ℕ → ℕ → ℕ
-flagsAfter a v flags = cond (eqb a 24) (flags ∖ v) flags
-
-abbrev pub enablesAfter : ℕ → ℕ → ℕ → ℕ
-enablesAfter a v enables = cond (eqb a 25) (v % 8) enables
 
 -- a command, on the state in the block
 abbrev pub commandLeft : ℕ → List ℕ → List ℕ

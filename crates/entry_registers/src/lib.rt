@@ -4,12 +4,11 @@ ghost use mathlib.Core.Bool.{cond};
 ghost use Prim.Native.Nat.{_≤_, _<_};
 ghost use lib.Dec.{eqb};
 ghost use lib.ListN.{length};
-ghost use Rattle.registers.specs.Block.{flagsByte, registersAt};
-ghost use Rattle.registers.specs.Steps.{Read, Write, Cycle, WriteCycle, raisedBy, stepStatus, stepLeft, stepValue};
-ghost use Rattle.entry_registers.specs.InPlace.{blockStatus, flagsAfter, enablesAfter, commandLeft, writeLeft, cycleLeft};
+ghost use Rattle.registers.specs.Block.{registersAt};
+ghost use Rattle.registers.specs.Steps.{Read, Write, Cycle, WriteCycle, stepStatus, stepLeft, stepValue};
+ghost use Rattle.entry_registers.specs.InPlace.{blockStatus, commandLeft, writeLeft, cycleLeft};
 use state::Decoded;
 use state::Node;
-use state::State;
 
 // Refusals 3 and 4 of a block.
 fn refusal(block: &[u8]) -> u32
@@ -24,20 +23,6 @@ fn refusal(block: &[u8]) -> u32
         Decoded::WrongLength => 4,
         Decoded::Malformed => 4,
     }
-}
-
-// Byte 24 after a write: a one clears its flag.
-fn flags_after(address: u32, value: u8, flags: u8) -> u8
-    ensures { λ r. ⌜ r ≡ flagsAfter address value flags ⌝ }
-{
-    if address == 24 { flags & !value } else { flags }
-}
-
-// Byte 25 after a write.
-fn enables_after(address: u32, value: u8, enables: u8) -> u8
-    ensures { λ r. ⌜ r ≡ enablesAfter address value enables ⌝ }
-{
-    if address == 25 { value % 8 } else { enables }
 }
 
 // Rule 1 by command, on the state in a block.
@@ -61,30 +46,11 @@ fn put_value(address: u32, value: u8, block: &mut [u8])
     requires { ⌜ length (now block) ≡ 64 ⌝ }
     ensures { λ _. ⌜ now (block .exit) ≡ writeLeft address value (now (block .entry)) ⌝ }
 {
-    let flags = flags_after(address, value, block[24]);
-    let enables = enables_after(address, value, block[25]);
+    let flags = register_block::flags_after(address, value, block[24]);
+    let enables = register_block::enables_after(address, value, block[25]);
     register_block::put_flags(flags, enables, block);
     if address == 27 {
         command(value, block);
-    }
-}
-
-// The flag, as its bit, that a cycle raises which finds a node in state s and leaves it in state t.
-fn raised_by(s: State, t: State) -> u8
-    ensures { λ r. ⌜ r ≡ flagsByte (raisedBy s t) ⌝ }
-{
-    match s {
-        State::Out(_) => 0,
-        State::Joining => if rule_steps::sends_member(t) { 4 } else { 0 },
-        State::Member(g) => match t {
-            State::Out(r) => if state_encoding::reason_code(r) != 0 {
-                2
-            } else {
-                0
-            },
-            State::Joining => 0,
-            State::Member(h) => if g.set != h.set { 1 } else { 0 },
-        },
     }
 }
 
@@ -110,7 +76,11 @@ fn decide(
         nodes: n.nodes,
     });
     parts::put(block, 0, &image);
-    register_block::put_flags(flags | raised_by(before, after), enables, block);
+    register_block::put_flags(
+        flags | register_block::raised_by(before, after),
+        enables,
+        block,
+    );
 }
 
 // The byte at an address.
@@ -186,8 +156,8 @@ fn write_and_decide(
             if 63 < address {
                 return 14;
             }
-            let flags = flags_after(address, value, block[24]);
-            let enables = enables_after(address, value, block[25]);
+            let flags = register_block::flags_after(address, value, block[24]);
+            let enables = register_block::enables_after(address, value, block[25]);
             decide(n, flags, enables, heard0, heard1, votes, arrived, block);
             0
         }

@@ -2,8 +2,10 @@
 ghost use mathlib.Core.Path.{_≡_};
 ghost use Prim.Native.Nat.{_+_, _≤_};
 ghost use lib.ListN.{length, take, drop};
-ghost use Rattle.registers.specs.Block.{allZero, readsSo};
-ghost use Rattle.register_block.specs.Bytes.{shares as theShares, restStatus, withFlags};
+ghost use Rattle.registers.specs.Block.{flagsByte, allZero, readsSo};
+ghost use Rattle.registers.specs.Steps.{raisedBy};
+ghost use Rattle.register_block.specs.Bytes.{shares as theShares, restStatus, withFlags, flagsAfter, enablesAfter};
+use state::State;
 
 // Whether the four or eight bytes from a place on are 0.
 fn zero4(s: &[u8], at: usize) -> bool
@@ -65,4 +67,37 @@ pub fn put_flags(flags: u8, enables: u8, block: &mut [u8])
     block[24] = flags;
     block[25] = enables;
     block[26] = shares(flags, enables);
+}
+
+// Byte 24 after a write: a one clears its flag.
+pub fn flags_after(address: u32, value: u8, flags: u8) -> u8
+    ensures { λ r. ⌜ r ≡ flagsAfter address value flags ⌝ }
+{
+    if address == 24 { flags & !value } else { flags }
+}
+
+// Byte 25 after a write.
+pub fn enables_after(address: u32, value: u8, enables: u8) -> u8
+    ensures { λ r. ⌜ r ≡ enablesAfter address value enables ⌝ }
+{
+    if address == 25 { value % 8 } else { enables }
+}
+
+// The flag, as its bit, that a cycle raises which finds a node in state s and leaves it in state t.
+pub fn raised_by(s: State, t: State) -> u8
+    ensures { λ r. ⌜ r ≡ flagsByte (raisedBy s t) ⌝ }
+{
+    match s {
+        State::Out(_) => 0,
+        State::Joining => if rule_steps::sends_member(t) { 4 } else { 0 },
+        State::Member(g) => match t {
+            State::Out(r) => if state_encoding::reason_code(r) != 0 {
+                2
+            } else {
+                0
+            },
+            State::Joining => 0,
+            State::Member(h) => if g.set != h.set { 1 } else { 0 },
+        },
+    }
 }

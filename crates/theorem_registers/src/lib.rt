@@ -1,1 +1,1 @@
-// Request 1 of the compiled entries: what any series of their calls on one block shows, and units that keep their states in blocks; no code.
+// Request 1 of the compiled entries: what any series of their calls on one block shows; no code.

@@ -3,7 +3,7 @@ use mathlib.Core.Bool.{false, not}
 use native.Mathlib.Omega.{arith}
 use lib.Dec.{eqb}
 use lib.ListN.{length}
-use borrow.Author.Tests.{lt-ltb, le-ltb, eq-eqb, ne-eqb}
+use borrow.Author.Tests.{lt-ltb, le-ltb, eq-eqb}
 use Rattle.state.specs.declared.Decoded.{Decoded}
 use Rattle.registers.specs.Block.{machineIn, registersAt}
 use Rattle.registers.specs.Steps.{WriteCycle}

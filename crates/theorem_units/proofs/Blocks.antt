@@ -26,9 +26,9 @@ use Rattle.registers.proofs.Written.{node-kept}
 use Rattle.theorem_unit_calls.specs.Entries.{Within, byDefinition}
 use Rattle.theorem_unit_calls.specs.Promise.{OverUnits, OverAnyBus}
 use Rattle.theorem_unit_calls.proofs.Press.{over-units, over-any-bus}
 use Rattle.theorem_units.proofs.Compiled as single
 use Rattle.gm.proofs.gm_register_write.Reads as gm-register-write
-use Rattle.theorem_registers.specs.Units.{Commands, command, Cycles, alone, with-a-write, inBlocks}
+use Rattle.theorem_units.specs.Blocks.{Commands, command, Cycles, alone, with-a-write, inBlocks}
 
 -- ---- what an accepted step does to the state in a block
 

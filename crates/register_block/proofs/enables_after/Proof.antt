@@ -1,6 +1,6 @@
 use borrow.Author.Tests.{eq-eqb, ne-eqb}
-use Rattle.entry_registers.proofs.enables_after.Statement.{statement}
-use Rattle.entry_registers.proofs.enables_after.Tie as tie
+use Rattle.register_block.proofs.enables_after.Statement.{statement}
+use Rattle.register_block.proofs.enables_after.Tie as tie
 
 returns : tie.Need-returns
 returns c = rw (eq-eqb (c .before .args .address) 25 (c .if1 .taken))

@@ -2,8 +2,8 @@ use mathlib.Core.Path.{_∙_}
 use native.Mathlib.Omega.{arith}
 use borrow.Author.Tests.{eq-eqb, ne-eqb}
 use Rattle.sets.proofs.Machine.{and-not}
-use Rattle.entry_registers.proofs.flags_after.Statement.{statement}
-use Rattle.entry_registers.proofs.flags_after.Tie as tie
+use Rattle.register_block.proofs.flags_after.Statement.{statement}
+use Rattle.register_block.proofs.flags_after.Tie as tie
 
 returns : tie.Need-returns
 returns c = and-not 8 (c .before .args .flags) (c .before .args .value) (omega arith) (omega arith) ∙ rw (eq-eqb (c .before .args .address) 24 (c .if1 .taken))

@@ -9,8 +9,8 @@ use Rattle.rules.specs.OneCycle.{sendsMember}
 use Rattle.registers.specs.Block.{flagsByte}
 use Rattle.registers.specs.Steps.{raisedBy}
 use borrow.Author.Needs.{needs}
-use Rattle.entry_registers.proofs.raised_by.Statement.{statement}
-use Rattle.entry_registers.proofs.raised_by.Tie as tie
+use Rattle.register_block.proofs.raised_by.Statement.{statement}
+use Rattle.register_block.proofs.raised_by.Tie as tie
 
 enum-told : tie.Need-enum-told
 enum-told c = search needs
