@@ -10,7 +10,8 @@ use borrow.Author.Tests.{eq-eqb, ne-eqb, ltb-true, ltb-false}
 use Rattle.print_text.specs.Text.{ascii}
 use Rattle.print_options.specs.declared.Asked.{Asked}
 use Rattle.print_options.specs.declared.Asked.the-variants.{Run, Help, Version, Wrong}
-use Rattle.print_options.specs.Options.{sameText, askedByOne, askedBy, usageLine, versionLine, hintLine, helpText, answerText, goesAside}
+use Rattle.parts.specs.Compared.{sameBytes}
+use Rattle.print_options.specs.Options.{askedByOne, askedBy, usageLine, versionLine, hintLine, helpText, answerText, goesAside}
 
 -- so many arguments, the program's name among them, and the one after the name; what they ask for
 pub record Example : Type 0 where
@@ -39,7 +40,7 @@ examples =
     ∷ []
 
 pub examples-hold : map (λ (e : Example). askedBy (e .count) (e .first)) examples ≡ map (λ (e : Example). e .asked) examples
-unfolding sameText askedByOne askedBy ascii
+unfolding sameBytes askedByOne askedBy ascii
 examples-hold = refl
 
 -- whether the only line end of a text is its last byte
@@ -62,7 +63,7 @@ version-is-a-line = refl
 
 -- an option that stands alone is answered on standard output, and all else on standard error
 pub options-on-output : (count : ℕ) (first : List ℕ)
-    → goesAside (askedBy count first) ≡ not (eqb count 2 && (sameText first (ascii "--help") || sameText first (ascii "--version")))
+    → goesAside (askedBy count first) ≡ not (eqb count 2 && (sameBytes first (ascii "--help") || sameBytes first (ascii "--version")))
 unfolding askedBy askedByOne
 options-on-output count first = number (ltb count 2) (ltb 2 count) refl refl
   where
@@ -72,11 +73,11 @@ options-on-output count first = number (ltb count 2) (ltb 2 count) refl refl
     text false false = refl
 
     number : (few many : Bool) → ltb count 2 ≡ few → ltb 2 count ≡ many → goesAside (cond few Run (cond many Wrong (askedByOne first)))
-        ≡ not (eqb count 2 && (sameText first (ascii "--help") || sameText first (ascii "--version")))
+        ≡ not (eqb count 2 && (sameBytes first (ascii "--help") || sameBytes first (ascii "--version")))
     number true many e f = rw (ne-eqb count 2 (λ s. omega (arith, s, ltb-true count 2 e)))
     number false true e f = rw (ne-eqb count 2 (λ s. omega (arith, s, ltb-true 2 count f)))
     number false false e f =
-        rw (eq-eqb count 2 (omega (arith, ltb-false count 2 e, ltb-false 2 count f))) (text (sameText first (ascii "--help")) (sameText first (ascii "--version")))
+        rw (eq-eqb count 2 (omega (arith, ltb-false count 2 e, ltb-false 2 count f))) (text (sameBytes first (ascii "--help")) (sameBytes first (ascii "--version")))
 
 -- the help says the usage first
 pub help-begins : take (length usageLine) (answerText Help) ≡ answerText Wrong

@@ -1,24 +1,18 @@
 -- What the program's arguments ask for, and the text that answers each.
 -- Assumes nothing.
 use mathlib.Core.Path.{_≡_}
-use mathlib.Core.Bool.{Bool, true, false, _&&_, cond}
+use mathlib.Core.Bool.{Bool, true, false, cond}
 use mathlib.Core.List.{List, [], _∷_, _++_}
 use Prim.Native.Nat.{ℕ, _≤_, _<_}
 use lib.Dec.{eqb, ltb}
+use Rattle.parts.specs.Compared.{sameBytes}
 use Rattle.print_text.specs.Text.{ascii}
 use Rattle.print_options.specs.declared.Asked.{Asked}
 use Rattle.print_options.specs.declared.Asked.the-variants.{Run, Help, Version, Wrong}
 
--- whether two texts are the same, byte for byte
-unfoldable pub sameText : List ℕ → List ℕ → Bool
-sameText [] [] = true
-sameText [] (b ∷ u) = false
-sameText (a ∷ t) [] = false
-sameText (a ∷ t) (b ∷ u) = eqb a b && sameText t u
-
 -- one argument, by its text
 unfoldable pub askedByOne : List ℕ → Asked
-askedByOne first = cond (sameText first (ascii "--help")) Help (cond (sameText first (ascii "--version")) Version Wrong)
+askedByOne first = cond (sameBytes first (ascii "--help")) Help (cond (sameBytes first (ascii "--version")) Version Wrong)
 
 -- By so many arguments, the program's name among them, of which `first` follows the name: none asks for the run, and two or more for nothing that there is.
 unfoldable pub askedBy : ℕ → List ℕ → Asked
@@ -39,7 +33,7 @@ unfoldable pub usageLine : List ℕ
 usageLine = ascii "usage: grouprun [--help | --version] <press.tab (a table on standard input)\n"
 
 unfoldable pub versionLine : List ℕ
-versionLine = ascii "grouprun 0.2.0\n"
+versionLine = ascii "grouprun 0.3.0\n"
 
 -- for whoever starts the program without a table
 unfoldable pub hintLine : List ℕ

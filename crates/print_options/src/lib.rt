@@ -3,7 +3,7 @@ ghost use mathlib.Core.Path.{_≡_};
 ghost use Prim.Native.Nat.{_+_, _≤_};
 ghost use lib.ListN.{length, replicate};
 ghost use Rattle.print_text.specs.Text.{Appended};
-ghost use Rattle.print_options.specs.Options.{sameText, askedBy, argumentRoom, usageLine, helpText, answerText, goesAside};
+ghost use Rattle.print_options.specs.Options.{askedBy, argumentRoom, usageLine, helpText, answerText, goesAside};
 
 // What is asked for: the run of a table, the help, the version, or nothing that there is.
 pub enum Asked {
@@ -11,23 +11,6 @@ pub enum Asked {
     Help,
     Version,
     Wrong,
-}
-
-// Whether the two are the same bytes, none more and none fewer.
-fn same_text(s: &[u8], word: &[u8]) -> bool
-    ensures { λ r. ⌜ r ≡ sameText (now (s .entry)) (now (word .entry)) ⌝ }
-{
-    if s.len() != word.len() {
-        return false;
-    }
-    let mut i = 0;
-    while i < s.len() {
-        if s[i] != word[i] {
-            return false;
-        }
-        i += 1;
-    }
-    true
 }
 
 // Room for an argument, in which every option fits.
@@ -47,10 +30,10 @@ pub fn asked_by(count: usize, first: &[u8]) -> Asked
     if count > 2 {
         return Asked::Wrong;
     }
-    if same_text(first, b"--help") {
+    if parts::same_bytes(first, b"--help") {
         return Asked::Help;
     }
-    if same_text(first, b"--version") {
+    if parts::same_bytes(first, b"--version") {
         return Asked::Version;
     }
     Asked::Wrong
@@ -104,7 +87,7 @@ pub fn put_answer(out: &mut [u8], at: usize, a: Asked) -> usize
             b"grouprun: a table is expected on standard input, which is a terminal; see grouprun --help\n",
         ),
         Asked::Help => put_help(out, at),
-        Asked::Version => print_text::put(out, at, b"grouprun 0.2.0\n"),
+        Asked::Version => print_text::put(out, at, b"grouprun 0.3.0\n"),
         Asked::Wrong => put_usage(out, at),
     }
 }

@@ -1,22 +1,22 @@
--- `print_options::same_text` meets its contract. The loop's invariant: what is left to be compared decides. Assumes nothing.
+-- `parts::same_bytes` meets its contract. The loop's invariant: what is left to be compared decides. Assumes nothing.
 use mathlib.Core.Path.{_≡_, refl, sym, _∙_}
 use Prim.Native.Nat.{_-_, _≤_}
 use native.Mathlib.Omega.{arith}
 use denote.Ref.{now}
 use lib.ListN.{length, drop}
-use Rattle.print_options.specs.Options.{sameText}
-use Rattle.print_options.proofs.Same.{other-length, equal-next, other-byte, none-left}
-use Rattle.print_options.proofs.same_text.Statement.{statement}
-use Rattle.print_options.proofs.same_text.Tie as tie
+use Rattle.parts.specs.Compared.{sameBytes}
+use Rattle.parts.proofs.Compared.{other-length, equal-next, other-byte, none-left}
+use Rattle.parts.proofs.same_bytes.Statement.{statement}
+use Rattle.parts.proofs.same_bytes.Tie as tie
 
 abbrev Inv-loop : tie.InvT-loop
-Inv-loop s word i₀ i = (i ≤ length s) × (sameText s word ≡ sameText (drop i s) (drop i word))
+Inv-loop s word i₀ i = (i ≤ length s) × (sameBytes s word ≡ sameBytes (drop i s) (drop i word))
 
 abbrev μ-loop : tie.MeasureT-loop
 μ-loop s word i₀ i = length s - i
 
 returns : tie.Need-returns Inv-loop μ-loop
-returns c = let a = c .before .args in sym (other-length (now (a .s)) (now (a .word)) (λ e. omega (arith, e, c .if1 .taken)))
+returns c = let a = c .before .args in sym (other-length (now (a .s)) (now (a .t)) (λ e. omega (arith, e, c .if1 .taken)))
 
 loop-holds : tie.Need-loop-holds Inv-loop μ-loop
 loop-holds c = (omega arith, refl)
@@ -31,7 +31,7 @@ returns-2 : tie.Need-returns-2 Inv-loop μ-loop
 returns-2 c =
     let l = c .before .before .before .before in
     let a = l .before .before .args in
-    sym (l .loop .inv .1 ∙ other-byte (now (a .s)) (now (a .word)) (l .loop .i) (omega arith) (omega arith) (c .if2 .taken))
+    sym (l .loop .inv .1 ∙ other-byte (now (a .s)) (now (a .t)) (l .loop .i) (omega arith) (omega arith) (c .if2 .taken))
 
 add-i : tie.Need-add-i Inv-loop μ-loop
 add-i c = omega arith
@@ -44,17 +44,17 @@ loop-again c =
     let l = c .before .before .before .before in
     let a = l .before .before .args in (
       omega arith,
-      l .loop .inv .1 ∙ equal-next (now (a .s)) (now (a .word)) (l .loop .i) (omega arith) (omega arith) (c .if2 .left),
+      l .loop .inv .1 ∙ equal-next (now (a .s)) (now (a .t)) (l .loop .i) (omega arith) (omega arith) (c .if2 .left),
     )
 
 returns-3 : tie.Need-returns-3 Inv-loop μ-loop
 returns-3 c =
     let l = c .before in
     let a = l .before .before .args in
-    sym (l .loop .inv .1 ∙ none-left (now (a .s)) (now (a .word)) (l .loop .i) (omega arith) (omega arith))
+    sym (l .loop .inv .1 ∙ none-left (now (a .s)) (now (a .t)) (l .loop .i) (omega arith) (omega arith))
 
-pub same-text-spec : {M : Type 1} → statement M
-same-text-spec =
+pub same-bytes-spec : {M : Type 1} → statement M
+same-bytes-spec =
     tie.close
     (tie.spec
     Inv-loop
