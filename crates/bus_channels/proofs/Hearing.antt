@@ -5,31 +5,26 @@ use mathlib.Core.List.{List, []}
 use mathlib.Core.Option.{none, some}
 use Prim.Native.Nat.{ℕ, _*_, _≤_, _<_}
 use native.Mathlib.Omega.{arith}
-use lib.Dec.{lit<, ltb}
+use lib.Dec.{lit<, lit≤, ltb}
 use lib.ListN.{length, take, drop, getD}
 use Rattle.sets.specs.Sets.{has, single, _∪_, _∩_, _∖_, below}
 use Rattle.sets.proofs.Booleans.{ltb-lt}
 use Rattle.sets.proofs.Membership.{has-union, has-diff, set-ext}
 use Rattle.sets.proofs.Nodes.{has-below, those-in}
 use Rattle.rules.specs.OneCycle.{viewOf}
-use Rattle.frames.specs.declared.Fault.the-variants.{Length}
-use Rattle.frames.specs.declared.HeartbeatRead.{HeartbeatRead}
-use Rattle.frames.specs.declared.HeartbeatRead.the-variants as beat
 use Rattle.frames.specs.declared.HeartbeatReceived.the-variants.{Missed, Alive, Join}
+use Rattle.frames.specs.declared.HeartbeatCounted.{HeartbeatCounted}
 use Rattle.frames.specs.Written.{heartbeatFrame}
-use Rattle.frames.specs.Read.{wrongLength, faultOf, readHeartbeat, receiveHeartbeat}
+use Rattle.frames.specs.Read.{readHeartbeat, isGood, receiveHeartbeat}
+use Rattle.frames.proofs.Faults.{no-heartbeat}
 use Rattle.frames.proofs.Lengths.{length-heartbeat}
-use Rattle.frames.proofs.RoundTrip.{heartbeat-back}
+use Rattle.frames.proofs.Payloads.{none-wrong}
+use Rattle.frames.proofs.TwoChannels.{neither-good, heardWith, SentOn, sent-payload, sent-on-a}
 use Rattle.cluster_states.specs.declared.Roles.{Roles}
 use Rattle.cluster_states.specs.Decided.{viewAt}
 use Rattle.bus_units.specs.Units.{isAlive, isJoin}
 use Rattle.bus_channels.specs.Channels.{channelOf, heartbeatPut, copyOf, heartbeatRead, aliveRead, joinRead, viewRead}
 use Rattle.bus_channels.proofs.Carried.{Carries, carries}
-
--- an absent copy
-no-heartbeat : (p count channel : ℕ) → readHeartbeat p count channel [] ≡ beat.Refused Length
-unfolding readHeartbeat faultOf wrongLength
-no-heartbeat p count channel = refl
 
 -- a view counts of what is heard the nodes below n alone
 below-ext : (n h k : ℕ) → ((x : ℕ) → x < n → has x h ≡ has x k) → below n h ≡ below n k
@@ -45,9 +40,10 @@ view-ext n q M h0 h1 k0 k1 e f = ap₂ (λ (x y : ℕ). single q ∪ (M ∩ x) �
 
 module _ (n count : ℕ) (w : Roles) (few : n ≤ 64) (counted : count < 64) where
   -- the frames of a channel are heartbeats of ten bytes
-  sent-is : (channel p : ℕ) (m j : Bool) (x : List ℕ) → cond m (some (heartbeatFrame p 0 0 0 count channel)) (cond j (some (heartbeatFrame p 1 0 0 count channel)) none) ≡ some x → length x ≡ 10
-  sent-is channel p true j x e = let z : heartbeatFrame p 0 0 0 count channel ≡ x = cc in ap (λ (s : List ℕ). length s) (sym z) ∙ length-heartbeat p 0 0 0 count channel
-  sent-is channel p false true x e = let z : heartbeatFrame p 1 0 0 count channel ≡ x = cc in ap (λ (s : List ℕ). length s) (sym z) ∙ length-heartbeat p 1 0 0 count channel
+  sent-is : (channel p : ℕ) (m j : Bool) (x : List ℕ)
+      → cond m (some (heartbeatFrame p 0 0 0 count channel [])) (cond j (some (heartbeatFrame p 1 0 0 count channel [])) none) ≡ some x → length x ≡ 10
+  sent-is channel p true j x e = let z : heartbeatFrame p 0 0 0 count channel [] ≡ x = cc in ap (λ (s : List ℕ). length s) (sym z) ∙ length-heartbeat p 0 0 0 count channel []
+  sent-is channel p false true x e = let z : heartbeatFrame p 1 0 0 count channel [] ≡ x = cc in ap (λ (s : List ℕ). length s) (sym z) ∙ length-heartbeat p 1 0 0 count channel []
   sent-is channel p false false x e = absurd (let z : _≡_ {A = ℕ} 0 1 = cc in omega arith)
 
   pub carried : (channel : ℕ) → Carries n (heartbeatPut w count channel) (channelOf n (heartbeatPut w count channel))
@@ -63,40 +59,48 @@ module _ (n count : ℕ) (w : Roles) (few : n ≤ 64) (counted : count < 64) whe
       ap (λ (b : Bool). take (cond b 10 0) (drop (36 * p) (channelOf n (heartbeatPut w count channel)))) r
       ∙ ap (λ (m : ℕ). take m (drop (36 * p) (channelOf n (heartbeatPut w count channel)))) (sym k) ∙ carried channel .there p x l e
 
-  -- one copy, by what its node sends and whether it reaches the unit
-  abbrev answer : Bool → Bool → HeartbeatRead
-  answer r m = cond r (cond m beat.Alive beat.Join) (beat.Refused Length)
-
-  one-copy : (channel reach p : ℕ) → p < n → (has p reach ≡ true → (has p (w .members) || has p (w .joining)) ≡ true)
-      → readHeartbeat p count channel (copyOf 10 reach p (channelOf n (heartbeatPut w count channel))) ≡ answer (has p reach) (has p (w .members))
-  one-copy channel reach p l within = go (has p reach) (has p (w .members)) (has p (w .joining)) refl refl refl within
+  -- both copies, by what their node sends and whether it reaches the unit
+  both-copies : (reach p : ℕ) → p < n → (has p reach ≡ true → (has p (w .members) || has p (w .joining)) ≡ true)
+      → heartbeatRead count reach (channelOf n (heartbeatPut w count 0)) (channelOf n (heartbeatPut w count 1)) p ≡ cond (has p reach) (cond (has p (w .members)) Alive Join) Missed
+  unfolding heartbeatRead
+  both-copies reach p l within = go (has p reach) (has p (w .members)) (has p (w .joining)) refl refl refl within
     where
-      s : List ℕ
-      s = channelOf n (heartbeatPut w count channel)
+      copy : ℕ → List ℕ
+      copy channel = copyOf 10 reach p (channelOf n (heartbeatPut w count channel))
 
       small : p < 64
       small = omega arith
 
-      back : (join : ℕ) → join < 2 → has p reach ≡ true → heartbeatPut w count channel p ≡ some (heartbeatFrame p join 0 0 count channel)
-          → readHeartbeat p count channel (copyOf 10 reach p s) ≡ readHeartbeat p count channel (heartbeatFrame p join 0 0 count channel)
-      back join h r e = ap (readHeartbeat p count channel) (copy-is channel reach p (heartbeatFrame p join 0 0 count channel) l r e (length-heartbeat p join 0 0 count channel))
+      absent : (channel : ℕ) → has p reach ≡ false → isGood (readHeartbeat p count channel (copy channel)) ≡ false
+      absent channel e =
+          ap (λ (b : Bool). isGood (readHeartbeat p count channel (take (cond b 10 0) (drop (36 * p) (channelOf n (heartbeatPut w count channel)))))) e
+          ∙ ap isGood (no-heartbeat p count channel)
 
-      go : (r m j : Bool) → has p reach ≡ r → has p (w .members) ≡ m → has p (w .joining) ≡ j → (r ≡ true → (m || j) ≡ true) → readHeartbeat p count channel (copyOf 10 reach p s) ≡ answer r m
-      go false m j er em ej k = ap (λ (b : Bool). readHeartbeat p count channel (take (cond b 10 0) (drop (36 * p) s))) er ∙ no-heartbeat p count channel
-      go true true j er em ej k = back 0 (lit< tt) er (rw em) ∙ heartbeat-back p 0 0 0 count channel small (lit< tt) (lit< tt) (omega arith) counted
-      go true false true er em ej k = back 1 (lit< tt) er (rw (em, ej)) ∙ heartbeat-back p 1 0 0 count channel small (lit< tt) (lit< tt) (omega arith) counted
+      sent : (join : ℕ) (bit : join < 2) → has p reach ≡ true → (channel : ℕ) → heartbeatPut w count channel p ≡ some (heartbeatFrame p join 0 0 count channel [])
+          → SentOn p join count [] small bit counted none-wrong channel (copy channel)
+      sent join bit r channel e = (
+        0,
+        0,
+        lit< tt,
+        lit≤ tt,
+        copy-is channel reach p (heartbeatFrame p join 0 0 count channel []) l r e (length-heartbeat p join 0 0 count channel []),
+      )
+
+      heard-as : (join : ℕ) (bit : join < 2) → has p reach ≡ true → ((channel : ℕ) → heartbeatPut w count channel p ≡ some (heartbeatFrame p join 0 0 count channel []))
+          → receiveHeartbeat p count (copy 0) (copy 1) .heard ≡ heardWith join
+      heard-as join bit r e =
+          let one = sent join bit r 0 (e 0) in
+          let other = sent join bit r 1 (e 1) in
+          sent-on-a p join count [] small bit counted none-wrong (copy 0) (copy 1) one
+          (λ g. sent-payload p join count [] small bit counted none-wrong 0 (copy 0) one ∙ sym (sent-payload p join count [] small bit counted none-wrong 1 (copy 1) other))
+          .0
+
+      go : (r m j : Bool) → has p reach ≡ r → has p (w .members) ≡ m → has p (w .joining) ≡ j → (r ≡ true → (m || j) ≡ true)
+          → receiveHeartbeat p count (copy 0) (copy 1) .heard ≡ cond r (cond m Alive Join) Missed
+      go false m j er em ej k = ap (λ (z : HeartbeatCounted). z .heard) (neither-good p count (copy 0) (copy 1) (absent 0 er) (absent 1 er) .0)
+      go true true j er em ej k = heard-as 0 (lit< tt) er (λ channel. rw em)
+      go true false true er em ej k = heard-as 1 (lit< tt) er (λ channel. rw (em, ej))
       go true false false er em ej k = absurd (false≢true (k refl))
-
-  -- both copies
-  both-copies : (reach p : ℕ) → p < n → (has p reach ≡ true → (has p (w .members) || has p (w .joining)) ≡ true)
-      → heartbeatRead count reach (channelOf n (heartbeatPut w count 0)) (channelOf n (heartbeatPut w count 1)) p ≡ cond (has p reach) (cond (has p (w .members)) Alive Join) Missed
-  unfolding heartbeatRead
-  both-copies reach p l within = ap₂ receiveHeartbeat (one-copy 0 reach p l within) (one-copy 1 reach p l within) ∙ go (has p reach) (has p (w .members))
-    where
-      go : (r m : Bool) → receiveHeartbeat (answer r m) (answer r m) ≡ cond r (cond m Alive Join) Missed
-      go true true = refl
-      go true false = refl
-      go false m = refl
 
   module _ (apart : (p : ℕ) → has p (w .joining) ≡ true → has p (w .members) ≡ false) (lost : ℕ) where
     abbrev reached : ℕ → ℕ

@@ -1,9 +1,11 @@
 // The two channels, and the heartbeats of a cycle run through them: what a unit hears is what it reads there.
 ghost use mathlib.Core.Path.{_≡_};
 ghost use mathlib.Core.Bool.{true, false, cond};
+ghost use mathlib.Core.List.{[]};
 ghost use Prim.Native.Nat.{ℕ, _<_, _≤_};
 ghost use lib.ListN.{length, getD};
 ghost use Rattle.sets.specs.Sets.{has, _∖_};
+ghost use Rattle.frames.specs.Written.{heartbeatFrame};
 ghost use Rattle.bus_units.specs.Units.{isAlive, isJoin};
 ghost use Rattle.bus_units.specs.Run.{framesLength};
 ghost use Rattle.parts.specs.Parts.{withPart};
@@ -28,23 +30,26 @@ pub fn put(channel: [u8; 2304], q: usize, x: &[u8]) -> [u8; 2304]
     r
 }
 
+// A heartbeat of a run: sync and startup 0, and no drive bytes.
+fn run_heartbeat(q: u32, join: u32, count: u32, channel: u32) -> [u8; 10]
+    requires { ⌜ (q < 64) × ((join < 2) × (count < 64)) ⌝ }
+    ensures { λ r. ⌜ r ≡ heartbeatFrame q join 0 0 count channel [] ⌝ }
+{
+    let none = [0u8; 0];
+    let mut f = [0u8; 10];
+    frame_writing::write_heartbeat(q, join, 0, 0, count, channel, &none, &mut f);
+    f
+}
+
 // Rule 2: the heartbeat of node q, if it sends one.
 fn put_heartbeat(all: [u8; 2304], w: Roles, count: u32, channel: u32, q: usize) -> [u8; 2304]
     requires { ⌜ (q < 64) × (count < 64) ⌝ }
     ensures { λ r. ⌜ r ≡ withSent q (heartbeatPut w count channel q) all ⌝ }
 {
     if sets::contains(w.members, q) {
-        put(
-            all,
-            q,
-            &frame_writing::write_heartbeat(q as u32, 0, 0, 0, count, channel),
-        )
+        put(all, q, &run_heartbeat(q as u32, 0, count, channel))
     } else if sets::contains(w.joining, q) {
-        put(
-            all,
-            q,
-            &frame_writing::write_heartbeat(q as u32, 1, 0, 0, count, channel),
-        )
+        put(all, q, &run_heartbeat(q as u32, 1, count, channel))
     } else {
         all
     }
@@ -80,9 +85,8 @@ fn read_heartbeat(count: u32, reach: u64, a: &[u8], b: &[u8], p: usize) -> Heart
 {
     let at = 36 * p;
     let end = at + copy_length(sets::contains(reach, p), 10);
-    let one = frame_reading::read_heartbeat(p as u32, count, 0, &a[at..end]);
-    let other = frame_reading::read_heartbeat(p as u32, count, 1, &b[at..end]);
-    frame_reading::receive_heartbeat(one, other)
+    let counted = frame_reading::receive_heartbeat(p as u32, count, &a[at..end], &b[at..end]);
+    counted.heard
 }
 
 fn is_alive(r: HeartbeatReceived) -> bool

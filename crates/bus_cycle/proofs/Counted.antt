@@ -19,7 +19,8 @@ use Rattle.frames.specs.declared.Fault.the-variants.{Length}
 use Rattle.frames.specs.declared.VoteRead.the-variants as vote
 use Rattle.frames.specs.declared.VoteReceived.the-variants.{Missed, Whole}
 use Rattle.frames.specs.Written.{voteFrame, formedVote}
-use Rattle.frames.specs.Read.{wrongLength, faultOf, readVote, receiveVote}
+use Rattle.frames.specs.Read.{readVote, receiveVote}
+use Rattle.frames.proofs.Faults.{no-vote}
 use Rattle.frames.proofs.Lengths.{length-vote}
 use Rattle.frames.proofs.RoundTrip.{vote-back}
 use Rattle.cluster_states.specs.declared.Roles.{Roles}
@@ -29,11 +30,6 @@ use Rattle.cluster_states.specs.Decided.{outAt, decidedAt}
 use Rattle.bus_units.specs.Units.{received}
 use Rattle.bus_channels.specs.Channels.{channelOf, votePut, copyOf, voteRead, ballotsRead, decidedRead}
 use Rattle.bus_channels.proofs.Carried.{Carries, carries}
-
--- an absent copy
-no-vote : (n p count channel : ℕ) → readVote n p count channel [] ≡ vote.Refused Length
-unfolding readVote faultOf wrongLength
-no-vote n p count channel = refl
 
 module _ (C : Config) (count members : ℕ) (numbers sets bases views : List ℕ) (few : C .nodes ≤ 64) (counted : count < 64) where
   abbrev n : ℕ

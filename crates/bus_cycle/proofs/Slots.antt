@@ -1,7 +1,7 @@
 -- What stands on the channels that the code fills: the frames of the definition, each in its slot. Assumes nothing.
 use mathlib.Core.Path.{_≡_, refl, sym, ap, ap₂, _∙_, subst}
 use mathlib.Core.Bool.{Bool, true, false, cond}
-use mathlib.Core.List.{List, _∷_, _++_, append-assoc, append-nil}
+use mathlib.Core.List.{List, [], _∷_, _++_, append-assoc, append-nil}
 use mathlib.Core.Option.{Option, none, some}
 use Prim.Native.Nat.{ℕ, zero, suc, _+_, _-_, _*_, _≤_, _<_}
 use native.Mathlib.Nat.{zero-add, suc-add, add-zero, add-suc}
@@ -115,10 +115,10 @@ module _ (C : Config) (s : States) (f : Faults) (count channel : ℕ) (few : C .
   abbrev w : Roles
   w = roles C s f
 
-  heartbeat-put : (q : ℕ) → q < n → heartbeatPut w count channel q ≡ heartbeatSent 0 0 count q (at r q) channel
-  heartbeat-put q l = sym (go (at r q) ∙ ap₂ (λ (m j : Bool). cond m (some (heartbeatFrame q 0 0 0 count channel)) (cond j (some (heartbeatFrame q 1 0 0 count channel)) none)) (sends-member C s f q l) (sends-join C s f q l))
+  heartbeat-put : (q : ℕ) → q < n → heartbeatPut w count channel q ≡ heartbeatSent 0 0 [] count q (at r q) channel
+  heartbeat-put q l = sym (go (at r q) ∙ ap₂ (λ (m j : Bool). cond m (some (heartbeatFrame q 0 0 0 count channel [])) (cond j (some (heartbeatFrame q 1 0 0 count channel [])) none)) (sends-member C s f q l) (sends-join C s f q l))
     where
-      go : (t : State) → heartbeatSent 0 0 count q t channel ≡ cond (sendsMember t) (some (heartbeatFrame q 0 0 0 count channel)) (cond (sendsJoin t) (some (heartbeatFrame q 1 0 0 count channel)) none)
+      go : (t : State) → heartbeatSent 0 0 [] count q t channel ≡ cond (sendsMember t) (some (heartbeatFrame q 0 0 0 count channel [])) (cond (sendsJoin t) (some (heartbeatFrame q 1 0 0 count channel [])) none)
       go (Out z) = refl
       go Joining = refl
       go (Member g) = refl
@@ -126,8 +126,8 @@ module _ (C : Config) (s : States) (f : Faults) (count channel : ℕ) (few : C .
   pub heartbeats-shown : channelOf n (heartbeatPut w count channel) ≡ heartbeatsShown C count f (rowOf n s) channel
   unfolding heartbeatsShown
   heartbeats-shown =
-      channel-shown n (heartbeatPut w count channel) (λ q. heartbeatSent 0 0 count q (at r q) channel) few
-      (beats-short C count f (rowOf n s) channel) heartbeat-put (λ q l. ap (λ (t : State). heartbeatSent 0 0 count q t channel) (past-out n f (rowOf n s) q l))
+      channel-shown n (heartbeatPut w count channel) (λ q. heartbeatSent 0 0 [] count q (at r q) channel) few
+      (beats-short C count f (rowOf n s) channel) heartbeat-put (λ q l. ap (λ (t : State). heartbeatSent 0 0 [] count q t channel) (past-out n f (rowOf n s) q l))
 
   module _ (counted : count < 64) (formed : FormedRow n (rowOf n s)) (views : List ℕ)
       (seen : (p : ℕ) → p < n → getD views p 0 ≡ viewAt n (s .sets) (w .members ∖ f .«heartbeat_lost») (w .joining ∖ f .«heartbeat_lost») (f .«heartbeat_missed») p) where

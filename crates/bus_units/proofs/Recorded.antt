@@ -52,10 +52,10 @@ if-sent {Sent} {Refused} {a} {b} speaks false s (on-none x y) = subst (Came Sent
     no true = refl
     no false = refl
 
-beat-speaks : (count p channel : ℕ) (z : List ℕ) (s : State) → HeartbeatSent count p s channel z → sendsHeartbeat s ≡ true
-beat-speaks count p channel z (Out r) k = absurd (none-some (k .4))
-beat-speaks count p channel z Joining k = refl
-beat-speaks count p channel z (Member g) k = refl
+beat-speaks : (count p : ℕ) (drive : List ℕ) (channel : ℕ) (z : List ℕ) (s : State) → HeartbeatSent count p drive s channel z → sendsHeartbeat s ≡ true
+beat-speaks count p drive channel z (Out r) k = absurd (none-some (k .5))
+beat-speaks count p drive channel z Joining k = refl
+beat-speaks count p drive channel z (Member g) k = refl
 
 vote-speaks : (N count : ℕ) (h : Copies) (p channel : ℕ) (z : List ℕ) (s : State) → VoteSent N count h p s channel z → sendsMember s ≡ true
 vote-speaks N count h p channel z (Out r) k = absurd (none-some k)
@@ -145,8 +145,8 @@ module _ (C : Config) (count : ℕ) (few : C .nodes ≤ 64) (counted : count < 6
         beats = λ p q lp lq o.
             let x = sound .beats p q 0 lp lq o (lit< tt) in
             let y = sound .beats p q 1 lp lq o (lit< tt) in
-            let k = if-sent (sendsHeartbeat (at r p)) (left x || left y) (λ channel z h. beat-speaks count p channel z (at r p) h) (of-copies x y) in
-            heard (left x || left y) (at r p) (heartbeatGot count (bus .heartbeats) q p) (beat-came C count few counted bus c p q lp (at r p) (left x || left y) k)
+            let k = if-sent (sendsHeartbeat (at r p)) (left x || left y) (λ channel z h. beat-speaks count p (sound .drive p lp) channel z (at r p) h) (of-copies x y) in
+            heard (left x || left y) (at r p) (heartbeatGot count (bus .heartbeats) q p) (beat-came C count few counted bus c p q lp (sound .drive p lp) (at r p) (left x || left y) k .0)
             ∙ ap (λ (b : Bool). cond b (heartbeatKind (at r p)) beats.Missed) (sym (reaches-by N (λ x. sendsHeartbeat (ruledAt stop start row x)) (beatHeard count bus) p q lp lq o
             ∙ ap (λ (s : State). not (sendsHeartbeat s && not (beatHeard count bus q p))) (sym (now-is p lp))));
         ballots = λ p q lp lq o.

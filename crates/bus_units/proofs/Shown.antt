@@ -69,10 +69,10 @@ slot-byte (suc n) sent q i s l k = go (eqb q n) refl (slot-byte n sent q i (fewe
 
 -- ---- the frames that are sent fit a slot
 
-beat-short : (count q : ℕ) (s : State) (channel : ℕ) → length (present (heartbeatSent 0 0 count q s channel)) ≤ 36
+beat-short : (count q : ℕ) (s : State) (channel : ℕ) → length (present (heartbeatSent 0 0 [] count q s channel)) ≤ 36
 beat-short count q (Out r) channel = lit≤ tt
-beat-short count q Joining channel = let e : length (heartbeatFrame q 1 0 0 count channel) ≡ 10 = length-heartbeat q 1 0 0 count channel in omega arith
-beat-short count q (Member g) channel = let e : length (heartbeatFrame q 0 0 0 count channel) ≡ 10 = length-heartbeat q 0 0 0 count channel in omega arith
+beat-short count q Joining channel = let e : length (heartbeatFrame q 1 0 0 count channel []) ≡ 10 = length-heartbeat q 1 0 0 count channel [] in omega arith
+beat-short count q (Member g) channel = let e : length (heartbeatFrame q 0 0 0 count channel []) ≡ 10 = length-heartbeat q 0 0 0 count channel [] in omega arith
 
 vote-short : (N count : ℕ) (h : Copies) (q : ℕ) (s : State) (channel : ℕ) → length (present (voteSent N count h q s channel)) ≤ 36
 vote-short N count h q (Out r) channel = lit≤ tt
@@ -105,7 +105,7 @@ module _ (C : Config) (count : ℕ) (c : Faults) (row : Row) where
 
   -- what unit q sends on a channel
   abbrev beat : ℕ → ℕ → Option (List ℕ)
-  beat channel q = heartbeatSent 0 0 count q (at r q) channel
+  beat channel q = heartbeatSent 0 0 [] count q (at r q) channel
 
   abbrev ballot : ℕ → ℕ → Option (List ℕ)
   ballot channel q = voteSent (C .nodes) count (busOf C count c row .heartbeats) q (at r q) channel

@@ -17,6 +17,7 @@ use Rattle.frames.specs.declared.HeartbeatRead.the-variants as beat
 use Rattle.frames.specs.declared.VoteRead.the-variants as vote
 use Rattle.frames.specs.declared.HeartbeatReceived.{HeartbeatReceived}
 use Rattle.frames.specs.declared.HeartbeatReceived.the-variants.{Missed, Alive, Join}
+use Rattle.frames.specs.Written.{wrongDrive}
 use Rattle.frames.specs.Read.{readHeartbeat, readVote}
 use Rattle.bus_units.specs.Units.{Copies, Bus, heartbeatSent, heartbeatGot, voteCast, voteSent, voteGot, received}
 
@@ -42,10 +43,10 @@ pub data Came (Sent Refused : (channel : ℕ) → List ℕ → Type 0) (a b : Li
   on-b : Refused 0 a → Sent 1 b → Came Sent Refused a b true
   on-none : Refused 0 a → Refused 1 b → Came Sent Refused a b false
 
--- the heartbeat of unit p in state s, with any indicators that are allowed
-abbrev pub HeartbeatSent : (count p : ℕ) → State → (channel : ℕ) → List ℕ → Type 0
-HeartbeatSent count p s channel x =
-    (sync : ℕ) × (startup : ℕ) × (sync < 2) × (startup ≤ sync) × (heartbeatSent sync startup count p s channel ≡ some x)
+-- the heartbeat of unit p in state s with these drive bytes, and with any indicators that are allowed
+abbrev pub HeartbeatSent : (count p : ℕ) → (drive : List ℕ) → State → (channel : ℕ) → List ℕ → Type 0
+HeartbeatSent count p drive s channel x =
+    (sync : ℕ) × (startup : ℕ) × (sync < 2) × (startup ≤ sync) × (wrongDrive drive ≡ false) × (heartbeatSent sync startup drive count p s channel ≡ some x)
 
 abbrev pub HeartbeatRefused : (count p channel : ℕ) → List ℕ → Type 0
 HeartbeatRefused count p channel x = (f : Fault) × (readHeartbeat p count channel x ≡ beat.Refused f)
@@ -59,10 +60,11 @@ VoteRefused N count p channel x = (f : Fault) × (readVote N p count channel x �
 abbrev pub sendsHeartbeat : State → Bool
 sendsHeartbeat s = sendsMember s || sendsJoin s
 
--- a frame comes to another unit exactly where one was sent and the record lets it reach
+-- a frame comes to another unit exactly where one was sent and the record lets it reach; a heartbeat with the drive bytes that its sender has in this cycle
 pub record Delivers (C : Config) (count : ℕ) (bus : Bus) (c : Faults) (r : Row) : Type 0 where
-  pub beats : (p q : ℕ) → p < C .nodes → q < C .nodes → eqb p q ≡ false
-      → Came (HeartbeatSent count p (at r p)) (HeartbeatRefused count p) (bus .heartbeats p q 0) (bus .heartbeats p q 1) (sendsHeartbeat (at r p) && heartbeatReaches c p q)
+  pub drive : (p : ℕ) → p < C .nodes → List ℕ
+  pub beats : (p q : ℕ) (l : p < C .nodes) → q < C .nodes → eqb p q ≡ false
+      → Came (HeartbeatSent count p (drive p l) (at r p)) (HeartbeatRefused count p) (bus .heartbeats p q 0) (bus .heartbeats p q 1) (sendsHeartbeat (at r p) && heartbeatReaches c p q)
   pub ballots : (p q : ℕ) → p < C .nodes → q < C .nodes → eqb p q ≡ false
       → Came (VoteSent (C .nodes) count (bus .heartbeats) p (at r p)) (VoteRefused (C .nodes) count p) (bus .votes p q 0) (bus .votes p q 1)
       (sendsMember (at r p) && voteReaches c p q)

@@ -19,19 +19,23 @@ abbrev pub copyIf : Bool → Option (List ℕ) → List ℕ
 copyIf true sent = present sent
 copyIf false sent = []
 
--- "its heartbeats have sync and startup 0"; r is the row after rule 1
-unfoldable pub heartbeatsOf : (count : ℕ) → Faults → Row → Copies
-heartbeatsOf count c r p q channel = copyIf (heartbeatReaches c p q) (heartbeatSent 0 0 count p (at r p) channel)
+-- "its heartbeats have sync and startup 0"; `drive` are the drive bytes that each unit has, r is the row after rule 1
+unfoldable pub heartbeatsOf : (drive : ℕ → List ℕ) → (count : ℕ) → Faults → Row → Copies
+heartbeatsOf drive count c r p q channel = copyIf (heartbeatReaches c p q) (heartbeatSent 0 0 (drive p) count p (at r p) channel)
 
 -- the votes, by the heartbeats h that were heard
 unfoldable pub votesOf : (N count : ℕ) → Faults → Row → Copies → Copies
 votesOf N count c r h p q channel = copyIf (voteReaches c p q) (voteSent N count h p (at r p) channel)
 
-unfoldable pub busOf : Config → (count : ℕ) → Faults → Row → Bus
-busOf C count c row =
+unfoldable pub busWith : (drive : ℕ → List ℕ) → Config → (count : ℕ) → Faults → Row → Bus
+busWith drive C count c row =
     let r = ruleOne (C .nodes) c row in
-    let h = heartbeatsOf count c r in
+    let h = heartbeatsOf drive count c r in
     record { heartbeats = h; votes = votesOf (C .nodes) count c r h }
+
+-- Request 2: "A run's heartbeats keep one word."
+unfoldable pub busOf : Config → (count : ℕ) → Faults → Row → Bus
+busOf = busWith (λ p. [])
 
 unfoldable pub framedCycle : Config → (count : ℕ) → Faults → Row → Row
 framedCycle C count c row = unitsCycle C count (busOf C count c row) c row

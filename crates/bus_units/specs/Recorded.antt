@@ -3,6 +3,7 @@
 use mathlib.Core.Path.{_≡_}
 use mathlib.Core.Logic.{_⊎_}
 use mathlib.Core.Bool.{Bool, true, false, not, _&&_}
+use mathlib.Core.List.{List}
 use mathlib.Core.Option.{Option, none, some}
 use Prim.Native.Nat.{ℕ, _<_}
 use lib.Dec.{eqb}
@@ -20,8 +21,10 @@ use Rattle.bus_units.specs.Carried.{HeartbeatSent, HeartbeatRefused, Vot
 -- ---- a bus on which every copy is the frame as sent on that channel, or is refused by reading; r is the row after rule 1
 
 pub record Sound (C : Config) (count : ℕ) (bus : Bus) (r : Row) : Type 0 where
-  pub beats : (p q channel : ℕ) → p < C .nodes → q < C .nodes → eqb p q ≡ false → channel < 2
-      → HeartbeatSent count p (at r p) channel (bus .heartbeats p q channel) ⊎ HeartbeatRefused count p channel (bus .heartbeats p q channel)
+  -- the drive bytes that each unit has in this cycle
+  pub drive : (p : ℕ) → p < C .nodes → List ℕ
+  pub beats : (p q channel : ℕ) (l : p < C .nodes) → q < C .nodes → eqb p q ≡ false → channel < 2
+      → HeartbeatSent count p (drive p l) (at r p) channel (bus .heartbeats p q channel) ⊎ HeartbeatRefused count p channel (bus .heartbeats p q channel)
   pub ballots : (p q channel : ℕ) → p < C .nodes → q < C .nodes → eqb p q ≡ false → channel < 2
       → VoteSent (C .nodes) count (bus .heartbeats) p (at r p) channel (bus .votes p q channel) ⊎ VoteRefused (C .nodes) count p channel (bus .votes p q channel)
 

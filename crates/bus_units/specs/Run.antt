@@ -38,7 +38,7 @@ inSlots zero sent = []
 inSlots (suc n) sent = inSlots n sent ++ padded (sent n)
 
 unfoldable pub heartbeatsShown : Config → (count : ℕ) → Faults → Row → (channel : ℕ) → List ℕ
-heartbeatsShown C count c row channel = inSlots 64 (λ q. heartbeatSent 0 0 count q (at (ruleOne (C .nodes) c row) q) channel)
+heartbeatsShown C count c row channel = inSlots 64 (λ q. heartbeatSent 0 0 [] count q (at (ruleOne (C .nodes) c row) q) channel)
 
 unfoldable pub votesShown : Config → (count : ℕ) → Faults → Row → (channel : ℕ) → List ℕ
 votesShown C count c row channel =

@@ -19,7 +19,7 @@ use Rattle.frames.specs.declared.HeartbeatReceived.the-variants as beats
 use Rattle.frames.specs.declared.VoteReceived.{VoteReceived}
 use Rattle.frames.specs.declared.VoteReceived.the-variants as votes
 use Rattle.frames.specs.Written.{heartbeatFrame, voteFrame}
-use Rattle.frames.specs.Read.{readHeartbeat, readVote, receiveHeartbeat, receiveVote}
+use Rattle.frames.specs.Read.{readVote, receiveHeartbeat, driveHeard, receiveVote}
 
 -- ---- a bus: what comes to the units in one cycle
 
@@ -32,17 +32,20 @@ pub record Bus : Type 0 where
   pub votes : Copies
 
 -- ---- rule 2: "a member sends one with join 0, a joining node with join 1, an out node nothing"; "sync and startup free, but startup only with sync". The frame of
--- unit q for a channel
+-- unit q for a channel, with the drive bytes that it has
 
-abbrev pub heartbeatSent : (sync startup count q : ℕ) → State → (channel : ℕ) → Option (List ℕ)
-heartbeatSent sync startup count q (Out r) channel = none
-heartbeatSent sync startup count q Joining channel = some (heartbeatFrame q 1 sync startup count channel)
-heartbeatSent sync startup count q (Member g) channel = some (heartbeatFrame q 0 sync startup count channel)
+abbrev pub heartbeatSent : (sync startup : ℕ) → (drive : List ℕ) → (count q : ℕ) → State → (channel : ℕ) → Option (List ℕ)
+heartbeatSent sync startup drive count q (Out r) channel = none
+heartbeatSent sync startup drive count q Joining channel = some (heartbeatFrame q 1 sync startup count channel drive)
+heartbeatSent sync startup drive count q (Member g) channel = some (heartbeatFrame q 0 sync startup count channel drive)
 
--- ---- "A unit reads both channels.": what unit q makes of the two copies of the heartbeat of p
+-- ---- "A unit reads both channels.": what unit q makes of the two copies of the heartbeat of p, and the drive bytes that it finds there
 
 abbrev pub heartbeatGot : (count : ℕ) → Copies → (q p : ℕ) → HeartbeatReceived
-heartbeatGot count h q p = receiveHeartbeat (readHeartbeat p count 0 (h p q 0)) (readHeartbeat p count 1 (h p q 1))
+heartbeatGot count h q p = receiveHeartbeat p count (h p q 0) (h p q 1) .heard
+
+abbrev pub driveGot : (count : ℕ) → Copies → (q p : ℕ) → List ℕ
+driveGot count h q p = driveHeard p count (h p q 0) (h p q 1)
 
 -- heard with join 0, and with join 1
 abbrev pub isAlive : HeartbeatReceived → Bool

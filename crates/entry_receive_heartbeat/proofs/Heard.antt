@@ -1,82 +1,122 @@
 -- What the entries for heartbeats that come in answer. Assumes nothing.
 use mathlib.Core.Path.{_≡_, refl, sym, ap, _∙_}
-use mathlib.Core.Bool.{_||_, or-false}
+use mathlib.Core.Bool.{true, _||_, or-false, false≢true}
 use mathlib.Core.List.{List}
-use Prim.Native.Nat.{ℕ, _<_}
+use Prim.Native.Nat.{ℕ, _≤_, _<_}
 use native.Mathlib.Omega.{arith}
+use lib.ListN.{length}
 use borrow.Author.Tests.{eq-eqb, ne-eqb}
+use Rattle.parts.specs.Parts.{atFront}
+use Rattle.frames.specs.declared.Fault.{Fault}
+use Rattle.frames.specs.declared.Fault.the-variants.{Length, HeaderCheck, FrameCheck, NullFrame, NotDue, Content}
 use Rattle.frames.specs.declared.HeartbeatRead.{HeartbeatRead}
 use Rattle.frames.specs.declared.HeartbeatRead.the-variants.{Alive, Join, Refused}
-use Rattle.frames.specs.declared.HeartbeatReceived.{HeartbeatReceived}
-use Rattle.frames.specs.Read.{readHeartbeat, receiveHeartbeat}
+use Rattle.frames.specs.declared.HeartbeatCounted.{HeartbeatCounted}
+use Rattle.frames.specs.Read.{faultCode, driveOf, readHeartbeat, isGood, receiveHeartbeat, driveHeard}
+use Rattle.frames.proofs.TwoChannels.{good-length}
 use Rattle.refusal.proofs.Laws.{none, unless-done, unless-refused}
-use Rattle.entry_lent.specs.Refusals.{wrongCount, wrongNode, wrongCycle, wrongChannel}
-use Rattle.entry_receive_heartbeat.specs.Hearing.{readStatus, heartbeatRefusal, joinOf, readHeartbeatStatus, readHeartbeatJoin}
-use Rattle.entry_receive_heartbeat.specs.Hearing.{heardCode, receiveHeartbeatStatus, receiveHeartbeatHeard}
-use Rattle.entry_lent.proofs.Bounds.{count-bounds, slot-bounds}
-use Rattle.entry_lent.proofs.Reading.{frame-kept}
+use Rattle.entry_lent.specs.Refusals.{wrongCount, wrongNode, wrongCycle, wrongChannel, wrongLength}
+use Rattle.entry_receive_heartbeat.specs.Hearing.{readStatus, heartbeatRefusal, joinOf, readHeartbeatStatus, readHeartbeatJoin, readHeartbeatNumber, readHeartbeatDrive}
+use Rattle.entry_receive_heartbeat.specs.Hearing.{heardCode, receiveHeartbeatStatus, receiveHeartbeatHeard, receiveHeartbeatNumber, receiveHeartbeatDrive}
+use Rattle.entry_lent.proofs.Bounds.{count-bounds, slot-bounds, length-is}
 
 -- ---- read from one channel
 
-module _ (n q cycle channel : ℕ) where
-  pub read-bounds : readStatus n q cycle channel ≡ 0 → q < 64
+fault-number : (f : Fault) → faultCode f ≡ 0 → ⊥
+fault-number Length e = omega arith
+fault-number HeaderCheck e = omega arith
+fault-number FrameCheck e = omega arith
+fault-number NullFrame e = omega arith
+fault-number NotDue e = omega arith
+fault-number Content e = omega arith
+
+module _ (n q cycle channel : ℕ) (d : List ℕ) where
+  pub read-bounds : readStatus n q cycle channel d ≡ 0 → (q < 64) × (length d ≡ 252)
   unfolding readStatus
   read-bounds e =
       let a = none (wrongCount n) 1 _ refl e in
       let b = none (wrongNode n q || wrongCycle cycle || wrongChannel channel) 2 _ refl (a .1) in
+      let c = none (wrongLength 252 d) 3 _ refl (b .1) in
       let most = count-bounds n (a .0) .1 in
       let slot = slot-bounds n q cycle channel (b .0) .0 in
-      omega arith
+      (omega arith, length-is 252 d (c .0))
 
-  module _ (f : List ℕ) (join : ℕ) where
-    abbrev pub Reads : ℕ → ℕ → Type 0
-    Reads r left = (r ≡ readHeartbeatStatus n q cycle channel f) × (left ≡ readHeartbeatJoin n q cycle channel f join)
+  -- what the copying of drive bytes requires
+  pub room : (f : List ℕ) {x : HeartbeatRead} → readStatus n q cycle channel d ≡ 0 → readHeartbeat q cycle channel f ≡ x → isGood x ≡ true
+      → (10 ≤ length f) × ((length f ≤ 262) × (length d ≡ 252))
+  room f e g good = let l = good-length q cycle channel f (ap isGood g ∙ good) in (l .0, (l .1, read-bounds e .1))
 
-    pub read-refused : (k : ℕ) → k ≡ readStatus n q cycle channel → (k ≡ 0 → ⊥) → Reads k join
-    unfolding readHeartbeatStatus readHeartbeatJoin
-    read-refused k e h =
-        let z : readStatus n q cycle channel ≡ 0 → ⊥ = λ z. h (e ∙ z) in
-        (simp (ne-eqb _ 0 z) e, sym (unless-refused _ _ join z))
+  module _ (f : List ℕ) (join number : ℕ) where
+    -- the status, and what is left of the buffer, the join bit and the number of drive bytes
+    abbrev pub Reads : ℕ → List ℕ → ℕ → ℕ → Type 0
+    Reads r left bit bytes =
+        (r ≡ readHeartbeatStatus n q cycle channel f d)
+        × ((left ≡ readHeartbeatDrive n q cycle channel f d)
+        × ((bit ≡ readHeartbeatJoin n q cycle channel f d join) × (bytes ≡ readHeartbeatNumber n q cycle channel f d number)))
 
-    pub read-copy : (r : HeartbeatRead) → readStatus n q cycle channel ≡ 0 → readHeartbeat q cycle channel f ≡ r
-        → Reads (heartbeatRefusal r) (joinOf r join)
-    unfolding readHeartbeatStatus readHeartbeatJoin
-    read-copy r e g = (
-      simp (eq-eqb _ 0 e) (sym (ap heartbeatRefusal g)),
-      sym (unless-done _ _ join e ∙ ap (λ (x : HeartbeatRead). joinOf x join) g),
-    )
+    kept : (r : ℕ) → r ≡ readHeartbeatStatus n q cycle channel f d → (r ≡ 0 → ⊥) → Reads r d join number
+    unfolding readHeartbeatDrive readHeartbeatJoin readHeartbeatNumber
+    kept r e h =
+        let never : readHeartbeatStatus n q cycle channel f d ≡ 0 → ⊥ = λ z. h (e ∙ z) in
+        (e, (sym (unless-refused _ _ d never), (sym (unless-refused _ _ join never), sym (unless-refused _ _ number never))))
 
--- a read that is refused leaves the join bit
-pub refused-kept : (n q cycle channel : ℕ) (f : List ℕ) (join : ℕ) → (readHeartbeatStatus n q cycle channel f ≡ 0 → ⊥)
-    → readHeartbeatJoin n q cycle channel f join ≡ join
-unfolding readHeartbeatStatus readHeartbeatJoin
-refused-kept n q cycle channel f join = frame-kept _ _ _ join (by (readHeartbeat q cycle channel f))
-  where
-    by : (d : HeartbeatRead) → (heartbeatRefusal d ≡ 0 → ⊥) → joinOf d join ≡ join
-    by Alive h = absurd (h refl)
-    by Join h = absurd (h refl)
-    by (Refused fault) h = refl
+    pub read-refused : (k : ℕ) → k ≡ readStatus n q cycle channel d → (k ≡ 0 → ⊥) → Reads k d join number
+    unfolding readHeartbeatStatus
+    read-refused k e h = kept k (simp (ne-eqb _ 0 (λ z. h (e ∙ z))) e) h
+
+    -- numbers and buffer are not refused
+    module _ (fine : readStatus n q cycle channel d ≡ 0) where
+      status : (x : HeartbeatRead) → readHeartbeat q cycle channel f ≡ x → heartbeatRefusal x ≡ readHeartbeatStatus n q cycle channel f d
+      unfolding readHeartbeatStatus
+      status x g = simp (eq-eqb _ 0 fine) (sym (ap heartbeatRefusal g))
+
+      pub read-faulty : (fault : Fault) (r : ℕ) → readHeartbeat q cycle channel f ≡ Refused fault → r ≡ faultCode fault → Reads r d join number
+      read-faulty fault r g e = kept r (e ∙ status (Refused fault) g) (λ z. fault-number fault (sym e ∙ z))
+
+      pub read-good : (x : HeartbeatRead) (left : List ℕ) (bytes : ℕ) → readHeartbeat q cycle channel f ≡ x → isGood x ≡ true → left ≡ atFront (driveOf f) d
+          → bytes ≡ length (driveOf f) → Reads 0 left (joinOf x) bytes
+      unfolding readHeartbeatDrive readHeartbeatJoin readHeartbeatNumber
+      read-good x left bytes g good el eb =
+          let z : 0 ≡ readHeartbeatStatus n q cycle channel f d = done x good ∙ status x g in (
+            z,
+            (el ∙ sym (unless-done _ _ d (sym z)), (ap joinOf (sym g) ∙ sym (unless-done _ _ join (sym z)), eb ∙ sym (unless-done _ _ number (sym z)))),
+          )
+        where
+          done : (x : HeartbeatRead) → isGood x ≡ true → 0 ≡ heartbeatRefusal x
+          done Alive e = refl
+          done Join e = refl
+          done (Refused fault) e = absurd (false≢true e)
 
 -- ---- received on both
 
 -- the tests of a read with a channel that is none of the caller's
-pub receive-status : (n q cycle : ℕ) → readStatus n q cycle 0 ≡ receiveHeartbeatStatus n q cycle
+pub receive-status : (n q cycle : ℕ) (d : List ℕ) → readStatus n q cycle 0 d ≡ receiveHeartbeatStatus n q cycle d
 unfolding readStatus receiveHeartbeatStatus
-receive-status n q cycle = simp or-false
+receive-status n q cycle d = simp or-false
 
-module _ (n q cycle : ℕ) (a b : List ℕ) (heard : ℕ) where
-  abbrev pub Receives : ℕ → ℕ → Type 0
-  Receives r left = (r ≡ receiveHeartbeatStatus n q cycle) × (left ≡ receiveHeartbeatHeard n q cycle a b heard)
+module _ (n q cycle : ℕ) (a b d : List ℕ) (heard number : ℕ) where
+  -- the status, and what is left of the buffer, of what was heard and of the number of drive bytes
+  abbrev pub Receives : ℕ → List ℕ → ℕ → ℕ → Type 0
+  Receives r left code bytes =
+      (r ≡ receiveHeartbeatStatus n q cycle d)
+      × ((left ≡ receiveHeartbeatDrive n q cycle a b d)
+      × ((code ≡ receiveHeartbeatHeard n q cycle a b d heard) × (bytes ≡ receiveHeartbeatNumber n q cycle a b d number)))
 
-  pub receive-refused : (k : ℕ) → k ≡ readStatus n q cycle 0 → (k ≡ 0 → ⊥) → Receives k heard
-  unfolding receiveHeartbeatHeard
+  pub receive-refused : (k : ℕ) → k ≡ readStatus n q cycle 0 d → (k ≡ 0 → ⊥) → Receives k d heard number
+  unfolding receiveHeartbeatHeard receiveHeartbeatDrive receiveHeartbeatNumber
   receive-refused k e h =
-      let r = e ∙ receive-status n q cycle in
-      (r, sym (unless-refused _ _ heard (λ z. h (r ∙ z))))
+      let r = e ∙ receive-status n q cycle d in
+      let never : receiveHeartbeatStatus n q cycle d ≡ 0 → ⊥ = λ z. h (r ∙ z) in
+      (r, (sym (unless-refused _ _ d never), (sym (unless-refused _ _ heard never), sym (unless-refused _ _ number never))))
 
-  pub receive-copies : (x y : HeartbeatRead) (r : HeartbeatReceived) (k : ℕ) → readStatus n q cycle 0 ≡ 0 → x ≡ readHeartbeat q cycle 0 a
-      → y ≡ readHeartbeat q cycle 1 b → r ≡ receiveHeartbeat x y → k ≡ heardCode r → Receives 0 k
-  unfolding receiveHeartbeatHeard
-  receive-copies x y r k e i j h l =
-      let z = sym (receive-status n q cycle) ∙ e in
-      (sym z, l ∙ ap heardCode (h ∙ λ t. receiveHeartbeat (i t) (j t)) ∙ sym (unless-done _ _ heard z))
+  pub receive-copies : (r : HeartbeatCounted) (drive : List ℕ) (left : List ℕ) (code bytes : ℕ) → readStatus n q cycle 0 d ≡ 0 → r ≡ receiveHeartbeat q cycle a b
+      → code ≡ heardCode (r .heard) → driveHeard q cycle a b ≡ drive → left ≡ atFront drive d → bytes ≡ length drive → Receives 0 left code bytes
+  unfolding receiveHeartbeatHeard receiveHeartbeatDrive receiveHeartbeatNumber
+  receive-copies r drive left code bytes e g c h el eb =
+      let z = sym (receive-status n q cycle d) ∙ e in (
+        sym z,
+        (
+          el ∙ ap (λ (x : List ℕ). atFront x d) (sym h) ∙ sym (unless-done _ _ d z),
+          (c ∙ ap (λ (x : HeartbeatCounted). heardCode (x .heard)) g ∙ sym (unless-done _ _ heard z), eb ∙ ap length (sym h) ∙ sym (unless-done _ _ number z)),
+        ),
+      )

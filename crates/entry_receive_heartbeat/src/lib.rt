@@ -1,13 +1,15 @@
 // Heartbeats that come in: read from one channel, received on both.
 ghost use mathlib.Core.Path.{_≡_};
-ghost use Rattle.entry_receive_heartbeat.specs.Hearing.{readStatus, readHeartbeatStatus, readHeartbeatJoin, heardCode, receiveHeartbeatStatus, receiveHeartbeatHeard};
+ghost use Rattle.entry_receive_heartbeat.specs.Hearing.{readStatus, readHeartbeatStatus, readHeartbeatJoin, readHeartbeatNumber, readHeartbeatDrive};
+ghost use Rattle.entry_receive_heartbeat.specs.Hearing.{heardCode, receiveHeartbeatStatus, receiveHeartbeatHeard, receiveHeartbeatNumber, receiveHeartbeatDrive};
 use entry_lent::wrong_count;
 use entry_lent::wrong_slot;
+use frames::Copy;
 use frames::HeartbeatRead;
 use frames::HeartbeatReceived;
 
-fn read_refusal(n: u32, node: u32, cycle: u32, channel: u32) -> u32
-    ensures { λ r. ⌜ r ≡ readStatus n node cycle channel ⌝ }
+fn read_refusal(n: u32, node: u32, cycle: u32, channel: u32, drive: &[u8]) -> u32
+    ensures { λ r. ⌜ r ≡ readStatus n node cycle channel (now (drive .entry)) ⌝ }
 {
     if wrong_count(n) {
         return 1;
@@ -15,25 +17,41 @@ fn read_refusal(n: u32, node: u32, cycle: u32, channel: u32) -> u32
     if wrong_slot(n, node, cycle, channel) {
         return 2;
     }
+    if drive.len() != 252 {
+        return 3;
+    }
     0
 }
 
-// One copy of a node's heartbeat: its join bit.
-pub fn read(n: u32, node: u32, cycle: u32, channel: u32, frame: &[u8], join: &mut u32) -> u32
-    ensures { λ r. ⌜ r ≡ readHeartbeatStatus n node cycle channel (now (frame .entry)) ⌝ }
-    ensures { λ _. ⌜ now (join .exit) ≡ readHeartbeatJoin n node cycle channel (now (frame .entry)) (now (join .entry)) ⌝ }
+// One copy of a node's heartbeat: its join bit and its drive bytes.
+pub fn read(
+    n: u32,
+    node: u32,
+    cycle: u32,
+    channel: u32,
+    frame: &[u8],
+    drive: &mut [u8],
+    join: &mut u32,
+    number: &mut u32,
+) -> u32
+    ensures { λ r. ⌜ r ≡ readHeartbeatStatus n node cycle channel (now (frame .entry)) (now (drive .entry)) ⌝ }
+    ensures { λ _. ⌜ now (drive .exit) ≡ readHeartbeatDrive n node cycle channel (now (frame .entry)) (now (drive .entry)) ⌝ }
+    ensures { λ _. ⌜ now (join .exit) ≡ readHeartbeatJoin n node cycle channel (now (frame .entry)) (now (drive .entry)) (now (join .entry)) ⌝ }
+    ensures { λ _. ⌜ now (number .exit) ≡ readHeartbeatNumber n node cycle channel (now (frame .entry)) (now (drive .entry)) (now (number .entry)) ⌝ }
 {
-    let status = read_refusal(n, node, cycle, channel);
+    let status = read_refusal(n, node, cycle, channel, drive);
     if status != 0 {
         return status;
     }
     match frame_reading::read_heartbeat(node, cycle, channel, frame) {
         HeartbeatRead::Alive => {
             *join = 0;
+            *number = frame_reading::put_drive(frame, drive);
             0
         }
         HeartbeatRead::Join => {
             *join = 1;
+            *number = frame_reading::put_drive(frame, drive);
             0
         }
         HeartbeatRead::Refused(f) => frame_reading::fault_code(f),
@@ -50,17 +68,42 @@ fn heard_code(r: HeartbeatReceived) -> u32
     }
 }
 
-// Both copies of a node's heartbeat: missed, a member's or a joining node's.
-pub fn receive(n: u32, node: u32, cycle: u32, a: &[u8], b: &[u8], heard: &mut u32) -> u32
-    ensures { λ r. ⌜ r ≡ receiveHeartbeatStatus n node cycle ⌝ }
-    ensures { λ _. ⌜ now (heard .exit) ≡ receiveHeartbeatHeard n node cycle (now (a .entry)) (now (b .entry)) (now (heard .entry)) ⌝ }
+// Both copies of a node's heartbeat: missed, a member's or a joining node's, and its drive bytes.
+pub fn receive(
+    n: u32,
+    node: u32,
+    cycle: u32,
+    a: &[u8],
+    b: &[u8],
+    drive: &mut [u8],
+    heard: &mut u32,
+    number: &mut u32,
+) -> u32
+    ensures { λ r. ⌜ r ≡ receiveHeartbeatStatus n node cycle (now (drive .entry)) ⌝ }
+    ensures { λ _. ⌜ now (drive .exit) ≡ receiveHeartbeatDrive n node cycle (now (a .entry)) (now (b .entry)) (now (drive .entry)) ⌝ }
+    ensures { λ _. ⌜ now (heard .exit) ≡ receiveHeartbeatHeard n node cycle (now (a .entry)) (now (b .entry)) (now (drive .entry)) (now (heard .entry)) ⌝ }
+    ensures { λ _. ⌜ now (number .exit) ≡ receiveHeartbeatNumber n node cycle (now (a .entry)) (now (b .entry)) (now (drive .entry)) (now (number .entry)) ⌝ }
 {
-    let status = read_refusal(n, node, cycle, 0);
+    let status = read_refusal(n, node, cycle, 0, drive);
     if status != 0 {
         return status;
     }
-    let on_a = frame_reading::read_heartbeat(node, cycle, 0, a);
-    let on_b = frame_reading::read_heartbeat(node, cycle, 1, b);
-    *heard = heard_code(frame_reading::receive_heartbeat(on_a, on_b));
-    0
+    let counted = frame_reading::receive_heartbeat(node, cycle, a, b);
+    let received = counted.heard;
+    *heard = heard_code(received);
+    let copy = counted.copy;
+    match copy {
+        Copy::Neither => {
+            *number = 0;
+            0
+        }
+        Copy::OnA => {
+            *number = frame_reading::put_drive(a, drive);
+            0
+        }
+        Copy::OnB => {
+            *number = frame_reading::put_drive(b, drive);
+            0
+        }
+    }
 }

@@ -1,8 +1,9 @@
 // A node's heartbeat, from its state.
 ghost use mathlib.Core.Path.{_≡_};
-ghost use mathlib.Core.Bool.{_||_};
-ghost use Prim.Native.Nat.{_≤_, _<_};
+ghost use mathlib.Core.Bool.{false, _||_};
+ghost use Prim.Native.Nat.{_+_, _≤_, _<_};
 ghost use lib.ListN.{length};
+ghost use Rattle.frames.specs.Written.{wrongDrive};
 ghost use Rattle.entry_lent.specs.Refusals.{wrongIndicators, wrongCycle, wrongChannel};
 ghost use Rattle.entry_send_heartbeat.specs.Beating.{sendHeartbeatStatus, sendsByte, joinBit, heartbeatOf, sendHeartbeatLeft, sendHeartbeatSent};
 use entry_lent::Lent;
@@ -47,6 +48,7 @@ fn send_of(
     startup: u32,
     cycle: u32,
     channel: u32,
+    drive: &[u8],
     frame: &mut [u8],
     sent: &mut u32,
 )
@@ -54,44 +56,52 @@ fn send_of(
     requires { ⌜ sync < 2 ⌝ }
     requires { ⌜ startup ≤ sync ⌝ }
     requires { ⌜ cycle < 64 ⌝ }
-    requires { ⌜ length (now frame) ≡ 10 ⌝ }
-    ensures { λ _. ⌜ now (frame .exit) ≡ heartbeatOf n sync startup cycle channel (now (frame .entry)) ⌝ }
+    requires { ⌜ wrongDrive (now drive) ≡ false ⌝ }
+    requires { ⌜ length (now frame) ≡ 10 + length (now drive) ⌝ }
+    ensures { λ _. ⌜ now (frame .exit) ≡ heartbeatOf n sync startup cycle channel (now (drive .entry)) (now (frame .entry)) ⌝ }
     ensures { λ _. ⌜ now (sent .exit) ≡ sendsByte (n .state) ⌝ }
 {
     let s = n.state;
     let sends = sends_byte(s);
     *sent = sends;
     if sends == 1 {
-        let written = frame_writing::write_heartbeat(
+        frame_writing::write_heartbeat(
             n.id as u32,
             join_bit(s),
             sync,
             startup,
             cycle,
             channel,
+            drive,
+            frame,
         );
-        bytes::copy(&written, frame);
     }
 }
 
-// Rule 2: the heartbeat that a node sends, if it sends one.
+// Rule 2: the heartbeat that a node sends, if it sends one, with these drive bytes.
 pub fn send(
     state: &[u8],
     sync: u32,
     startup: u32,
     cycle: u32,
     channel: u32,
+    drive: &[u8],
     frame: &mut [u8],
     sent: &mut u32,
 ) -> u32
-    ensures { λ r. ⌜ r ≡ sendHeartbeatStatus (now (state .entry)) sync startup cycle channel (now (frame .entry)) ⌝ }
-    ensures { λ _. ⌜ now (frame .exit) ≡ sendHeartbeatLeft (now (state .entry)) sync startup cycle channel (now (frame .entry)) ⌝ }
-    ensures { λ _. ⌜ now (sent .exit) ≡ sendHeartbeatSent (now (state .entry)) sync startup cycle channel (now (frame .entry)) (now (sent .entry)) ⌝ }
+    ensures { λ r. ⌜ r ≡ sendHeartbeatStatus (now (state .entry)) sync startup cycle channel (now (drive .entry)) (now (frame .entry)) ⌝ }
+    ensures { λ _. ⌜ now (frame .exit) ≡ sendHeartbeatLeft (now (state .entry)) sync startup cycle channel (now (drive .entry)) (now (frame .entry)) ⌝ }
+    ensures { λ _. ⌜ now (sent .exit) ≡ sendHeartbeatSent (now (state .entry)) sync startup cycle channel (now (drive .entry)) (now (frame .entry)) (now (sent .entry)) ⌝ }
 {
-    let wrong = wrong_sending(sync, startup, cycle, channel);
-    match lent_node(wrong, state, frame.len(), 10) {
+    if wrong_sending(sync, startup, cycle, channel) {
+        return 2;
+    }
+    if frame_writing::wrong_drive(drive) {
+        return 3;
+    }
+    match lent_node(false, state, frame.len(), 10 + drive.len()) {
         Lent::Holds(n) => {
-            send_of(n, sync, startup, cycle, channel, frame, sent);
+            send_of(n, sync, startup, cycle, channel, drive, frame, sent);
             0
         }
         Lent::Refused(k) => k,

@@ -1,19 +1,17 @@
 -- What the entry for a heartbeat from numbers answers. Assumes nothing.
-use mathlib.Core.Path.{_≡_, refl, sym, ap, _∙_}
+use mathlib.Core.Path.{_≡_, refl, sym, _∙_}
 use mathlib.Core.Bool.{Bool, true, false, _||_}
-use mathlib.Core.List.{List, _++_}
-use Prim.Native.Nat.{ℕ, _≤_, _<_}
+use mathlib.Core.List.{List}
+use Prim.Native.Nat.{ℕ, _+_, _≤_, _<_}
 use native.Mathlib.Omega.{arith}
-use lib.ListN.{length, take, drop}
+use lib.ListN.{length}
 use borrow.Author.Tests.{ltb-false}
 use Rattle.sets.proofs.Booleans.{or-f-l, or-f-r}
-use Rattle.frames.specs.Written.{heartbeatFrame}
-use Rattle.frames.proofs.Lengths.{length-heartbeat}
+use Rattle.frames.specs.Written.{heartbeatFrame, wrongDrive}
 use Rattle.refusal.proofs.Laws.{none, unless-done}
 use Rattle.entry_lent.specs.Refusals.{wrongCount, wrongNode, wrongCycle, wrongChannel, wrongBit, wrongIndicators, wrongLength}
 use Rattle.entry_write_heartbeat.specs.Heartbeats.{writeHeartbeatStatus, writeHeartbeatLeft}
 use Rattle.entry_lent.proofs.Bounds.{count-bounds, slot-bounds, indicator-bounds, length-is}
-use Rattle.parts.proofs.Copies.{whole}
 
 -- what is tested of a heartbeat's numbers, in the order of the code
 pub in-order : (a b c d e : Bool) → (a || b || c || d || e) ≡ (b || (c || (a || d || e)))
@@ -24,17 +22,17 @@ in-order false true c d e = refl
 in-order false false true d e = refl
 in-order false false false d e = refl
 
-module _ (n q join sync startup cycle channel : ℕ) (f : List ℕ) (e : writeHeartbeatStatus n q join sync startup cycle channel f ≡ 0) where
+module _ (n q join sync startup cycle channel : ℕ) (d f : List ℕ) (e : writeHeartbeatStatus n q join sync startup cycle channel d f ≡ 0) where
   numbers : (wrongCount n ≡ false) × (wrongNode n q || wrongBit join || wrongIndicators sync startup || wrongCycle cycle || wrongChannel channel) ≡ false
-      × (wrongLength 10 f ≡ false)
+      × (wrongDrive d || wrongLength (10 + length d) f) ≡ false
   unfolding writeHeartbeatStatus
   numbers =
       let a = none (wrongCount n) 1 _ refl e in
       let b = none (wrongNode n q || wrongBit join || wrongIndicators sync startup || wrongCycle cycle || wrongChannel channel) 2 _ refl (a .1) in
-      (a .0, b .0, none (wrongLength 10 f) 3 _ refl (b .1) .0)
+      (a .0, b .0, none (wrongDrive d || wrongLength (10 + length d) f) 3 _ refl (b .1) .0)
 
   -- what the writer of frames requires
-  pub write-bounds : (q < 64) × ((join < 2) × ((sync < 2) × ((startup ≤ sync) × (cycle < 64))))
+  pub write-bounds : (q < 64) × ((join < 2) × ((sync < 2) × ((startup ≤ sync) × ((cycle < 64) × ((wrongDrive d ≡ false) × (length f ≡ 10 + length d))))))
   write-bounds =
       let j = wrongBit join in
       let i = wrongIndicators sync startup in
@@ -44,14 +42,10 @@ module _ (n q join sync startup cycle channel : ℕ) (f : List ℕ) (e : writeHe
       let slot = slot-bounds n q cycle channel (or-f-r i p (or-f-r j (i || p) h)) in
       let indicators = indicator-bounds sync startup (or-f-l i p (or-f-r j (i || p) h)) in
       let bit = ltb-false 1 join (or-f-l j (i || p) h) in
-      (omega arith, (omega arith, (omega arith, (omega arith, omega arith))))
+      let room = length-is (10 + length d) f (or-f-r (wrongDrive d) (wrongLength (10 + length d) f) (numbers .2)) in
+      (omega arith, (omega arith, (omega arith, (omega arith, (omega arith, (or-f-l (wrongDrive d) (wrongLength (10 + length d) f) (numbers .2), room))))))
 
-  pub write-length : length f ≡ 10
-  write-length = length-is 10 f (numbers .2)
-
-  pub written : (frame left : List ℕ) → frame ≡ heartbeatFrame q join sync startup cycle channel → left ≡ take (length frame) frame ++ drop (length frame) f
-      → (0 ≡ writeHeartbeatStatus n q join sync startup cycle channel f) × (left ≡ writeHeartbeatLeft n q join sync startup cycle channel f)
+  pub written : (left : List ℕ) → left ≡ heartbeatFrame q join sync startup cycle channel d
+      → (0 ≡ writeHeartbeatStatus n q join sync startup cycle channel d f) × (left ≡ writeHeartbeatLeft n q join sync startup cycle channel d f)
   unfolding writeHeartbeatLeft
-  written frame left w l =
-      let k : length frame ≡ 10 = ap length w ∙ length-heartbeat q join sync startup cycle channel in
-      (sym e, l ∙ whole 10 frame f k write-length ∙ w ∙ sym (unless-done (writeHeartbeatStatus n q join sync startup cycle channel f) _ f e))
+  written left w = (sym e, w ∙ sym (unless-done (writeHeartbeatStatus n q join sync startup cycle channel d f) _ f e))

@@ -36,9 +36,10 @@ fn write_refusal(
     startup: u32,
     cycle: u32,
     channel: u32,
+    drive: &[u8],
     frame: &[u8],
 ) -> u32
-    ensures { λ r. ⌜ r ≡ writeHeartbeatStatus n node join sync startup cycle channel (now (frame .entry)) ⌝ }
+    ensures { λ r. ⌜ r ≡ writeHeartbeatStatus n node join sync startup cycle channel (now (drive .entry)) (now (frame .entry)) ⌝ }
 {
     if wrong_count(n) {
         return 1;
@@ -46,13 +47,16 @@ fn write_refusal(
     if wrong_numbers(n, node, join, sync, startup, cycle, channel) {
         return 2;
     }
-    if frame.len() != 10 {
+    if frame_writing::wrong_drive(drive) {
+        return 3;
+    }
+    if frame.len() != 10 + drive.len() {
         return 3;
     }
     0
 }
 
-// A heartbeat from numbers, into 10 bytes.
+// A heartbeat from numbers and drive bytes, into a buffer as long as it.
 pub fn write(
     n: u32,
     node: u32,
@@ -61,16 +65,16 @@ pub fn write(
     startup: u32,
     cycle: u32,
     channel: u32,
+    drive: &[u8],
     frame: &mut [u8],
 ) -> u32
-    ensures { λ r. ⌜ r ≡ writeHeartbeatStatus n node join sync startup cycle channel (now (frame .entry)) ⌝ }
-    ensures { λ _. ⌜ now (frame .exit) ≡ writeHeartbeatLeft n node join sync startup cycle channel (now (frame .entry)) ⌝ }
+    ensures { λ r. ⌜ r ≡ writeHeartbeatStatus n node join sync startup cycle channel (now (drive .entry)) (now (frame .entry)) ⌝ }
+    ensures { λ _. ⌜ now (frame .exit) ≡ writeHeartbeatLeft n node join sync startup cycle channel (now (drive .entry)) (now (frame .entry)) ⌝ }
 {
-    let status = write_refusal(n, node, join, sync, startup, cycle, channel, frame);
+    let status = write_refusal(n, node, join, sync, startup, cycle, channel, drive, frame);
     if status != 0 {
         return status;
     }
-    let written = frame_writing::write_heartbeat(node, join, sync, startup, cycle, channel);
-    bytes::copy(&written, frame);
+    frame_writing::write_heartbeat(node, join, sync, startup, cycle, channel, drive, frame);
     0
 }

@@ -6,7 +6,7 @@ ghost use Prim.Native.Nat.{ℕ, _+_, _≤_, _<_};
 ghost use lib.ListN.{length};
 ghost use Rattle.bigendian.specs.BigEndian.{numberAt};
 ghost use Rattle.frames.specs.Read.{wrongHeader, wrongFrame, isDue, faultOf};
-ghost use Rattle.frames.specs.Looked.{indicatorsOf, dueFault, looked};
+ghost use Rattle.frames.specs.Looked.{wordsDue, indicatorsOf, dueFault, looked};
 use frames::Fault;
 use frames::Looked;
 
@@ -43,6 +43,17 @@ fn wrong_frame(channel: u32, s: &[u8]) -> bool
     bigendian::read4(s, at - 1) % 16777216 != check
 }
 
+// The length of a frame whose header is h: of a heartbeat one word at least, of a vote 14.
+fn words_due(heartbeat: bool, h: u64) -> bool
+    ensures { λ r. ⌜ ((s : List ℕ) → numberAt s 0 5 ≡ h → r ≡ wordsDue heartbeat s) ⌝ }
+{
+    let words = h / 131072 % 128;
+    if heartbeat {
+        return words != 0;
+    }
+    words == 14
+}
+
 // The indicators of a frame whose header is h: of a heartbeat startup only with sync, of a vote both 0.
 fn indicators(heartbeat: bool, h: u64) -> bool
     ensures { λ r. ⌜ ((s : List ℕ) → numberAt s 0 5 ≡ h → r ≡ indicatorsOf heartbeat s) ⌝ }
@@ -59,8 +70,8 @@ fn indicators(heartbeat: bool, h: u64) -> bool
 }
 
 // Whether a frame whose header is h is the one due.
-fn is_due(number: u32, words: u32, cycle: u32, heartbeat: bool, h: u64) -> bool
-    ensures { λ r. ⌜ ((s : List ℕ) → numberAt s 0 5 ≡ h → r ≡ (isDue number words cycle s && indicatorsOf heartbeat s)) ⌝ }
+fn is_due(number: u32, cycle: u32, heartbeat: bool, h: u64) -> bool
+    ensures { λ r. ⌜ ((s : List ℕ) → numberAt s 0 5 ≡ h → r ≡ (isDue number cycle s && wordsDue heartbeat s && indicatorsOf heartbeat s)) ⌝ }
 {
     if h / 549755813888 % 2 != 0 {
         return false;
@@ -71,21 +82,21 @@ fn is_due(number: u32, words: u32, cycle: u32, heartbeat: bool, h: u64) -> bool
     if h / 16777216 % 2048 != number as u64 {
         return false;
     }
-    if h / 131072 % 128 != words as u64 {
+    if h % 64 != cycle as u64 {
         return false;
     }
-    if h % 64 != cycle as u64 {
+    if !words_due(heartbeat, h) {
         return false;
     }
     indicators(heartbeat, h)
 }
 
 // Refusals 8 and 9 of a frame whose header is h.
-fn null_or_due(number: u32, words: u32, cycle: u32, heartbeat: bool, h: u64) -> Looked
-    ensures { λ r. ⌜ ((s : List ℕ) → numberAt s 0 5 ≡ h → r ≡ looked (dueFault number words cycle (indicatorsOf heartbeat s) s)) ⌝ }
+fn null_or_due(number: u32, cycle: u32, heartbeat: bool, h: u64) -> Looked
+    ensures { λ r. ⌜ ((s : List ℕ) → numberAt s 0 5 ≡ h → r ≡ looked (dueFault number cycle (wordsDue heartbeat s) (indicatorsOf heartbeat s) s)) ⌝ }
 {
     let sent = h / 137438953472 % 2 != 0;
-    let due = is_due(number, words, cycle, heartbeat, h);
+    let due = is_due(number, cycle, heartbeat, h);
     if !sent {
         return Looked::Refused(Fault::NullFrame);
     }
@@ -96,8 +107,8 @@ fn null_or_due(number: u32, words: u32, cycle: u32, heartbeat: bool, h: u64) -> 
 }
 
 // Refusals 5 to 9, of several the lowest.
-pub fn look(number: u32, words: u32, cycle: u32, heartbeat: bool, channel: u32, s: &[u8]) -> Looked
-    ensures { λ r. ⌜ r ≡ looked (faultOf number words cycle (indicatorsOf heartbeat (now (s .entry))) channel (now (s .entry))) ⌝ }
+pub fn look(number: u32, cycle: u32, heartbeat: bool, channel: u32, s: &[u8]) -> Looked
+    ensures { λ r. ⌜ r ≡ looked (faultOf number cycle (wordsDue heartbeat (now (s .entry))) (indicatorsOf heartbeat (now (s .entry))) channel (now (s .entry))) ⌝ }
 {
     if s.len() < 8 {
         return Looked::Refused(Fault::Length);
@@ -112,5 +123,5 @@ pub fn look(number: u32, words: u32, cycle: u32, heartbeat: bool, channel: u32, 
     if wrong_frame(channel, s) {
         return Looked::Refused(Fault::FrameCheck);
     }
-    null_or_due(number, words, cycle, heartbeat, h)
+    null_or_due(number, cycle, heartbeat, h)
 }

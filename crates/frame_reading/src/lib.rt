@@ -2,11 +2,15 @@
 ghost use mathlib.Core.Path.{_≡_};
 ghost use Prim.Native.Nat.{_+_, _≤_, _<_};
 ghost use lib.ListN.{length};
+ghost use Rattle.parts.specs.Parts.{atFront};
+ghost use Rattle.parts.specs.Compared.{sameBytes};
 ghost use Rattle.rules.specs.OneCycle.{sameVote};
 ghost use Rattle.frames.specs.Written.{formedVote};
-ghost use Rattle.frames.specs.Read.{faultCode, readHeartbeat, voteContent, readVote, receiveHeartbeat, receiveVote};
+ghost use Rattle.frames.specs.Read.{faultCode, payloadOf, driveOf, readHeartbeat, isGood, countedOn, receiveHeartbeat, voteContent, readVote, receiveVote};
 ghost use Rattle.frames.specs.Looked.{heartbeatOf};
+use frames::Copy;
 use frames::Fault;
+use frames::HeartbeatCounted;
 use frames::HeartbeatRead;
 use frames::HeartbeatReceived;
 use frames::Looked;
@@ -28,7 +32,7 @@ pub fn fault_code(f: Fault) -> u32
     }
 }
 
-// A heartbeat by its two payload bytes.
+// A heartbeat by its first word.
 fn heartbeat_of(a: u8, b: u8) -> HeartbeatRead
     ensures { λ r. ⌜ r ≡ heartbeatOf a b ⌝ }
 {
@@ -50,7 +54,7 @@ pub fn read_heartbeat(q: u32, cycle: u32, channel: u32, s: &[u8]) -> HeartbeatRe
     requires { ⌜ q < 64 ⌝ }
     ensures { λ r. ⌜ r ≡ readHeartbeat q cycle channel (now (s .entry)) ⌝ }
 {
-    match frame_checks::look(q + 1, 1, cycle, true, channel, s) {
+    match frame_checks::look(q + 1, cycle, true, channel, s) {
         Looked::Refused(f) => HeartbeatRead::Refused(f),
         Looked::Due => heartbeat_of(s[5], s[6]),
     }
@@ -105,33 +109,84 @@ pub fn read_vote(n: usize, q: u32, cycle: u32, channel: u32, s: &[u8]) -> VoteRe
     requires { ⌜ q < n ⌝ }
     ensures { λ r. ⌜ r ≡ readVote n q cycle channel (now (s .entry)) ⌝ }
 {
-    match frame_checks::look(q + 65, 14, cycle, false, channel, s) {
+    match frame_checks::look(q + 65, cycle, false, channel, s) {
         Looked::Refused(f) => VoteRead::Refused(f),
         Looked::Due => vote_content(n, q, s),
     }
 }
 
-// One good copy counts; two count if they say the same.
-pub fn receive_heartbeat(a: HeartbeatRead, b: HeartbeatRead) -> HeartbeatReceived
-    ensures { λ r. ⌜ r ≡ receiveHeartbeat a b ⌝ }
+fn is_good(r: HeartbeatRead) -> bool
+    ensures { λ x. ⌜ x ≡ isGood r ⌝ }
 {
-    match a {
-        HeartbeatRead::Alive => match b {
-            HeartbeatRead::Alive => HeartbeatReceived::Alive,
-            HeartbeatRead::Join => HeartbeatReceived::Missed,
-            HeartbeatRead::Refused(_) => HeartbeatReceived::Alive,
+    match r {
+        HeartbeatRead::Alive => true,
+        HeartbeatRead::Join => true,
+        HeartbeatRead::Refused(_) => false,
+    }
+}
+
+// What a copy gives that is the only one, or equal to the other.
+fn counted_on(copy: Copy, r: HeartbeatRead) -> HeartbeatCounted
+    ensures { λ x. ⌜ x ≡ countedOn copy r ⌝ }
+{
+    match r {
+        HeartbeatRead::Alive => HeartbeatCounted {
+            heard: HeartbeatReceived::Alive,
+            copy,
         },
-        HeartbeatRead::Join => match b {
-            HeartbeatRead::Alive => HeartbeatReceived::Missed,
-            HeartbeatRead::Join => HeartbeatReceived::Join,
-            HeartbeatRead::Refused(_) => HeartbeatReceived::Join,
+        HeartbeatRead::Join => HeartbeatCounted {
+            heard: HeartbeatReceived::Join,
+            copy,
         },
-        HeartbeatRead::Refused(_) => match b {
-            HeartbeatRead::Alive => HeartbeatReceived::Alive,
-            HeartbeatRead::Join => HeartbeatReceived::Join,
-            HeartbeatRead::Refused(_) => HeartbeatReceived::Missed,
+        HeartbeatRead::Refused(_) => HeartbeatCounted {
+            heard: HeartbeatReceived::Missed,
+            copy: Copy::Neither,
         },
     }
+}
+
+fn same_payload(a: &[u8], b: &[u8]) -> bool
+    requires { ⌜ 8 ≤ length (now a) ⌝ }
+    requires { ⌜ 8 ≤ length (now b) ⌝ }
+    ensures { λ r. ⌜ r ≡ sameBytes (payloadOf (now (a .entry))) (payloadOf (now (b .entry))) ⌝ }
+{
+    let end = a.len() - 3;
+    let other = b.len() - 3;
+    parts::same_bytes(&a[5..end], &b[5..other])
+}
+
+// The heartbeat of node q in a cycle, from both copies: one good copy counts; two count if their payloads are equal.
+pub fn receive_heartbeat(q: u32, cycle: u32, a: &[u8], b: &[u8]) -> HeartbeatCounted
+    requires { ⌜ q < 64 ⌝ }
+    ensures { λ r. ⌜ r ≡ receiveHeartbeat q cycle (now (a .entry)) (now (b .entry)) ⌝ }
+{
+    let on_a = read_heartbeat(q, cycle, 0, a);
+    let on_b = read_heartbeat(q, cycle, 1, b);
+    if !is_good(on_a) {
+        return counted_on(Copy::OnB, on_b);
+    }
+    if !is_good(on_b) {
+        return counted_on(Copy::OnA, on_a);
+    }
+    if !same_payload(a, b) {
+        return HeartbeatCounted {
+            heard: HeartbeatReceived::Missed,
+            copy: Copy::Neither,
+        };
+    }
+    counted_on(Copy::OnA, on_a)
+}
+
+// The drive bytes of a heartbeat, at the front of a buffer; how many they are.
+pub fn put_drive(s: &[u8], buffer: &mut [u8]) -> u32
+    requires { ⌜ 10 ≤ length (now s) ⌝ }
+    requires { ⌜ length (now s) ≤ 262 ⌝ }
+    requires { ⌜ length (now buffer) ≡ 252 ⌝ }
+    ensures { λ r. ⌜ r ≡ length (driveOf (now (s .entry))) ⌝ }
+    ensures { λ _. ⌜ now (buffer .exit) ≡ atFront (driveOf (now (s .entry))) (now (buffer .entry)) ⌝ }
+{
+    let end = s.len() - 3;
+    bytes::copy(&s[7..end], buffer) as u32
 }
 
 // Whether two votes say the same.

@@ -1,8 +1,10 @@
 // Heartbeat and vote frames, written.
 ghost use mathlib.Core.Path.{_≡_};
-ghost use Prim.Native.Nat.{_≤_, _<_};
+ghost use mathlib.Core.Bool.{false};
+ghost use Prim.Native.Nat.{_+_, _≤_, _<_};
+ghost use lib.ListN.{length};
 ghost use Rattle.bigendian.specs.BigEndian.{bytesOf};
-ghost use Rattle.frames.specs.Written.{header, heartbeatFrame, votePayload, voteFrame};
+ghost use Rattle.frames.specs.Written.{header, heartbeatFrame, wrongDrive, votePayload, voteFrame};
 use rules::Vote;
 
 // The five header bytes, as one number of 40 bits; its null frame bit is 1.
@@ -37,6 +39,17 @@ fn write3(x: u32) -> [u8; 3]
     ]
 }
 
+// Whether these drive bytes cannot be written: an odd number of them, or above 252.
+pub fn wrong_drive(drive: &[u8]) -> bool
+    ensures { λ r. ⌜ r ≡ wrongDrive (now (drive .entry)) ⌝ }
+{
+    if drive.len() % 2 == 1 {
+        return true;
+    }
+    252 < drive.len()
+}
+
+// A heartbeat with these drive bytes, into a buffer as long as it.
 pub fn write_heartbeat(
     q: u32,
     join: u32,
@@ -44,21 +57,25 @@ pub fn write_heartbeat(
     startup: u32,
     cycle: u32,
     channel: u32,
-) -> [u8; 10]
+    drive: &[u8],
+    frame: &mut [u8],
+)
     requires { ⌜ q < 64 ⌝ }
     requires { ⌜ join < 2 ⌝ }
     requires { ⌜ sync < 2 ⌝ }
     requires { ⌜ startup ≤ sync ⌝ }
     requires { ⌜ cycle < 64 ⌝ }
-    ensures { λ r. ⌜ r ≡ heartbeatFrame q join sync startup cycle channel ⌝ }
+    requires { ⌜ wrongDrive (now drive) ≡ false ⌝ }
+    requires { ⌜ length (now frame) ≡ 10 + length (now drive) ⌝ }
+    ensures { λ _. ⌜ now (frame .exit) ≡ heartbeatFrame q join sync startup cycle channel (now (drive .entry)) ⌝ }
 {
-    let h = header_bytes(sync, startup, q + 1, 1, cycle);
-    let mut f = [h[0], h[1], h[2], h[3], h[4], (join * 128) as u8, 0, 0, 0, 0];
-    let c = write3(crc::frame_check(crc::channel_start(channel), &f[..7]));
-    f[7] = c[0];
-    f[8] = c[1];
-    f[9] = c[2];
-    f
+    let words = 1 + (drive.len() / 2) as u32;
+    parts::put(frame, 0, &header_bytes(sync, startup, q + 1, words, cycle));
+    parts::put(frame, 5, &[(join * 128) as u8, 0]);
+    parts::put(frame, 7, drive);
+    let end = 7 + drive.len();
+    let check = crc::frame_check(crc::channel_start(channel), &frame[..end]);
+    parts::put(frame, end, &write3(check));
 }
 
 // The payload of a vote: G, M, B and V.

@@ -4,7 +4,7 @@ use mathlib.Core.Logic.{_⊎_, inl, inr}
 use mathlib.Core.Bool.{Bool, true, false, _&&_, cond}
 use mathlib.Core.List.{List, [], _∷_, _++_, append-assoc, append-nil}
 use mathlib.Core.Option.{Option, none, some}
-use Prim.Native.Nat.{ℕ, _+_, _-_, _*_, _%_, _^_, _≤_, _<_}
+use Prim.Native.Nat.{ℕ, _+_, _-_, _*_, _/_, _%_, _^_, _≤_, _<_}
 use native.Mathlib.Nat.{mod-lt}
 use native.Mathlib.Omega.{arith}
 use lib.Dec.{eqb, lit<}
@@ -12,7 +12,7 @@ use lib.ListN.{length, take, drop, getD, length-append, drop-of-length-le}
 use lib.Pow.{pow-pos, pow-mono}
 use lib.Bits.{and-le-r}
 use lib.Seq.{take-at, getD-at, drop-cons}
-use borrow.Author.Tests.{eq-eqb, eqb-false, le-leb, leb-true}
+use borrow.Author.Tests.{eq-eqb, ne-eqb, eqb-false, le-leb, leb-true}
 use Rattle.sets.specs.Sets.{has, subset, below, _∩_}
 use Rattle.sets.proofs.Booleans.{and-l, and-r, eqb-true}
 use Rattle.sets.proofs.Membership.{bit2}
@@ -26,10 +26,11 @@ use Rattle.frames.specs.declared.VoteRead.the-variants as vote
 use Rattle.frames.specs.declared.Fault.{Fault}
 use Rattle.frames.specs.declared.Fault.the-variants.{Content}
 use Rattle.frames.specs.declared.HeartbeatRead.{HeartbeatRead}
-use Rattle.frames.specs.Written.{header, frame, heartbeatFrame, votePayload, voteFrame, formedVote}
-use Rattle.frames.specs.Read.{syncOf, startupOf, wordsOf, faultOf, heartbeatIndicators, voteIndicators, heartbeatContent, heartbeatUnless, readHeartbeat, payloadVote, voteUnless, readVote}
-use Rattle.frames.proofs.Faults.{Clean, clean, clean-none, whole-length, all-five}
+use Rattle.frames.specs.Written.{header, frame, heartbeatFrame, wrongDrive, votePayload, voteFrame, formedVote}
+use Rattle.frames.specs.Read.{syncOf, startupOf, wordsOf, heartbeatWords, voteWords, faultOf, heartbeatIndicators, voteIndicators, driveOf, heartbeatContent, heartbeatUnless, readHeartbeat, payloadVote, voteUnless, readVote}
+use Rattle.frames.proofs.Faults.{Clean, clean, clean-none, vote-length, heartbeat-length, all-five}
 use Rattle.frames.proofs.Lengths.{length-header, length-frame, length-with, length-payload}
+use Rattle.frames.proofs.Payloads.{drive-bounds, drive-good, heartbeat-drive, length-drive, payload-split, payload-rest}
 use Rattle.frames.proofs.Headers.{word, Fields, word-lt, word-fields, fields-word}
 
 -- ---- the check at a frame's end
@@ -75,9 +76,9 @@ module _ (sync startup number words cycle channel : ℕ) (payload : List ℕ) (a
       (sym head)
       (word-fields sync startup number words (headerCheck sync startup number words) cycle a b c d (header-lt sync startup number words) e)
 
-  sent-clean : {indicators : Bool} → length payload ≡ 2 * words → indicators ≡ true
-      → Clean number words cycle indicators channel (sent sync startup number words cycle channel payload)
-  sent-clean l i =
+  sent-clean : {due indicators : Bool} → length payload ≡ 2 * words → due ≡ true → indicators ≡ true
+      → Clean number cycle due indicators channel (sent sync startup number words cycle channel payload)
+  sent-clean l o i =
       let f = sent-fields in
       let s = sent sync startup number words cycle channel payload in
       let n : length s ≡ 5 + 2 * words + 3 = length-with (channelStart channel) sync startup number words cycle (2 * words) payload l in
@@ -90,15 +91,15 @@ module _ (sync startup number words cycle channel : ℕ) (payload : List ℕ) (a
         reserved = f .reserved;
         preamble = f .preamble;
         numbered = f .numbered;
-        worded = f .worded;
         counted = f .counted;
+        worded = o;
         indicated = i;
       }
 
 -- ---- an accepted frame's header and check
 
-module _ (number words cycle : ℕ) (indicators : Bool) (channel : ℕ) (s : List ℕ) (bytes : Bytes s) (c : Clean number words cycle indicators channel s) where
-  taken-header : header (syncOf s) (startupOf s) number words cycle ++ drop 5 s ≡ s
+module _ (number cycle : ℕ) (due indicators : Bool) (channel : ℕ) (s : List ℕ) (bytes : Bytes s) (c : Clean number cycle due indicators channel s) where
+  taken-header : header (syncOf s) (startupOf s) number (wordsOf s) cycle ++ drop 5 s ≡ s
   unfolding header
   taken-header =
       let l : 0 + 5 ≤ length s = let z = c .sized in omega arith in
@@ -108,8 +109,8 @@ module _ (number words cycle : ℕ) (indicators : Bool) (channel : ℕ) (s : Lis
       (syncOf s)
       (startupOf s)
       number
-      words
-      (headerCheck (syncOf s) (startupOf s) number words)
+      (wordsOf s)
+      (headerCheck (syncOf s) (startupOf s) number (wordsOf s))
       cycle
       (numberAt s 0 5)
       (number-lt s 0 5 bytes)
@@ -120,17 +121,16 @@ module _ (number words cycle : ℕ) (indicators : Bool) (channel : ℕ) (s : Lis
         synced = refl;
         started = refl;
         numbered = c .numbered;
-        worded = c .worded;
-        checked = c .checked ∙ ap₂ (headerCheck (syncOf s) (startupOf s)) (c .numbered) (c .worded);
+        worded = refl;
+        checked = c .checked ∙ ap (λ (x : ℕ). headerCheck (syncOf s) (startupOf s) x (wordsOf s)) (c .numbered);
         counted = c .counted;
       }))
       ∙ bytes-rest s 0 5 bytes l
 
   -- with p in front of the check, and as long as the length field says
-  taken-frame : (p : List ℕ) → length p ≡ 5 + 2 * words → p ++ drop (length p) s ≡ s → s ≡ frame (channelStart channel) p
+  taken-frame : (p : List ℕ) → length p ≡ 5 + 2 * wordsOf s → p ++ drop (length p) s ≡ s → s ≡ frame (channelStart channel) p
   unfolding frame
   taken-frame p k e =
-      let w = c .worded in
       let z = c .sized in
       let i : length s - 3 ≡ length p = omega arith in
       let l : length p + 3 ≤ length s = omega arith in
@@ -149,17 +149,19 @@ module _ (number words cycle : ℕ) (indicators : Bool) (channel : ℕ) (s : Lis
 abbrev pub joinAnswer : ℕ → HeartbeatRead
 joinAnswer join = cond (eqb join 0) beat.Alive beat.Join
 
-module _ (start : ℕ) (h : List ℕ) (a : ℕ) (l : length h ≡ 5) where
-  first-byte : getD (frame start (h ++ (a ∷ 0 ∷ []))) 5 0 ≡ a
-  unfolding frame
-  first-byte = rw append-assoc (getD-at h a (0 ∷ bytesOf 3 (frameCheck start (h ++ (a ∷ 0 ∷ [])))) 0 5 l)
+module _ (start : ℕ) (h : List ℕ) (a : ℕ) (drive : List ℕ) (l : length h ≡ 5) where
+  abbrev check : List ℕ
+  check = bytesOf 3 (frameCheck start (h ++ (a ∷ 0 ∷ drive)))
 
-  second-byte : getD (frame start (h ++ (a ∷ 0 ∷ []))) 6 0 ≡ 0
+  first-byte : getD (frame start (h ++ (a ∷ 0 ∷ drive))) 5 0 ≡ a
+  unfolding frame
+  first-byte = rw append-assoc (getD-at h a (0 ∷ (drive ++ check)) 0 5 l)
+
+  second-byte : getD (frame start (h ++ (a ∷ 0 ∷ drive))) 6 0 ≡ 0
   unfolding frame
   second-byte =
-      let t = bytesOf 3 (frameCheck start (h ++ (a ∷ 0 ∷ []))) in
-      let e : (h ++ (a ∷ 0 ∷ [])) ++ t ≡ (h ++ (a ∷ [])) ++ (0 ∷ t) = simp append-assoc in
-      ap (λ (s : List ℕ). getD s 6 0) e ∙ getD-at (h ++ (a ∷ [])) 0 t 0 6 (simp (length-append, l))
+      let e : (h ++ (a ∷ 0 ∷ drive)) ++ check ≡ (h ++ (a ∷ [])) ++ (0 ∷ (drive ++ check)) = simp append-assoc in
+      ap (λ (s : List ℕ). getD s 6 0) e ∙ getD-at (h ++ (a ∷ [])) 0 (drive ++ check) 0 6 (simp (length-append, l))
 
 content-back : (join : ℕ) (s : List ℕ) → join < 2 → getD s 5 0 ≡ join * 2 ^ 7 → getD s 6 0 ≡ 0 → heartbeatContent s ≡ joinAnswer join
 content-back join s l a b = go (bit2 join l)
@@ -168,21 +170,35 @@ content-back join s l a b = go (bit2 join l)
     go (inl e) = rw (a, b, e)
     go (inr e) = rw (a, b, e)
 
-pub heartbeat-back : (q join sync startup cycle channel : ℕ) → q < 64 → join < 2 → sync < 2 → startup ≤ sync → cycle < 64
-    → readHeartbeat q cycle channel (heartbeatFrame q join sync startup cycle channel) ≡ joinAnswer join
+-- the length field of a heartbeat with such drive bytes
+words-fit : (drive : List ℕ) → wrongDrive drive ≡ false → (1 + length drive / 2 < 2 ^ 7) × (2 + length drive ≡ 2 * (1 + length drive / 2))
+words-fit drive e = let b = drive-bounds drive e in (omega arith, omega arith)
+
+-- what is written is read as the same join bit and the same drive bytes
+pub heartbeat-back : (q join sync startup cycle channel : ℕ) (drive : List ℕ) → q < 64 → join < 2 → sync < 2 → startup ≤ sync → cycle < 64
+    → wrongDrive drive ≡ false
+    → let s = heartbeatFrame q join sync startup cycle channel drive in
+    (readHeartbeat q cycle channel s ≡ joinAnswer join) × (driveOf s ≡ drive)
 unfolding readHeartbeat heartbeatFrame
-heartbeat-back q join sync startup cycle channel hq hj hs ht hc =
-    let payload : List ℕ = join * 2 ^ 7 ∷ 0 ∷ [] in
-    let s = sent sync startup (q + 1) 1 cycle channel payload in
+heartbeat-back q join sync startup cycle channel drive hq hj hs ht hc hd =
+    let words = 1 + length drive / 2 in
+    let payload : List ℕ = join * 2 ^ 7 ∷ 0 ∷ drive in
+    let s = sent sync startup (q + 1) words cycle channel payload in
     let b : startup < 2 = omega arith in
     let n : q + 1 < 2 ^ 11 = omega arith in
-    let f = sent-fields sync startup (q + 1) 1 cycle channel payload hs b n (lit< tt) hc in
+    let w = words-fit drive hd in
+    let k : length payload ≡ 2 * words = let e = w .1 in omega arith in
+    let f = sent-fields sync startup (q + 1) words cycle channel payload hs b n (w .0) hc in
+    let some : words ≡ 0 → ⊥ = λ x. omega (arith, x) in
+    let o : heartbeatWords s ≡ true = rw (f .worded, ne-eqb words 0 some) in
     let i : heartbeatIndicators s ≡ true = rw (f .synced, f .started) (le-leb startup sync ht) in
-    let c = sent-clean sync startup (q + 1) 1 cycle channel payload hs b n (lit< tt) hc refl i in
-    let h = header sync startup (q + 1) 1 cycle in
-    let l : length h ≡ 5 = length-header sync startup (q + 1) 1 cycle in
-    rw (clean-none (q + 1) 1 cycle (heartbeatIndicators s) channel s c)
-    (content-back join s hj (first-byte _ h (join * 2 ^ 7) l) (second-byte _ h (join * 2 ^ 7) l))
+    let c = sent-clean sync startup (q + 1) words cycle channel payload hs b n (w .0) hc k o i in
+    let h = header sync startup (q + 1) words cycle in
+    let l : length h ≡ 5 = length-header sync startup (q + 1) words cycle in (
+      rw (clean-none (q + 1) cycle (heartbeatWords s) (heartbeatIndicators s) channel s c)
+          (content-back join s hj (first-byte _ h (join * 2 ^ 7) drive l) (second-byte _ h (join * 2 ^ 7) drive l)),
+      heartbeat-drive q join sync startup cycle channel drive,
+    )
 
 -- an answer that is no refusal
 not-refused : (f : Fault) (t : Bool) → beat.Refused f ≡ cond t beat.Alive beat.Join → ⊥
@@ -217,24 +233,40 @@ taken-content none join s l b e =
     let p = picked (eqb (getD s 5 0 % 2 ^ 7) 0) (eqb (getD s 6 0) 0) (eqb (getD s 5 0) 0) (eqb join 0) e in
     (refl, join-byte (getD s 5 0) join (b 5) l (eqb-true (p .0)) (p .2), eqb-true (p .1))
 
+-- a heartbeat that is accepted is, byte for byte, the one that would be written from its join bit, indicators and drive bytes
 pub heartbeat-only : (q join cycle channel : ℕ) (s : List ℕ) → join < 2 → Bytes s → readHeartbeat q cycle channel s ≡ joinAnswer join
-    → (startupOf s ≤ syncOf s) × (s ≡ heartbeatFrame q join (syncOf s) (startupOf s) cycle channel)
+    → (startupOf s ≤ syncOf s) × (wrongDrive (driveOf s) ≡ false) × (s ≡ heartbeatFrame q join (syncOf s) (startupOf s) cycle channel (driveOf s))
 unfolding readHeartbeat heartbeatFrame
 heartbeat-only q join cycle channel s l b e =
-    let p = taken-content (faultOf (q + 1) 1 cycle (heartbeatIndicators s) channel s) join s l b e in
-    let c = clean (q + 1) 1 cycle (heartbeatIndicators s) channel s (p .0) in
-    let n : length s ≡ 10 = whole-length (q + 1) 1 cycle (heartbeatIndicators s) channel s (p .0) in
-    let h = header (syncOf s) (startupOf s) (q + 1) 1 cycle in
-    let k : length (h ++ (join * 2 ^ 7 ∷ 0 ∷ [])) ≡ 7 = simp (length-append, length-header (syncOf s) (startupOf s) (q + 1) 1 cycle) in
-    let five : 5 < length s = omega arith in
-    let six : 6 < length s = omega arith in
-    let r : (join * 2 ^ 7 ∷ 0 ∷ []) ++ drop 7 s ≡ drop 5 s =
-    ap₂ (λ (x y : ℕ). x ∷ y ∷ drop 7 s) (sym (p .1)) (sym (p .2)) ∙ ap (λ (x : List ℕ). getD s 5 0 ∷ x) (sym (drop-cons s 6 0 six)) ∙ sym (drop-cons s 5 0 five) in
-    let w : (h ++ (join * 2 ^ 7 ∷ 0 ∷ [])) ++ drop 7 s ≡ s =
-    append-assoc h (join * 2 ^ 7 ∷ 0 ∷ []) (drop 7 s) ∙ ap (λ (x : List ℕ). h ++ x) r ∙ taken-header (q + 1) 1 cycle (heartbeatIndicators s) channel s b c in (
+    let p = taken-content (faultOf (q + 1) cycle (heartbeatWords s) (heartbeatIndicators s) channel s) join s l b e in
+    let c = clean (q + 1) cycle (heartbeatWords s) (heartbeatIndicators s) channel s (p .0) in
+    let n = heartbeat-length (q + 1) cycle (heartbeatIndicators s) channel s (p .0) in
+    let d = length-drive s (n .0) in
+    let z = c .sized in
+    let w : 1 + length (driveOf s) / 2 ≡ wordsOf s = omega arith in
+    let h = header (syncOf s) (startupOf s) (q + 1) (1 + length (driveOf s) / 2) cycle in
+    let m : List ℕ = join * 2 ^ 7 ∷ 0 ∷ driveOf s in
+    let k : length (h ++ m) ≡ length s - 3 = let a = length-append h m in let x = length-header (syncOf s) (startupOf s) (q + 1) (1 + length (driveOf s) / 2) cycle in omega arith in
+    let v : length (h ++ m) ≡ 5 + 2 * wordsOf s = omega arith in
+    let r : m ++ drop (length s - 3) s ≡ drop 5 s =
+    ap₂ (λ (x y : ℕ). (x ∷ y ∷ driveOf s) ++ drop (length s - 3) s) (sym (p .1)) (sym (p .2)) ∙ ap (λ (x : List ℕ). x ++ drop (length s - 3) s) (sym (payload-split s (n .0))) ∙ payload-rest s (n .0) in
+    let t : h ++ drop 5 s ≡ s =
+    ap (λ (x : ℕ). header (syncOf s) (startupOf s) (q + 1) x cycle ++ drop 5 s) w ∙ taken-header (q + 1) cycle (heartbeatWords s) (heartbeatIndicators s) channel s b c in
+    let o : (h ++ m) ++ drop (length s - 3) s ≡ s = append-assoc h m (drop (length s - 3) s) ∙ ap (λ (x : List ℕ). h ++ x) r ∙ t in
+    let even : length (driveOf s) % 2 ≡ 0 = omega (arith, n .2) in
+    let most : length (driveOf s) ≤ 252 = omega (arith, n .1) in (
       leb-true (startupOf s) (syncOf s) (c .indicated),
-      taken-frame (q + 1) 1 cycle (heartbeatIndicators s) channel s b c (h ++ (join * 2 ^ 7 ∷ 0 ∷ [])) k (ap (λ (x : ℕ). (h ++ (join * 2 ^ 7 ∷ 0 ∷ [])) ++ drop x s) k ∙ w),
+      drive-good (driveOf s) even most,
+      taken-frame (q + 1) cycle (heartbeatWords s) (heartbeatIndicators s) channel s b c (h ++ m) v (ap (λ (x : ℕ). (h ++ m) ++ drop x s) k ∙ o),
     )
+
+-- with no drive bytes the frame is that of paper 01, one word with the join bit and nothing else; and a frame of one word is read as there, where any other length was refused
+pub no-drive : (q join sync startup cycle channel : ℕ)
+    → (heartbeatFrame q join sync startup cycle channel [] ≡ frame (channelStart channel) (header sync startup (q + 1) 1 cycle ++ (join * 2 ^ 7 ∷ 0 ∷ [])))
+    × ((s : List ℕ) → wordsOf s ≡ 1
+    → readHeartbeat q cycle channel s ≡ heartbeatUnless (faultOf (q + 1) cycle (eqb (wordsOf s) 1) (heartbeatIndicators s) channel s) s)
+unfolding heartbeatFrame readHeartbeat
+no-drive q join sync startup cycle channel = (refl, λ s e. rw e)
 
 -- ---- votes
 
@@ -313,11 +345,12 @@ vote-back n q v cycle channel hn hq hc hg e =
     let b : q + 65 < 2 ^ 11 = omega arith in
     let k : length (votePayload v) ≡ 2 * 14 = length-payload v in
     let f = sent-fields 0 0 (q + 65) 14 cycle channel (votePayload v) (lit< tt) (lit< tt) b (lit< tt) hc in
+    let o : voteWords s ≡ true = rw (f .worded) in
     let i : voteIndicators s ≡ true = rw (f .synced, f .started) in
-    let c = sent-clean 0 0 (q + 65) 14 cycle channel (votePayload v) (lit< tt) (lit< tt) b (lit< tt) hc k i in
+    let c = sent-clean 0 0 (q + 65) 14 cycle channel (votePayload v) (lit< tt) (lit< tt) b (lit< tt) hc k o i in
     let z = formed-fits n q v hn e in
     let p : payloadVote s ≡ v = payload-back _ (header 0 0 (q + 65) 14 cycle) v (length-header 0 0 (q + 65) 14 cycle) hg (z .0) (z .1) (z .2) in
-    ap (λ (o : Option Fault). voteUnless o n q s) (clean-none (q + 65) 14 cycle (voteIndicators s) channel s c)
+    ap (λ (o : Option Fault). voteUnless o n q s) (clean-none (q + 65) cycle (voteWords s) (voteIndicators s) channel s c)
     ∙ ap (λ (w : Vote). cond (formedVote n q w) (vote.Whole w) (vote.Refused Content)) p
     ∙ ap (λ (t : Bool). cond t (vote.Whole v) (vote.Refused Content)) e
 
@@ -330,9 +363,9 @@ taken-vote none n q s v e = (refl, go (formedVote n q (payloadVote s)) (payloadV
     go true w h = cc
     go false w h = absurd (let z : _≡_ {A = ℕ} 0 1 = cc in omega arith)
 
-payload-rest : (s : List ℕ) → Bytes s → 33 ≤ length s → votePayload (payloadVote s) ++ drop 33 s ≡ drop 5 s
+vote-rest : (s : List ℕ) → Bytes s → 33 ≤ length s → votePayload (payloadVote s) ++ drop 33 s ≡ drop 5 s
 unfolding votePayload
-payload-rest s b l =
+vote-rest s b l =
     let l9 : 5 + 4 ≤ length s = omega arith in
     let l17 : 9 + 8 ≤ length s = omega arith in
     let l25 : 17 + 8 ≤ length s = omega arith in
@@ -345,17 +378,19 @@ payload-rest s b l =
 pub vote-only : (n q : ℕ) (v : Vote) (cycle channel : ℕ) (s : List ℕ) → Bytes s → readVote n q cycle channel s ≡ vote.Whole v → s ≡ voteFrame q v cycle channel
 unfolding readVote voteFrame
 vote-only n q v cycle channel s b e =
-    let p = taken-vote (faultOf (q + 65) 14 cycle (voteIndicators s) channel s) n q s v e in
-    let c = clean (q + 65) 14 cycle (voteIndicators s) channel s (p .0) in
-    let n : length s ≡ 36 = whole-length (q + 65) 14 cycle (voteIndicators s) channel s (p .0) in
+    let p = taken-vote (faultOf (q + 65) cycle (voteWords s) (voteIndicators s) channel s) n q s v e in
+    let c = clean (q + 65) cycle (voteWords s) (voteIndicators s) channel s (p .0) in
+    let n : length s ≡ 36 = vote-length (q + 65) cycle (voteIndicators s) channel s (p .0) in
     let l : 33 ≤ length s = omega arith in
+    let o : wordsOf s ≡ 14 = eqb-true (c .worded) in
     let y : syncOf s ≡ 0 = eqb-true (and-l (eqb (syncOf s) 0) (eqb (startupOf s) 0) (c .indicated)) in
     let z : startupOf s ≡ 0 = eqb-true (and-r (eqb (syncOf s) 0) (eqb (startupOf s) 0) (c .indicated)) in
     let h = header 0 0 (q + 65) 14 cycle in
     let m = votePayload v in
     let k : length (h ++ m) ≡ 33 = simp (length-append, length-header 0 0 (q + 65) 14 cycle, length-payload v) in
-    let r : m ++ drop 33 s ≡ drop 5 s = ap (λ (x : Vote). votePayload x ++ drop 33 s) (sym (p .1)) ∙ payload-rest s b l in
+    let r : m ++ drop 33 s ≡ drop 5 s = ap (λ (x : Vote). votePayload x ++ drop 33 s) (sym (p .1)) ∙ vote-rest s b l in
     let t : h ++ drop 5 s ≡ s =
-    ap₂ (λ (x y : ℕ). header x y (q + 65) 14 cycle ++ drop 5 s) (sym y) (sym z) ∙ taken-header (q + 65) 14 cycle (voteIndicators s) channel s b c in
+    (λ i. header (sym y i) (sym z i) (q + 65) (sym o i) cycle ++ drop 5 s) ∙ taken-header (q + 65) cycle (voteWords s) (voteIndicators s) channel s b c in
+    let len : length (h ++ m) ≡ 5 + 2 * wordsOf s = omega arith in
     let w : (h ++ m) ++ drop 33 s ≡ s = append-assoc h m (drop 33 s) ∙ ap (λ (x : List ℕ). h ++ x) r ∙ t in
-    taken-frame (q + 65) 14 cycle (voteIndicators s) channel s b c (h ++ m) k (ap (λ (x : ℕ). (h ++ m) ++ drop x s) k ∙ w)
+    taken-frame (q + 65) cycle (voteWords s) (voteIndicators s) channel s b c (h ++ m) len (ap (λ (x : ℕ). (h ++ m) ++ drop x s) k ∙ w)

@@ -1,4 +1,4 @@
--- What the parts of a reader answer: the indicators that are due in each kind of frame, a heartbeat by its two payload bytes, refusals 8 and 9, and the
+-- What the parts of a reader answer: the lengths and indicators that are due in each kind of frame, a heartbeat by its first word, refusals 8 and 9, and the
 -- refusals as an answer.
 -- Assumes nothing.
 use mathlib.Core.Bool.{Bool, true, false, _&&_, cond}
@@ -12,9 +12,13 @@ use Rattle.frames.specs.declared.HeartbeatRead.{HeartbeatRead}
 use Rattle.frames.specs.declared.HeartbeatRead.the-variants as beat
 use Rattle.frames.specs.declared.Looked.{Looked}
 use Rattle.frames.specs.declared.Looked.the-variants as look
-use Rattle.frames.specs.Read.{isNull, isDue, heartbeatIndicators, voteIndicators}
+use Rattle.frames.specs.Read.{isNull, isDue, heartbeatWords, voteWords, heartbeatIndicators, voteIndicators}
 
 -- of a heartbeat, or else of a vote
+unfoldable pub wordsDue : Bool → List ℕ → Bool
+wordsDue true s = heartbeatWords s
+wordsDue false s = voteWords s
+
 unfoldable pub indicatorsOf : Bool → List ℕ → Bool
 indicatorsOf true s = heartbeatIndicators s
 indicatorsOf false s = voteIndicators s
@@ -23,8 +27,8 @@ unfoldable pub heartbeatOf : ℕ → ℕ → HeartbeatRead
 heartbeatOf a b = cond (eqb (a % 2 ^ 7) 0 && eqb b 0) (cond (eqb a 0) beat.Alive beat.Join) (beat.Refused Content)
 
 -- refusals 8 and 9
-unfoldable pub dueFault : ℕ → ℕ → ℕ → Bool → List ℕ → Option Fault
-dueFault number words cycle indicators s = cond (isNull s) (some NullFrame) (cond (isDue number words cycle s && indicators) none (some NotDue))
+unfoldable pub dueFault : ℕ → ℕ → Bool → Bool → List ℕ → Option Fault
+dueFault number cycle words indicators s = cond (isNull s) (some NullFrame) (cond (isDue number cycle s && words && indicators) none (some NotDue))
 
 abbrev pub looked : Option Fault → Looked
 looked none = look.Due

@@ -6,23 +6,32 @@
 --     numberOf, wordsOf, checkOf, cycleOf: its frame number, payload length in words, header check and cycle count
 --     wrongLength, wrongHeader, wrongFrame: whether refusal 5, 6, 7 holds
 --     isNull: whether it is a null frame (8)
---     isDue: whether number, length, cycle count and reserved bits are those that are due (9)
+--     isDue: whether number, cycle count and reserved bits are those that are due (9)
+--     heartbeatWords, voteWords: whether the length is one that is due (9)
 --     heartbeatIndicators, voteIndicators: whether sync and startup are as they may be (9)
 --     faultOf: the first refusal of 5 to 9 that holds
---     heartbeatContent: what the payload of a heartbeat says, or refusal 10
+--     payloadOf: what stands between header and frame check
+--     driveOf: the drive's part of a heartbeat's payload
+--     heartbeatContent: what the first word of a heartbeat says, or refusal 10
 --     heartbeatUnless: the same, unless the frame is refused
 --     readHeartbeat: the heartbeat of node q from one copy
 --     payloadVote: the vote in a payload
 --     voteContent: it, if it is well formed, or refusal 10
 --     voteUnless: the same, unless the frame is refused
 --     readVote: the vote of node q from one copy
+--     isGood: whether a copy was read and not refused
+--     countedOn: what a copy gives that is the only one, or equal to the other
+--     countedOf: what two copies give, by what was read in each and whether their payloads are equal
 --     receiveHeartbeat, receiveVote: what two copies give
-use mathlib.Core.Bool.{Bool, not, _&&_, _||_, cond}
-use mathlib.Core.List.{List}
+--     driveCounted: the drive bytes of the copy that counts
+--     driveHeard: those of two copies
+use mathlib.Core.Bool.{Bool, true, false, not, _&&_, _||_, cond}
+use mathlib.Core.List.{List, []}
 use mathlib.Core.Option.{Option, none, some}
 use Prim.Native.Nat.{ℕ, _+_, _-_, _*_, _/_, _%_, _^_}
 use lib.Dec.{eqb, ltb, leb}
-use lib.ListN.{getD, length, take}
+use lib.ListN.{getD, length, take, drop}
+use Rattle.parts.specs.Compared.{sameBytes}
 use Rattle.bigendian.specs.BigEndian.{numberAt}
 use Rattle.crc.specs.Crc.{headerCheck, frameCheck, channelStart}
 use Rattle.rules.specs.declared.Vote.{Vote}
@@ -35,6 +44,9 @@ use Rattle.frames.specs.declared.VoteRead.{VoteRead}
 use Rattle.frames.specs.declared.VoteRead.the-variants as vote
 use Rattle.frames.specs.declared.HeartbeatReceived.{HeartbeatReceived}
 use Rattle.frames.specs.declared.HeartbeatReceived.the-variants as beats
+use Rattle.frames.specs.declared.Copy.{Copy}
+use Rattle.frames.specs.declared.Copy.the-variants.{Neither, OnA, OnB}
+use Rattle.frames.specs.declared.HeartbeatCounted.{HeartbeatCounted}
 use Rattle.frames.specs.declared.VoteReceived.{VoteReceived}
 use Rattle.frames.specs.declared.VoteReceived.the-variants as votes
 use Rattle.frames.specs.Written.{formedVote}
@@ -100,9 +112,15 @@ unfoldable pub isNull : List ℕ → Bool
 isNull s = eqb (nullOf s) 0
 
 -- "9: another frame number, cycle count, payload length, indicator or reserved bit than due."
-unfoldable pub isDue : ℕ → ℕ → ℕ → List ℕ → Bool
-isDue number words cycle s =
-    eqb (reservedOf s) 0 && eqb (preambleOf s) 0 && eqb (numberOf s) number && eqb (wordsOf s) words && eqb (cycleOf s) cycle
+unfoldable pub isDue : ℕ → ℕ → List ℕ → Bool
+isDue number cycle s = eqb (reservedOf s) 0 && eqb (preambleOf s) 0 && eqb (numberOf s) number && eqb (cycleOf s) cycle
+
+-- Request 2: "Of a heartbeat's lengths refusal 9 now covers only 0"; "14 words"
+abbrev pub heartbeatWords : List ℕ → Bool
+heartbeatWords s = not (eqb (wordsOf s) 0)
+
+abbrev pub voteWords : List ℕ → Bool
+voteWords s = eqb (wordsOf s) 14
 
 -- "startup only with sync"; "sync and startup 0"
 abbrev pub heartbeatIndicators : List ℕ → Bool
@@ -112,15 +130,24 @@ abbrev pub voteIndicators : List ℕ → Bool
 voteIndicators s = eqb (syncOf s) 0 && eqb (startupOf s) 0
 
 -- the first of 5 to 9 that holds of s
-unfoldable pub faultOf : ℕ → ℕ → ℕ → Bool → ℕ → List ℕ → Option Fault
-faultOf number words cycle indicators channel s =
+unfoldable pub faultOf : ℕ → ℕ → Bool → Bool → ℕ → List ℕ → Option Fault
+faultOf number cycle words indicators channel s =
     cond (wrongLength s) (some Length)
     (cond (wrongHeader s) (some HeaderCheck)
     (cond (wrongFrame channel s) (some FrameCheck)
     (cond (isNull s) (some NullFrame)
-    (cond (isDue number words cycle s && indicators) none (some NotDue)))))
+    (cond (isDue number cycle s && words && indicators) none (some NotDue)))))
 
--- ---- heartbeats: "bit 7 of the first byte is join, all else 0"; "10: heartbeat bits that must be 0"
+-- ---- payloads: "Five header bytes"; "Then payload, then 24 check bits."
+
+unfoldable pub payloadOf : List ℕ → List ℕ
+payloadOf s = take (length s - 8) (drop 5 s)
+
+-- Request 2: "the first is ours, the others belong to the drive"
+unfoldable pub driveOf : List ℕ → List ℕ
+driveOf s = drop 2 (payloadOf s)
+
+-- ---- heartbeats: "bit 7 of the first byte is join, all else 0"; "10: heartbeat bits that must be 0". Request 2: "10 looks at the first word alone"
 
 abbrev pub heartbeatContent : List ℕ → HeartbeatRead
 heartbeatContent s = cond (eqb (getD s 5 0 % 2 ^ 7) 0 && eqb (getD s 6 0) 0) (cond (eqb (getD s 5 0) 0) beat.Alive beat.Join) (beat.Refused Content)
@@ -131,7 +158,7 @@ heartbeatUnless (some f) s = beat.Refused f
 
 -- the heartbeat of node q in a cycle, from the copy on a channel
 unfoldable pub readHeartbeat : ℕ → ℕ → ℕ → List ℕ → HeartbeatRead
-readHeartbeat q cycle channel s = heartbeatUnless (faultOf (q + 1) 1 cycle (heartbeatIndicators s) channel s) s
+readHeartbeat q cycle channel s = heartbeatUnless (faultOf (q + 1) cycle (heartbeatWords s) (heartbeatIndicators s) channel s) s
 
 -- ---- votes
 
@@ -147,21 +174,37 @@ voteUnless none n q s = voteContent n q s
 voteUnless (some f) n q s = vote.Refused f
 
 unfoldable pub readVote : ℕ → ℕ → ℕ → ℕ → List ℕ → VoteRead
-readVote n q cycle channel s = voteUnless (faultOf (q + 65) 14 cycle (voteIndicators s) channel s) n q s
+readVote n q cycle channel s = voteUnless (faultOf (q + 65) cycle (voteWords s) (voteIndicators s) channel s) n q s
 
--- ---- "A unit reads both channels. One good copy counts; two good copies count if their payloads are equal, else the frame is missed." A good heartbeat's
--- payload is its join bit.
+-- ---- "A unit reads both channels. One good copy counts; two good copies count if their payloads are equal, else the frame is missed." Request 2: "Two good copies
+-- with different drive data are still a missed frame."
 
-abbrev pub receiveHeartbeat : HeartbeatRead → HeartbeatRead → HeartbeatReceived
-receiveHeartbeat beat.Alive beat.Alive = beats.Alive
-receiveHeartbeat beat.Alive beat.Join = beats.Missed
-receiveHeartbeat beat.Alive (beat.Refused f) = beats.Alive
-receiveHeartbeat beat.Join beat.Alive = beats.Missed
-receiveHeartbeat beat.Join beat.Join = beats.Join
-receiveHeartbeat beat.Join (beat.Refused f) = beats.Join
-receiveHeartbeat (beat.Refused f) beat.Alive = beats.Alive
-receiveHeartbeat (beat.Refused f) beat.Join = beats.Join
-receiveHeartbeat (beat.Refused f) (beat.Refused g) = beats.Missed
+abbrev pub isGood : HeartbeatRead → Bool
+isGood beat.Alive = true
+isGood beat.Join = true
+isGood (beat.Refused f) = false
+
+abbrev pub countedOn : Copy → HeartbeatRead → HeartbeatCounted
+countedOn copy beat.Alive = record { heard = beats.Alive; copy = copy }
+countedOn copy beat.Join = record { heard = beats.Join; copy = copy }
+countedOn copy (beat.Refused f) = record { heard = beats.Missed; copy = Neither }
+
+abbrev pub countedOf : HeartbeatRead → HeartbeatRead → Bool → HeartbeatCounted
+countedOf a b equal =
+    cond (isGood a) (cond (isGood b && not equal) (record { heard = beats.Missed; copy = Neither }) (countedOn OnA a)) (countedOn OnB b)
+
+-- what comes of the copies a on channel A and b on channel B of a heartbeat of node q
+unfoldable pub receiveHeartbeat : ℕ → ℕ → List ℕ → List ℕ → HeartbeatCounted
+receiveHeartbeat q cycle a b = countedOf (readHeartbeat q cycle 0 a) (readHeartbeat q cycle 1 b) (sameBytes (payloadOf a) (payloadOf b))
+
+-- the drive bytes with it, none where it is missed
+abbrev pub driveCounted : Copy → List ℕ → List ℕ → List ℕ
+driveCounted Neither a b = []
+driveCounted OnA a b = driveOf a
+driveCounted OnB a b = driveOf b
+
+unfoldable pub driveHeard : ℕ → ℕ → List ℕ → List ℕ → List ℕ
+driveHeard q cycle a b = driveCounted (receiveHeartbeat q cycle a b .copy) a b
 
 abbrev pub receiveVote : VoteRead → VoteRead → VoteReceived
 receiveVote (vote.Whole v) (vote.Whole w) = cond (sameVote v w) (votes.Whole v) votes.Missed

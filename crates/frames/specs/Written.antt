@@ -1,9 +1,10 @@
 -- Paper 01, "Frames": heartbeat and vote frames as they are written.
 -- Assumes nothing.
-use mathlib.Core.Bool.{Bool, _&&_}
-use mathlib.Core.List.{List, [], _∷_, _++_}
-use Prim.Native.Nat.{ℕ, _+_, _*_, _^_}
-use lib.Dec.{eqb}
+use mathlib.Core.Bool.{Bool, _&&_, _||_}
+use mathlib.Core.List.{List, _∷_, _++_}
+use Prim.Native.Nat.{ℕ, _+_, _*_, _/_, _%_, _^_}
+use lib.Dec.{eqb, ltb}
+use lib.ListN.{length}
 use Rattle.sets.specs.Sets.{has, subset, below}
 use Rattle.bigendian.specs.BigEndian.{bytesOf}
 use Rattle.crc.specs.Crc.{headerCheck, frameCheck, channelStart}
@@ -19,9 +20,15 @@ header sync startup number words cycle =
 unfoldable pub frame : ℕ → List ℕ → List ℕ
 frame start s = s ++ bytesOf 3 (frameCheck start s)
 
--- "Heartbeat of node q: frame number q+1, one word; bit 7 of the first byte is join, all else 0; sync and startup free, but startup only with sync."
-unfoldable pub heartbeatFrame : ℕ → ℕ → ℕ → ℕ → ℕ → ℕ → List ℕ
-heartbeatFrame q join sync startup cycle channel = frame (channelStart channel) (header sync startup (q + 1) 1 cycle ++ (join * 2 ^ 7 ∷ 0 ∷ []))
+-- "Heartbeat of node q: frame number q+1, one word; bit 7 of the first byte is join, all else 0; sync and startup free, but startup only with sync." Request 2: "A
+-- heartbeat may now have 1 to 127 words; the first is ours, the others belong to the drive."
+unfoldable pub heartbeatFrame : ℕ → ℕ → ℕ → ℕ → ℕ → ℕ → List ℕ → List ℕ
+heartbeatFrame q join sync startup cycle channel drive =
+    frame (channelStart channel) (header sync startup (q + 1) (1 + length drive / 2) cycle ++ (join * 2 ^ 7 ∷ 0 ∷ drive))
+
+-- Request 2: "Drive bytes to be written, if odd in number or above 252, give 3."
+unfoldable pub wrongDrive : List ℕ → Bool
+wrongDrive drive = eqb (length drive % 2) 1 || ltb 252 (length drive)
 
 -- "Vote: frame number q+65, 14 words: G (4 bytes), M, B, V; sync and startup 0."
 unfoldable pub votePayload : Vote → List ℕ

@@ -31,6 +31,19 @@ pub enum HeartbeatReceived {
     Join,
 }
 
+// Which of the two copies of a heartbeat counts.
+pub enum Copy {
+    Neither,
+    OnA,
+    OnB,
+}
+
+// What comes of the two copies of a heartbeat, and whose drive bytes count.
+pub struct HeartbeatCounted {
+    pub heard: HeartbeatReceived,
+    pub copy: Copy,
+}
+
 // What comes of the two copies of a vote.
 pub enum VoteReceived {
     Missed,

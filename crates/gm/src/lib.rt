@@ -9,7 +9,8 @@ ghost use Rattle.entry_state.specs.Apart.{kindLeft, reasonLeft, nodeLeft, count
 ghost use Rattle.entry_begin.specs.Begin.{beginStatus, beginLeft};
 ghost use Rattle.entry_write_heartbeat.specs.Heartbeats.{writeHeartbeatStatus, writeHeartbeatLeft};
 ghost use Rattle.entry_send_heartbeat.specs.Beating.{sendHeartbeatStatus, sendHeartbeatLeft, sendHeartbeatSent};
-ghost use Rattle.entry_receive_heartbeat.specs.Hearing.{readHeartbeatStatus, readHeartbeatJoin, receiveHeartbeatStatus, receiveHeartbeatHeard};
+ghost use Rattle.entry_receive_heartbeat.specs.Hearing.{readHeartbeatStatus, readHeartbeatJoin, readHeartbeatNumber, readHeartbeatDrive};
+ghost use Rattle.entry_receive_heartbeat.specs.Hearing.{receiveHeartbeatStatus, receiveHeartbeatHeard, receiveHeartbeatNumber, receiveHeartbeatDrive};
 ghost use Rattle.entry_write_vote.specs.Votes.{voteOf, writeVoteStatus, writeVoteLeft};
 ghost use Rattle.entry_send_vote.specs.Voting.{viewFrom, sendVoteStatus, sendVoteLeft, sendVoteSent};
 ghost use Rattle.entry_receive_vote.specs.Arrivals.{readVoteStatus, readVoteLeft, receiveVoteStatus, receiveVoteLeft, receiveVoteArrived};
@@ -69,7 +70,7 @@ pub extern "C" fn gm_state(
     entry_state::read(state, kind, reason, node, n, number, set, base)
 }
 
-// A heartbeat from numbers, into 10 bytes.
+// A heartbeat from numbers and drive bytes, into a buffer as long as it.
 #[no_mangle]
 pub extern "C" fn gm_write_heartbeat(
     n: u32,
@@ -79,15 +80,16 @@ pub extern "C" fn gm_write_heartbeat(
     startup: u32,
     cycle: u32,
     channel: u32,
+    drive: &[u8],
     frame: &mut [u8],
 ) -> u32
-    ensures { λ r. ⌜ r ≡ writeHeartbeatStatus n node join sync startup cycle channel (now (frame .entry)) ⌝ }
-    ensures { λ _. ⌜ now (frame .exit) ≡ writeHeartbeatLeft n node join sync startup cycle channel (now (frame .entry)) ⌝ }
+    ensures { λ r. ⌜ r ≡ writeHeartbeatStatus n node join sync startup cycle channel (now (drive .entry)) (now (frame .entry)) ⌝ }
+    ensures { λ _. ⌜ now (frame .exit) ≡ writeHeartbeatLeft n node join sync startup cycle channel (now (drive .entry)) (now (frame .entry)) ⌝ }
 {
-    entry_write_heartbeat::write(n, node, join, sync, startup, cycle, channel, frame)
+    entry_write_heartbeat::write(n, node, join, sync, startup, cycle, channel, drive, frame)
 }
 
-// Rule 2: the heartbeat that a node sends, if it sends one.
+// Rule 2: the heartbeat that a node sends, if it sends one, with these drive bytes.
 #[no_mangle]
 pub extern "C" fn gm_send_heartbeat(
     state: &[u8],
@@ -95,17 +97,18 @@ pub extern "C" fn gm_send_heartbeat(
     startup: u32,
     cycle: u32,
     channel: u32,
+    drive: &[u8],
     frame: &mut [u8],
     sent: &mut u32,
 ) -> u32
-    ensures { λ r. ⌜ r ≡ sendHeartbeatStatus (now (state .entry)) sync startup cycle channel (now (frame .entry)) ⌝ }
-    ensures { λ _. ⌜ now (frame .exit) ≡ sendHeartbeatLeft (now (state .entry)) sync startup cycle channel (now (frame .entry)) ⌝ }
-    ensures { λ _. ⌜ now (sent .exit) ≡ sendHeartbeatSent (now (state .entry)) sync startup cycle channel (now (frame .entry)) (now (sent .entry)) ⌝ }
+    ensures { λ r. ⌜ r ≡ sendHeartbeatStatus (now (state .entry)) sync startup cycle channel (now (drive .entry)) (now (frame .entry)) ⌝ }
+    ensures { λ _. ⌜ now (frame .exit) ≡ sendHeartbeatLeft (now (state .entry)) sync startup cycle channel (now (drive .entry)) (now (frame .entry)) ⌝ }
+    ensures { λ _. ⌜ now (sent .exit) ≡ sendHeartbeatSent (now (state .entry)) sync startup cycle channel (now (drive .entry)) (now (frame .entry)) (now (sent .entry)) ⌝ }
 {
-    entry_send_heartbeat::send(state, sync, startup, cycle, channel, frame, sent)
+    entry_send_heartbeat::send(state, sync, startup, cycle, channel, drive, frame, sent)
 }
 
-// One copy of a node's heartbeat: its join bit.
+// One copy of a node's heartbeat: its join bit and its drive bytes.
 #[no_mangle]
 pub extern "C" fn gm_read_heartbeat(
     n: u32,
@@ -113,15 +116,19 @@ pub extern "C" fn gm_read_heartbeat(
     cycle: u32,
     channel: u32,
     frame: &[u8],
+    drive: &mut [u8],
     join: &mut u32,
+    number: &mut u32,
 ) -> u32
-    ensures { λ r. ⌜ r ≡ readHeartbeatStatus n node cycle channel (now (frame .entry)) ⌝ }
-    ensures { λ _. ⌜ now (join .exit) ≡ readHeartbeatJoin n node cycle channel (now (frame .entry)) (now (join .entry)) ⌝ }
+    ensures { λ r. ⌜ r ≡ readHeartbeatStatus n node cycle channel (now (frame .entry)) (now (drive .entry)) ⌝ }
+    ensures { λ _. ⌜ now (drive .exit) ≡ readHeartbeatDrive n node cycle channel (now (frame .entry)) (now (drive .entry)) ⌝ }
+    ensures { λ _. ⌜ now (join .exit) ≡ readHeartbeatJoin n node cycle channel (now (frame .entry)) (now (drive .entry)) (now (join .entry)) ⌝ }
+    ensures { λ _. ⌜ now (number .exit) ≡ readHeartbeatNumber n node cycle channel (now (frame .entry)) (now (drive .entry)) (now (number .entry)) ⌝ }
 {
-    entry_receive_heartbeat::read(n, node, cycle, channel, frame, join)
+    entry_receive_heartbeat::read(n, node, cycle, channel, frame, drive, join, number)
 }
 
-// Both copies of a node's heartbeat: missed, a member's or a joining node's.
+// Both copies of a node's heartbeat: missed, a member's or a joining node's, and its drive bytes.
 #[no_mangle]
 pub extern "C" fn gm_receive_heartbeat(
     n: u32,
@@ -129,12 +136,16 @@ pub extern "C" fn gm_receive_heartbeat(
     cycle: u32,
     a: &[u8],
     b: &[u8],
+    drive: &mut [u8],
     heard: &mut u32,
+    number: &mut u32,
 ) -> u32
-    ensures { λ r. ⌜ r ≡ receiveHeartbeatStatus n node cycle ⌝ }
-    ensures { λ _. ⌜ now (heard .exit) ≡ receiveHeartbeatHeard n node cycle (now (a .entry)) (now (b .entry)) (now (heard .entry)) ⌝ }
+    ensures { λ r. ⌜ r ≡ receiveHeartbeatStatus n node cycle (now (drive .entry)) ⌝ }
+    ensures { λ _. ⌜ now (drive .exit) ≡ receiveHeartbeatDrive n node cycle (now (a .entry)) (now (b .entry)) (now (drive .entry)) ⌝ }
+    ensures { λ _. ⌜ now (heard .exit) ≡ receiveHeartbeatHeard n node cycle (now (a .entry)) (now (b .entry)) (now (drive .entry)) (now (heard .entry)) ⌝ }
+    ensures { λ _. ⌜ now (number .exit) ≡ receiveHeartbeatNumber n node cycle (now (a .entry)) (now (b .entry)) (now (drive .entry)) (now (number .entry)) ⌝ }
 {
-    entry_receive_heartbeat::receive(n, node, cycle, a, b, heard)
+    entry_receive_heartbeat::receive(n, node, cycle, a, b, drive, heard, number)
 }
 
 // Rule 3: the view of a node, 0 if it is no member.

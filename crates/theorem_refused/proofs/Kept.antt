@@ -11,8 +11,7 @@ use Rattle.entry_stop_start.proofs.Answers as ruled
 use Rattle.entry_state.proofs.Whole as apart
 use Rattle.entry_write_heartbeat.specs.Heartbeats.{writeHeartbeatLeft}
 use Rattle.entry_send_heartbeat.specs.Beating.{sendHeartbeatLeft, sendHeartbeatSent}
-use Rattle.entry_receive_heartbeat.specs.Hearing.{receiveHeartbeatHeard}
-use Rattle.entry_receive_heartbeat.proofs.Heard as beat
+use Rattle.entry_receive_heartbeat.specs.Hearing.{readHeartbeatDrive, readHeartbeatJoin, readHeartbeatNumber, receiveHeartbeatDrive, receiveHeartbeatHeard, receiveHeartbeatNumber}
 use Rattle.entry_write_vote.specs.Votes.{writeVoteLeft}
 use Rattle.entry_send_vote.specs.Voting.{sendVoteLeft, sendVoteSent}
 use Rattle.entry_send_vote.proofs.Kept as viewed
@@ -61,7 +60,7 @@ told : {A : Type 0} {r k : ℕ} {after left before : A} → r ≡ k → after �
 told e l law h = l ∙ law (λ z. h (e ∙ z))
 
 pub refused-kept : RefusedKept
-unfolding beginLeft writeHeartbeatLeft sendHeartbeatLeft sendHeartbeatSent receiveHeartbeatHeard writeVoteLeft sendVoteLeft sendVoteSent receiveVoteLeft receiveVoteArrived decideLeft imagesStatus imagesLeft
+unfolding beginLeft writeHeartbeatLeft sendHeartbeatLeft sendHeartbeatSent readHeartbeatDrive readHeartbeatJoin readHeartbeatNumber receiveHeartbeatDrive receiveHeartbeatHeard receiveHeartbeatNumber writeVoteLeft sendVoteLeft sendVoteSent receiveVoteLeft receiveVoteArrived decideLeft imagesStatus imagesLeft
 refused-kept =
     record {
       begin = λ κs a r s l. told (l .0) (l .1) (unless-refused _ _ _);
@@ -73,8 +72,16 @@ refused-kept =
           (l .1 .0 ∙ k .0, l .1 .1 .0 ∙ k .1, l .1 .1 .1 .0 ∙ k .2, l .1 .1 .1 .1 .0 ∙ k .3, l .1 .1 .1 .1 .1 .0 ∙ k .4, l .1 .1 .1 .1 .1 .1 .0 ∙ k .5, l .1 .1 .1 .1 .1 .1 .1 ∙ k .6);
       write-heartbeat = λ κs a r s l. told (l .0) (l .1) (unless-refused _ _ _);
       send-heartbeat = λ κs a r s l h. (told (l .0) (l .1 .0) (unless-refused _ _ _) h, told (l .0) (l .1 .1) (unless-refused _ _ _) h);
-      read-heartbeat = λ κs a r s l. told (l .0) (l .1) (beat.refused-kept _ _ _ _ _ _);
-      receive-heartbeat = λ κs a r s l. told (l .0) (l .1) (unless-refused _ _ _);
+      read-heartbeat = λ κs a r s l h. (
+        told (l .0) (l .1 .0) (unless-refused _ _ _) h,
+        told (l .0) (l .1 .1 .0) (unless-refused _ _ _) h,
+        told (l .0) (l .1 .1 .1) (unless-refused _ _ _) h,
+      );
+      receive-heartbeat = λ κs a r s l h. (
+        told (l .0) (l .1 .0) (unless-refused _ _ _) h,
+        told (l .0) (l .1 .1 .0) (unless-refused _ _ _) h,
+        told (l .0) (l .1 .1 .1) (unless-refused _ _ _) h,
+      );
       view = λ κs a r s l. told (l .0) (l .1) (viewed.refused-kept _ _ _ _);
       write-vote = λ κs a r s l. told (l .0) (l .1) (unless-refused _ _ _);
       send-vote = λ κs a r s l h. (told (l .0) (l .1 .0) (unless-refused _ _ _) h, told (l .0) (l .1 .1) (unless-refused _ _ _) h);

@@ -16,7 +16,9 @@ use Rattle.entry_stop_start.specs.StopStart.{stopLeft, startLeft}
 use Rattle.entry_state.specs.Apart.{kindLeft, reasonLeft, nodeLeft, countLeft, numberLeft, setLeft, baseLeft}
 use Rattle.entry_write_heartbeat.specs.Heartbeats.{writeHeartbeatStatus, writeHeartbeatLeft}
 use Rattle.entry_send_heartbeat.specs.Beating.{sendHeartbeatStatus, sendHeartbeatLeft, sendHeartbeatSent}
-use Rattle.entry_receive_heartbeat.specs.Hearing.{readStatus, readHeartbeatStatus, readHeartbeatJoin, receiveHeartbeatStatus, receiveHeartbeatHeard}
+use Rattle.frames.specs.Written.{wrongDrive}
+use Rattle.entry_receive_heartbeat.specs.Hearing.{readStatus, readHeartbeatStatus, readHeartbeatDrive, readHeartbeatJoin, readHeartbeatNumber}
+use Rattle.entry_receive_heartbeat.specs.Hearing.{receiveHeartbeatStatus, receiveHeartbeatDrive, receiveHeartbeatHeard, receiveHeartbeatNumber}
 use Rattle.entry_write_vote.specs.Votes.{writeVoteStatus, writeVoteLeft}
 use Rattle.entry_send_vote.specs.Voting.{sendVoteStatus, sendVoteLeft, sendVoteSent}
 use Rattle.entry_receive_vote.specs.Arrivals.{readVoteNumbers, readVoteStatus, readVoteLeft, receiveVoteStatus, receiveVoteLeft, receiveVoteArrived}
@@ -79,19 +81,19 @@ state-there = (
 
 pub write-heartbeat-there : (κs : _) × (a : _) × (r : _) × gm-write-heartbeat.Learnt κs a r a × Refused r
 unfolding first unless wrongCount writeHeartbeatStatus writeHeartbeatLeft
-write-heartbeat-there = (([], tt), (0, (0, (0, (0, (0, (0, (0, (empty, tt)))))))), 1, (refl, refl), some 0)
+write-heartbeat-there = (([], ([], tt)), (0, (0, (0, (0, (0, (0, (0, (empty, (empty, tt))))))))), 1, (refl, refl), some 0)
 
 pub send-heartbeat-there : (κs : _) × (a : _) × (r : _) × gm-send-heartbeat.Learnt κs a r a × Refused r
-unfolding first unless wrongIndicators sendHeartbeatStatus sendHeartbeatLeft sendHeartbeatSent
-send-heartbeat-there = (([], ([], ([], tt))), (empty, (0, (0, (0, (0, (empty, (nought, tt))))))), 3, (refl, (refl, refl)), some 2)
+unfolding first unless wrongIndicators wrongDrive sendHeartbeatStatus sendHeartbeatLeft sendHeartbeatSent
+send-heartbeat-there = (([], ([], ([], ([], tt)))), (empty, (0, (0, (0, (0, (empty, (empty, (nought, tt)))))))), 3, (refl, (refl, refl)), some 2)
 
 pub read-heartbeat-there : (κs : _) × (a : _) × (r : _) × gm-read-heartbeat.Learnt κs a r a × Refused r
-unfolding first unless wrongCount readStatus readHeartbeatStatus readHeartbeatJoin
-read-heartbeat-there = (([], ([], tt)), (0, (0, (0, (0, (empty, (nought, tt)))))), 1, (refl, refl), some 0)
+unfolding first unless wrongCount readStatus readHeartbeatStatus readHeartbeatDrive readHeartbeatJoin readHeartbeatNumber
+read-heartbeat-there = (([], ([], ([], ([], tt)))), (0, (0, (0, (0, (empty, (empty, (nought, (nought, tt)))))))), 1, (refl, (refl, (refl, refl))), some 0)
 
 pub receive-heartbeat-there : (κs : _) × (a : _) × (r : _) × gm-receive-heartbeat.Learnt κs a r a × Refused r
-unfolding first unless wrongCount receiveHeartbeatStatus receiveHeartbeatHeard
-receive-heartbeat-there = (([], ([], ([], tt))), (0, (0, (0, (empty, (empty, (nought, tt)))))), 1, (refl, refl), some 0)
+unfolding first unless wrongCount receiveHeartbeatStatus receiveHeartbeatDrive receiveHeartbeatHeard receiveHeartbeatNumber
+receive-heartbeat-there = (([], ([], ([], ([], ([], tt))))), (0, (0, (0, (empty, (empty, (empty, (nought, (nought, tt)))))))), 1, (refl, (refl, (refl, refl))), some 0)
 
 pub view-there : (κs : _) × (a : _) × (r : _) × gm-view.Learnt κs a r a × Refused r
 unfolding decoded imageStatus

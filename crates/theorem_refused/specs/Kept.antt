@@ -52,18 +52,22 @@ pub record RefusedKept : Type 1 where
       × Kept (a .1 .1 .1 .1 .1 .0) (s .1 .1 .1 .1 .1 .0)
       × Kept (a .1 .1 .1 .1 .1 .1 .0) (s .1 .1 .1 .1 .1 .1 .0)
       × Kept (a .1 .1 .1 .1 .1 .1 .1 .0) (s .1 .1 .1 .1 .1 .1 .1 .0)
-  -- gm_write_heartbeat(n, node, join, sync, startup, cycle, channel, frame): the frame
+  -- gm_write_heartbeat(n, node, join, sync, startup, cycle, channel, drive, frame): the frame
   pub write-heartbeat : (κs : _) (a : _) (r : _) (s : _) → gm-write-heartbeat.Learnt κs a r s → Refused r
-      → Kept (a .1 .1 .1 .1 .1 .1 .1 .0) (s .1 .1 .1 .1 .1 .1 .1 .0)
-  -- gm_send_heartbeat(state, sync, startup, cycle, channel, frame, sent): the frame, and whether it is sent
+      → Kept (a .1 .1 .1 .1 .1 .1 .1 .1 .0) (s .1 .1 .1 .1 .1 .1 .1 .1 .0)
+  -- gm_send_heartbeat(state, sync, startup, cycle, channel, drive, frame, sent): the frame, and whether it is sent
   pub send-heartbeat : (κs : _) (a : _) (r : _) (s : _) → gm-send-heartbeat.Learnt κs a r s → Refused r
-      → Kept (a .1 .1 .1 .1 .1 .0) (s .1 .1 .1 .1 .1 .0) × Kept (a .1 .1 .1 .1 .1 .1 .0) (s .1 .1 .1 .1 .1 .1 .0)
-  -- gm_read_heartbeat(n, node, cycle, channel, frame, join): the join bit
+      → Kept (a .1 .1 .1 .1 .1 .1 .0) (s .1 .1 .1 .1 .1 .1 .0) × Kept (a .1 .1 .1 .1 .1 .1 .1 .0) (s .1 .1 .1 .1 .1 .1 .1 .0)
+  -- gm_read_heartbeat(n, node, cycle, channel, frame, drive, join, drive_bytes): the drive bytes, the join bit and the number
   pub read-heartbeat : (κs : _) (a : _) (r : _) (s : _) → gm-read-heartbeat.Learnt κs a r s → Refused r
       → Kept (a .1 .1 .1 .1 .1 .0) (s .1 .1 .1 .1 .1 .0)
-  -- gm_receive_heartbeat(n, node, cycle, a, b, heard): what was heard
+      × Kept (a .1 .1 .1 .1 .1 .1 .0) (s .1 .1 .1 .1 .1 .1 .0)
+      × Kept (a .1 .1 .1 .1 .1 .1 .1 .0) (s .1 .1 .1 .1 .1 .1 .1 .0)
+  -- gm_receive_heartbeat(n, node, cycle, a, b, drive, heard, drive_bytes): the drive bytes, what was heard and the number
   pub receive-heartbeat : (κs : _) (a : _) (r : _) (s : _) → gm-receive-heartbeat.Learnt κs a r s → Refused r
       → Kept (a .1 .1 .1 .1 .1 .0) (s .1 .1 .1 .1 .1 .0)
+      × Kept (a .1 .1 .1 .1 .1 .1 .0) (s .1 .1 .1 .1 .1 .1 .0)
+      × Kept (a .1 .1 .1 .1 .1 .1 .1 .0) (s .1 .1 .1 .1 .1 .1 .1 .0)
   -- gm_view(state, heard0, heard1, view): the view
   pub view : (κs : _) (a : _) (r : _) (s : _) → gm-view.Learnt κs a r s → Refused r → Kept (a .1 .1 .1 .0) (s .1 .1 .1 .0)
   -- gm_write_vote(n, node, number, set, base, view, cycle, channel, frame): the frame

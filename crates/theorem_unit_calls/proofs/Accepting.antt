@@ -2,13 +2,14 @@
 use mathlib.Core.Path.{_≡_, refl, sym, ap}
 use mathlib.Core.Bool.{Bool, false, true, not, _||_}
 use mathlib.Core.List.{List, [], _∷_}
-use Prim.Native.Nat.{ℕ, _≤_, _<_}
+use Prim.Native.Nat.{ℕ, _+_, _≤_, _<_}
 use native.Mathlib.Omega.{arith}
 use lib.Dec.{eqb}
-use lib.ListN.{length, replicate}
+use lib.ListN.{length, replicate, length-replicate}
 use borrow.Author.Tests.{eq-eqb, le-ltb, lt-leb}
 use Rattle.sets.specs.Sets.{below}
 use Rattle.sets.proofs.Booleans.{eqb-self}
+use Rattle.frames.specs.Written.{wrongDrive}
 use Rattle.refusal.specs.Refusal.{when, first}
 use Rattle.state.specs.declared.State.{State}
 use Rattle.state.specs.declared.Decoded.{Decoded}
@@ -53,10 +54,13 @@ module _ (n q : ℕ) (s : State) (place : formedPlace q n ≡ true) (w : formedS
   image-size : wrongLength 24 (imageIn n q s) ≡ false
   image-size = not-long 24 (imageIn n q s) (image-length _)
 
-  pub beat-good : (count channel : ℕ) → count < 64 → channel < 2 → 0 ≡ sendHeartbeatStatus (imageIn n q s) 0 0 count channel (replicate 10 0)
-  unfolding sendHeartbeatStatus wrongIndicators
-  beat-good count channel a b =
-      none-of-three _ _ _ 2 3 4 (or-no (wrongIndicators 0 0 || wrongCycle count) (wrongChannel channel) (le-ltb 63 count (omega arith)) (le-ltb 1 channel (omega arith))) (or-no _ _ image-size refl) good-image
+  pub beat-good : (count channel : ℕ) (drive : List ℕ) → count < 64 → channel < 2 → wrongDrive drive ≡ false
+      → 0 ≡ sendHeartbeatStatus (imageIn n q s) 0 0 count channel drive (replicate (10 + length drive) 0)
+  unfolding sendHeartbeatStatus wrongIndicators first
+  beat-good count channel drive a b even =
+      let numbers = or-no (wrongIndicators 0 0 || wrongCycle count) (wrongChannel channel) (le-ltb 63 count (omega arith)) (le-ltb 1 channel (omega arith)) in
+      let sized = not-long (10 + length drive) (replicate (10 + length drive) 0) (length-replicate {A = ℕ} (10 + length drive) 0) in
+      rw (numbers, even) (none-of-two _ _ 3 4 (or-no _ _ image-size sized) good-image)
 
   pub vote-good : (count channel : ℕ) → count < 64 → channel < 2 → 0 ≡ sendVoteStatus (imageIn n q s) count channel (replicate 36 0)
   unfolding sendVoteStatus
@@ -71,9 +75,9 @@ module _ (n p count : ℕ) (two : 2 ≤ n) (few : n ≤ 64) (l : p < n) (counted
   slot-good : (wrongNode n p || wrongCycle count) ≡ false
   slot-good = or-no (wrongNode n p) (wrongCycle count) (lt-leb n p l) (le-ltb 63 count (omega arith))
 
-  pub hear-good : 0 ≡ receiveHeartbeatStatus n p count
+  pub hear-good : 0 ≡ receiveHeartbeatStatus n p count (replicate 252 0)
   unfolding receiveHeartbeatStatus
-  hear-good = none-of-two _ _ 1 2 (count-good n two few) slot-good
+  hear-good = none-of-three _ _ _ 1 2 3 (count-good n two few) slot-good refl
 
   pub arrive-good : (s : List ℕ) → length s ≡ 1792 → 0 ≡ receiveVoteStatus n p count s
   unfolding receiveVoteStatus

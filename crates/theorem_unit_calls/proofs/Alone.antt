@@ -2,7 +2,7 @@
 use mathlib.Core.Path.{_≡_, refl, sym, ap, ap₂, _∙_, subst}
 use mathlib.Core.Logic.{_⊎_, inl, inr}
 use mathlib.Core.Bool.{Bool, true, false}
-use mathlib.Core.List.{List}
+use mathlib.Core.List.{List, []}
 use mathlib.Core.Option.{Option, some}
 use Prim.Native.Nat.{ℕ, _^_, _<_}
 use native.Mathlib.Omega.{arith}
@@ -19,11 +19,13 @@ use Rattle.rules.proofs.Votes.{view-others}
 use Rattle.theorem_formed.proofs.Formed.{stop-start-formed}
 use Rattle.frames.specs.declared.HeartbeatReceived.{HeartbeatReceived}
 use Rattle.frames.specs.declared.HeartbeatReceived.the-variants.{Missed}
+use Rattle.frames.specs.declared.HeartbeatCounted.{HeartbeatCounted}
 use Rattle.frames.specs.declared.VoteReceived.the-variants.{Whole}
-use Rattle.frames.specs.Read.{readHeartbeat, receiveHeartbeat}
+use Rattle.frames.specs.Read.{isGood, receiveHeartbeat}
 use Rattle.bus_units.specs.Units.{Bus, heartbeatSent, heartbeatGot, isAlive, isJoin, unitHears, unitVote, voteCast, voteFramed, voteSent, voteGot, unitBallots, unitDecides}
 use Rattle.bus_units.specs.Carried.{HeartbeatSent, VoteSent, sendsHeartbeat}
-use Rattle.bus_units.proofs.Delivered.{no-heartbeat}
+use Rattle.frames.proofs.Faults.{no-heartbeat}
+use Rattle.frames.proofs.TwoChannels.{neither-good}
 use Rattle.entry_stop_start.specs.StopStart.{stopLeft, startLeft}
 use Rattle.entry_receive_heartbeat.specs.Hearing.{heardCode, receiveHeartbeatStatus, receiveHeartbeatHeard}
 use Rattle.entry_decide.specs.Decide.{decision}
@@ -38,10 +40,10 @@ abbrev pub As : (Sent : State → ℕ → List ℕ → Type 0) (speaks : State �
 As Sent speaks frames s = ((channel : ℕ) → channel < 2 → (y : List ℕ) → Wrote frames channel y → Sent s channel y) × (sends frames ≡ speaks s)
 
 -- what a copy that is not there is read as
-silent-heartbeat : (count p : ℕ) (copies : ℕ → List ℕ) → Silent copies → receiveHeartbeat (readHeartbeat p count 0 (copies 0)) (readHeartbeat p count 1 (copies 1)) ≡ Missed
+silent-heartbeat : (count p : ℕ) (copies : ℕ → List ℕ) → Silent copies → receiveHeartbeat p count (copies 0) (copies 1) .heard ≡ Missed
 silent-heartbeat count p copies w =
-    ap₂ (λ (x y : List ℕ). receiveHeartbeat (readHeartbeat p count 0 x) (readHeartbeat p count 1 y)) (w .0) (w .1)
-    ∙ ap₂ receiveHeartbeat (no-heartbeat count p 0 .1) (no-heartbeat count p 1 .1)
+    ap₂ (λ (x y : List ℕ). receiveHeartbeat p count x y .heard) (w .0) (w .1)
+    ∙ ap (λ (r : HeartbeatCounted). r .heard) (neither-good p count [] [] (ap isGood (no-heartbeat p count 0)) (ap isGood (no-heartbeat p count 1)) .0)
 
 module _ (E : Entries) (told : Within E byDefinition) (n q : ℕ) (place : formedPlace q n ≡ true) where
   -- ---- rule 1
@@ -70,20 +72,20 @@ module _ (E : Entries) (told : Within E byDefinition) (n q : ℕ) (place : forme
 
     -- ---- rule 2
 
-    beat-call : (channel : ℕ) → channel < 2 → byDefinition .send-heartbeat (imageIn n q now) (d .sync channel) (d .startup channel) count channel (d .heartbeat channel)
+    beat-call : (channel : ℕ) → channel < 2 → byDefinition .send-heartbeat (imageIn n q now) (d .sync channel) (d .startup channel) count channel (d .drive) (d .heartbeat channel)
     beat-call channel l =
-        subst (λ (y : List ℕ). byDefinition .send-heartbeat y (d .sync channel) (d .startup channel) count channel (d .heartbeat channel)) ruled-is
-        (told .send-heartbeat (d .ruled) (d .sync channel) (d .startup channel) count channel (d .heartbeat channel) (d .beats channel l))
+        subst (λ (y : List ℕ). byDefinition .send-heartbeat y (d .sync channel) (d .startup channel) count channel (d .drive) (d .heartbeat channel)) ruled-is
+        (told .send-heartbeat (d .ruled) (d .sync channel) (d .startup channel) count channel (d .drive) (d .heartbeat channel) (d .beats channel l))
 
-    beat-given : (channel : ℕ) → channel < 2 → Gives (d .heartbeat channel) (heartbeatSent (d .sync channel) (d .startup channel) count q now channel)
-    beat-given channel l = beat-gives n q now place now-formed (d .sync channel) (d .startup channel) count channel (d .heartbeat channel) (beat-call channel l)
+    beat-given : (channel : ℕ) → channel < 2 → Gives (d .heartbeat channel) (heartbeatSent (d .sync channel) (d .startup channel) (d .drive) count q now channel)
+    beat-given channel l = beat-gives n q now place now-formed (d .sync channel) (d .startup channel) count channel (d .drive) (d .heartbeat channel) (beat-call channel l)
 
-    pub unit-beats : As (HeartbeatSent count q) sendsHeartbeat (d .heartbeat) now
+    pub unit-beats : As (HeartbeatSent count q (d .drive)) sendsHeartbeat (d .heartbeat) now
     unit-beats = (
       λ channel l y k.
-          let b = beat-bounds (imageIn n q now) (d .sync channel) (d .startup channel) count channel (d .heartbeat channel) (beat-call channel l) in
-          (d .sync channel, d .startup channel, omega arith, b .1, given-wrote (d .heartbeat channel) _ y (beat-given channel l) (k .0) (k .1)),
-      given-sends (d .heartbeat 0) (heartbeatSent (d .sync 0) (d .startup 0) count q now 0) (beat-given 0 (lit< tt)) ∙ beat-speaks (d .sync 0) (d .startup 0) count q 0 now,
+          let b = beat-bounds (imageIn n q now) (d .sync channel) (d .startup channel) count channel (d .drive) (d .heartbeat channel) (beat-call channel l) in
+          (d .sync channel, d .startup channel, omega arith, b .1, b .3, given-wrote (d .heartbeat channel) _ y (beat-given channel l) (k .0) (k .1)),
+      given-sends (d .heartbeat 0) (heartbeatSent (d .sync 0) (d .startup 0) (d .drive) count q now 0) (beat-given 0 (lit< tt)) ∙ beat-speaks (d .sync 0) (d .startup 0) (d .drive) count q 0 now,
     )
 
     -- ---- rule 3: what it heard of another unit is what it reads of it
@@ -101,7 +103,7 @@ module _ (E : Entries) (told : Within E byDefinition) (n q : ℕ) (place : forme
             → (has p (d .heard0) ≡ isAlive r) × (has p (d .heard1) ≡ isJoin r)
         go (inl k) =
             let t = told .receive-heartbeat n p count (bus .heartbeats p q 0) (bus .heartbeats p q 1) (k .0) (k .1) .lower in
-            let h : k .0 ≡ heardCode r = t .2 ∙ unless-done (receiveHeartbeatStatus n p count) (heardCode r) (t .0) (sym (t .1)) in
+            let h : k .0 ≡ heardCode r = t .3 ∙ unless-done (receiveHeartbeatStatus n p count (t .0)) (heardCode r) (t .1) (sym (t .2)) in
             (k .2 ∙ ap (λ (x : ℕ). eqb x 1) h ∙ alive-code r, k .3 ∙ ap (λ (x : ℕ). eqb x 2) h ∙ join-code r)
         go (inr k) =
             let m : r ≡ Missed = silent-heartbeat count p (bus .heartbeats p q) (k .0) in

@@ -23,10 +23,10 @@ use Rattle.frames.specs.declared.VoteRead.the-variants as read
 use Rattle.frames.specs.declared.VoteReceived.{VoteReceived}
 use Rattle.frames.specs.declared.VoteReceived.the-variants.{Missed, Whole}
 use Rattle.frames.specs.Written.{votePayload, formedVote}
-use Rattle.frames.specs.Read.{faultOf, voteIndicators, payloadVote, voteUnless, readVote, receiveVote}
+use Rattle.frames.specs.Read.{payloadVote, voteUnless, readVote, receiveVote}
 use Rattle.frames.proofs.Lengths.{length-payload}
 use Rattle.bus_units.specs.Units.{Copies, voteGot, received, unitBallots}
-use Rattle.bus_units.proofs.Delivered.{no-vote}
+use Rattle.frames.proofs.Faults.{no-vote, voteFault, vote-read}
 use Rattle.entry_lent.specs.Refusals.{wrongCount, wrongNode, wrongCycle, wrongLength}
 use Rattle.entry_lent.proofs.Bounds.{count-bounds, length-is}
 use Rattle.entry_slots.specs.Slots.{slotVote, arrivedIn, bufferBallots}
@@ -44,8 +44,7 @@ missed-whole : (v : Vote) → Missed ≡ Whole v → ⊥
 missed-whole v e = let z : _≡_ {A = ℕ} 0 1 = cc in omega arith
 
 read-formed : (n p count channel : ℕ) (s : List ℕ) (v : Vote) → readVote n p count channel s ≡ read.Whole v → formedVote n p v ≡ true
-unfolding readVote
-read-formed n p count channel s v e = go (faultOf (p + 65) 14 count (voteIndicators s) channel s) e
+read-formed n p count channel s v e = go (voteFault p count channel s) (sym (vote-read p count channel s n (voteFault p count channel s) refl) ∙ e)
   where
     at-content : (w : Vote) (b : Bool) → formedVote n p w ≡ b → cond b (read.Whole w) (read.Refused Content) ≡ read.Whole v → formedVote n p v ≡ true
     at-content w true f k = let z : w ≡ v = cc in ap (formedVote n p) (sym z) ∙ f
@@ -180,7 +179,7 @@ silent n p count copies s m w e = subst (λ (r : VoteReceived). Held s m p r) (s
     missed : receivedVote n p count (copies 0) (copies 1) ≡ Missed
     missed =
         ap₂ (λ (x y : List ℕ). receivedVote n p count x y) (w .0) (w .1)
-        ∙ ap₂ receiveVote (no-vote n count p 0 .1) (no-vote n count p 1 .1)
+        ∙ ap₂ receiveVote (no-vote n p count 0) (no-vote n p count 1)
 
 -- ---- the ballots of the buffer are those that were read
 

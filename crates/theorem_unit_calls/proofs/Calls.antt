@@ -21,7 +21,7 @@ use Rattle.rules.specs.declared.Vote.{Vote}
 use Rattle.rules.specs.OneCycle.{stopped, stopAndStart, sendsMember, viewOf}
 use Rattle.frames.specs.declared.HeartbeatReceived.{HeartbeatReceived}
 use Rattle.frames.specs.declared.HeartbeatReceived.the-variants as beats
-use Rattle.frames.specs.Written.{heartbeatFrame}
+use Rattle.frames.specs.Written.{heartbeatFrame, wrongDrive}
 use Rattle.bus_units.specs.Units.{Copies, heartbeatSent, heartbeatGot, isAlive, isJoin, unitHears, voteFramed, voteSent}
 use Rattle.bus_units.specs.Recorded.{isSome}
 use Rattle.bus_units.specs.Carried.{sendsHeartbeat}
@@ -53,10 +53,10 @@ pub given-sends : (g : Frame) (o : Option (List ℕ)) → Gives g o → eqb (g .
 given-sends g none a = ap (λ (k : ℕ). eqb k 1) a
 given-sends g (some x) a = ap (λ (k : ℕ). eqb k 1) (a .0)
 
-pub beat-speaks : (sync startup count q channel : ℕ) (s : State) → isSome (heartbeatSent sync startup count q s channel) ≡ sendsHeartbeat s
-beat-speaks sync startup count q channel (Out r) = refl
-beat-speaks sync startup count q channel Joining = refl
-beat-speaks sync startup count q channel (Member g) = refl
+pub beat-speaks : (sync startup : ℕ) (drive : List ℕ) (count q channel : ℕ) (s : State) → isSome (heartbeatSent sync startup drive count q s channel) ≡ sendsHeartbeat s
+beat-speaks sync startup drive count q channel (Out r) = refl
+beat-speaks sync startup drive count q channel Joining = refl
+beat-speaks sync startup drive count q channel (Member g) = refl
 
 pub vote-speaks : (n count : ℕ) (h : Copies) (q channel : ℕ) (s : State) → isSome (voteSent n count h q s channel) ≡ sendsMember s
 vote-speaks n count h q channel (Out r) = refl
@@ -113,18 +113,18 @@ module _ (n q : ℕ) (s : State) (place : formedPlace q n ≡ true) (w : formedS
   unfolding startLeft
   start-gives = ap (λ (d : Decoded). ruleOneOf false true d (imageIn n q s)) image-back
 
-  pub beat-gives : (sync startup count channel : ℕ) (g : Frame) → byDefinition .send-heartbeat (imageIn n q s) sync startup count channel g
-      → Gives g (heartbeatSent sync startup count q s channel)
+  pub beat-gives : (sync startup count channel : ℕ) (drive : List ℕ) (g : Frame) → byDefinition .send-heartbeat (imageIn n q s) sync startup count channel drive g
+      → Gives g (heartbeatSent sync startup drive count q s channel)
   unfolding sendHeartbeatLeft sendHeartbeatSent
-  beat-gives sync startup count channel g k =
+  beat-gives sync startup count channel drive g k =
       let t = k .lower in
-      let status = sendHeartbeatStatus (imageIn n q s) sync startup count channel (t .0) in
-      let from : Decoded → List ℕ = λ d. heartbeatFrom d sync startup count channel (t .0) in
+      let status = sendHeartbeatStatus (imageIn n q s) sync startup count channel drive (t .0) in
+      let from : Decoded → List ℕ = λ d. heartbeatFrom d sync startup count channel drive (t .0) in
       go s (t .0) (t .4 ∙ unless-done status (sentOf (decoded (imageIn n q s))) (t .1) (sym (t .2)) ∙ ap sentOf image-back)
       (t .3 ∙ unless-done status (from (decoded (imageIn n q s))) (t .0) (sym (t .2)) ∙ ap from image-back)
     where
-      go : (s : State) (f : List ℕ) → g .sent ≡ sendsByte s → g .bytes ≡ cond (eqb (sendsByte s) 1) (heartbeatFrame q (joinBit s) sync startup count channel) f
-          → Gives g (heartbeatSent sync startup count q s channel)
+      go : (s : State) (f : List ℕ) → g .sent ≡ sendsByte s → g .bytes ≡ cond (eqb (sendsByte s) 1) (heartbeatFrame q (joinBit s) sync startup count channel drive) f
+          → Gives g (heartbeatSent sync startup drive count q s channel)
       go (Out r) f a b = a
       go Joining f a b = (a, b)
       go (Member h) f a b = (a, b)
@@ -153,8 +153,11 @@ module _ (n q : ℕ) (s : State) (place : formedPlace q n ≡ true) (w : formedS
       let from : Decoded → List ℕ = λ d. decidedFrom d heard0 heard1 votes arrived x in
       k .lower .1 ∙ unless-done (decideStatus x votes) (from (decoded x)) x (sym (k .lower .0)) ∙ ap from image-back
 
--- the indicators and the count that `gm_send_heartbeat` accepts
-pub beat-bounds : (x : List ℕ) (sync startup count channel : ℕ) (g : Frame) → byDefinition .send-heartbeat x sync startup count channel g → (sync ≤ 1) × (startup ≤ sync) × (count ≤ 63)
+-- the indicators, the count and the drive bytes that `gm_send_heartbeat` accepts
+pub beat-bounds : (x : List ℕ) (sync startup count channel : ℕ) (drive : List ℕ) (g : Frame) → byDefinition .send-heartbeat x sync startup count channel drive g
+    → (sync ≤ 1) × (startup ≤ sync) × (count ≤ 63) × (wrongDrive drive ≡ false)
 unfolding sendHeartbeatStatus
-beat-bounds x sync startup count channel g k =
-    sending-bounds sync startup count channel (passed (wrongIndicators sync startup || wrongCycle count || wrongChannel channel) 2 _ refl (sym (k .lower .2)) .0)
+beat-bounds x sync startup count channel drive g k =
+    let numbers = passed (wrongIndicators sync startup || wrongCycle count || wrongChannel channel) 2 _ refl (sym (k .lower .2)) in
+    let b = sending-bounds sync startup count channel (numbers .0) in
+    (b .0, b .1, b .2, passed (wrongDrive drive) 3 _ refl (numbers .1) .0)

@@ -38,7 +38,7 @@ use Rattle.entry_lent.specs.Refusals.{wrongCount, wrongNode, wrongLength, wrong
 use Rattle.entry_lent.proofs.Bounds.{count-bounds}
 use Rattle.entry_begin.specs.Begin.{beginStatus}
 use Rattle.theorem_unit_calls.specs.Entries.{Frame, Entries, Within, byDefinition}
-use Rattle.theorem_unit_calls.specs.Cycle.{Part, calls, rests, leaves, Parts, noFrames, beatsWritten, votesWritten, Wrote, sends, CycleDone, Pressed, none as no-cycle, next, SoundDone, SoundPressed}
+use Rattle.theorem_unit_calls.specs.Cycle.{Part, calls, rests, leaves, Parts, noFrames, beatsWritten, votesWritten, driveIn, Wrote, sends, CycleDone, Pressed, none as no-cycle, next, SoundDone, SoundPressed}
 use Rattle.theorem_unit_calls.specs.Promise.{Begins, UnitsPromised, OverUnits, OverAnyBus}
 use Rattle.theorem_unit_calls.proofs.Calls.{imageIn, begin-gives}
 use Rattle.theorem_unit_calls.proofs.Alone.{As, stop-call, unit-beats, unit-votes, unit-alone}
@@ -131,12 +131,12 @@ module _ (E : Entries) (told : Within E byDefinition) (n : ℕ) (two : 2 ≤ n) 
     gone p l a b = sym (ruled n c row p l) ∙ ap₂ (λ (u v : Bool). startIf v (stopIf u (at row p))) a b
 
     -- what a part sends, and what it leaves, by the state after rule 1
-    part-beats : (p : ℕ) → p < n → (u : OnePart p) → As (HeartbeatSent count p) sendsHeartbeat (beatsWritten u) (at r p)
+    part-beats : (p : ℕ) → p < n → (u : OnePart p) → As (HeartbeatSent count p (driveIn u)) sendsHeartbeat (beatsWritten u) (at r p)
     part-beats p l (calls d) =
-        subst (As (HeartbeatSent count p) sendsHeartbeat (d .heartbeat)) (ruled n c row p l)
+        subst (As (HeartbeatSent count p (d .drive)) sendsHeartbeat (d .heartbeat)) (ruled n c row p l)
         (unit-beats E told n p (placed n p two few l) count (c .stop) (c .start) bus (at row p) (x p) (z p) (w p l) (e p l) d)
-    part-beats p l (rests k a b o) = rests-as (HeartbeatSent count p) sendsHeartbeat (at r p) (ap sendsHeartbeat (out p l k a b .2))
-    part-beats p l (leaves a b k) = rests-as (HeartbeatSent count p) sendsHeartbeat (at r p) (ap sendsHeartbeat (gone p l a b))
+    part-beats p l (rests k a b o) = rests-as (HeartbeatSent count p []) sendsHeartbeat (at r p) (ap sendsHeartbeat (out p l k a b .2))
+    part-beats p l (leaves a b k) = rests-as (HeartbeatSent count p []) sendsHeartbeat (at r p) (ap sendsHeartbeat (gone p l a b))
 
     part-votes : (p : ℕ) → p < n → (u : OnePart p) → As (VoteSent n count (bus .heartbeats) p) sendsMember (votesWritten u) (at r p)
     part-votes p l (calls d) =
@@ -178,8 +178,9 @@ module _ (E : Entries) (told : Within E byDefinition) (n : ℕ) (two : 2 ≤ n) 
         delivers : Delivers C count bus c r
         delivers =
             record {
+              drive = λ p lp. driveIn (d .parts p lp);
               beats = λ p q lp lq o.
-                  came-as (HeartbeatSent count p) sendsHeartbeat (beatsWritten (d .parts p lp)) (at r p) (HeartbeatRefused count p) (bus .heartbeats p q 0) (bus .heartbeats p q 1)
+                  came-as (HeartbeatSent count p (driveIn (d .parts p lp))) sendsHeartbeat (beatsWritten (d .parts p lp)) (at r p) (HeartbeatRefused count p) (bus .heartbeats p q 0) (bus .heartbeats p q 1)
                   (heartbeatReaches c p q) (part-beats p lp (d .parts p lp)) (d .beats p q lp lq o);
               ballots = λ p q lp lq o.
                   came-as (VoteSent n count (bus .heartbeats) p) sendsMember (votesWritten (d .parts p lp)) (at r p) (VoteRefused n count p) (bus .votes p q 0) (bus .votes p q 1)
@@ -198,6 +199,7 @@ module _ (E : Entries) (told : Within E byDefinition) (n : ℕ) (two : 2 ≤ n) 
       sound : Sound C count bus (ruleOne n c row)
       sound =
           record {
+            drive = λ p lp. driveIn (d .parts p lp);
             beats = λ p q channel lp lq o h. copy-as (part-beats count c bus x z row w e p lp (d .parts p lp) .0 channel h (bus .heartbeats p q channel)) (d .beats p q channel lp lq o h);
             ballots = λ p q channel lp lq o h. copy-as (part-votes count c bus x z row w e p lp (d .parts p lp) .0 channel h (bus .votes p q channel)) (d .ballots p q channel lp lq o h);
           }

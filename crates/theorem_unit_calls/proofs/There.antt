@@ -4,7 +4,7 @@ use mathlib.Core.Logic.{_⊎_, inl, inr, Lift}
 use mathlib.Core.Bool.{Bool, true, false, _&&_, cond, true≢false}
 use mathlib.Core.List.{List, [], _∷_}
 use mathlib.Core.Option.{Option, none, some}
-use Prim.Native.Nat.{ℕ, zero, suc, _-_, _≤_, _<_}
+use Prim.Native.Nat.{ℕ, zero, suc, _+_, _-_, _≤_, _<_}
 use native.Mathlib.Nat.{mod-lt}
 use native.Mathlib.Omega.{arith}
 use lib.Dec.{eqb, lit<}
@@ -28,14 +28,14 @@ use Rattle.theorem_formed.proofs.Formed.{FormedRow, stop-start-formed, founding
 use Rattle.frames.specs.declared.HeartbeatReceived.{HeartbeatReceived}
 use Rattle.frames.specs.declared.VoteReceived.{VoteReceived}
 use Rattle.frames.specs.declared.VoteReceived.the-variants.{Missed, Whole}
-use Rattle.frames.specs.Written.{votePayload}
+use Rattle.frames.specs.Written.{wrongDrive, votePayload}
 use Rattle.frames.proofs.Lengths.{length-payload}
 use Rattle.bus_units.specs.Units.{Bus, Copies, heartbeatSent, voteSent, heartbeatGot, isAlive, isJoin, unitHears, unitVote, voteCast, voteFramed}
-use Rattle.bus_units.specs.Faulty.{copyIf, heartbeatsOf, votesOf, busOf}
+use Rattle.bus_units.specs.Faulty.{copyIf, heartbeatsOf, votesOf, busWith}
 use Rattle.bus_units.specs.Carried.{Came, on-both, on-none, HeartbeatRefused, VoteRefused, sendsHeartbeat}
 use Rattle.bus_units.specs.Recorded.{isSome}
 use Rattle.bus_units.specs.Run.{cycleCount}
-use Rattle.bus_units.proofs.Delivered.{no-heartbeat, no-vote}
+use Rattle.bus_units.proofs.Delivered.{empty-heartbeat, empty-vote}
 use Rattle.entry_begin.specs.Begin.{beginStatus, beginLeft}
 use Rattle.entry_send_heartbeat.specs.Beating.{sendHeartbeatLeft, sendHeartbeatSent}
 use Rattle.entry_receive_heartbeat.specs.Hearing.{heardCode, receiveHeartbeatStatus, receiveHeartbeatHeard}
@@ -44,7 +44,7 @@ use Rattle.entry_receive_vote.specs.Arrivals.{slotOr, receivedVote, receiveVote
 use Rattle.entry_decide.specs.Decide.{decideLeft}
 use Rattle.entry_slots.proofs.Back.{slot-length}
 use Rattle.theorem_unit_calls.specs.Entries.{Frame, Entries, Within, byDefinition}
-use Rattle.theorem_unit_calls.specs.Cycle.{Stops, by-stop, by-begin, not-stopped, Starts, by-start, not-started, In, Collected, none as no-call, one-more, Silent, UnitDone, Part, calls, rests, Wrote, sends, CycleDone, Pressed, none as no-cycle, next}
+use Rattle.theorem_unit_calls.specs.Cycle.{Stops, by-stop, by-begin, not-stopped, Starts, by-start, not-started, In, Collected, none as no-call, one-more, Silent, UnitDone, Part, calls, rests, driveIn, Wrote, sends, CycleDone, Pressed, none as no-cycle, next, Driven}
 use Rattle.theorem_unit_calls.specs.Promise.{Begins}
 use Rattle.theorem_unit_calls.proofs.Calls.{imageIn, Gives, given-sends, beat-speaks, vote-speaks, alive-code, join-code, hears-bit, voteBy, stop-gives, start-gives, beat-gives, vote-gives}
 use Rattle.theorem_unit_calls.proofs.Press.{placed, ruled, cycle-holds}
@@ -60,7 +60,7 @@ same =
       begin = λ n q F y k. k;
       stop = λ x y k. k;
       start = λ x y k. k;
-      send-heartbeat = λ x sync startup count channel g k. k;
+      send-heartbeat = λ x sync startup count channel drive g k. k;
       receive-heartbeat = λ n p count a b heard k. k;
       send-vote = λ x heard0 heard1 count channel g k. k;
       receive-vote = λ n p count a b s m t k e. e;
@@ -149,14 +149,14 @@ stands frames Refused sent speaks t empty given k = go (sent 0) (sent 1) t (give
     go none none true a b e = by-first false true (given-sends (frames 0) none a) (on-none (empty 0) (empty 1))
     go none none false a b e = by-first false false (given-sends (frames 0) none a) (on-none (empty 0) (empty 1))
 
--- into a vote buffer of any bytes, with any mask
-module _ (n count : ℕ) (two : 2 ≤ n) (few : n ≤ 64) (counted : count < 64) (c : Faults) (row : Row) (formed : FormedRow n row) (buffer : List ℕ)
+-- with any drive bytes that can be written, into a vote buffer of any bytes, with any mask
+module _ (drive : ℕ → List ℕ) (even : (q : ℕ) → wrongDrive (drive q) ≡ false) (n count : ℕ) (two : 2 ≤ n) (few : n ≤ 64) (counted : count < 64) (c : Faults) (row : Row) (formed : FormedRow n row) (buffer : List ℕ)
     (sized : length buffer ≡ 1792) (mask : ℕ) where
   abbrev C : Config
   C = ofNodes n
 
   abbrev bus : Bus
-  bus = busOf C count c row
+  bus = busWith drive C count c row
 
   abbrev now : ℕ → State
   now q = stopAndStart (has q (c .stop)) (has q (c .start)) (at row q)
@@ -166,7 +166,10 @@ module _ (n count : ℕ) (two : 2 ≤ n) (few : n ≤ 64) (counted : count < 64)
 
   abbrev beatFrame : ℕ → ℕ → Frame
   beatFrame q channel =
-      record { sent = sendHeartbeatSent (imageIn n q (now q)) 0 0 count channel (replicate 10 0) 0; bytes = sendHeartbeatLeft (imageIn n q (now q)) 0 0 count channel (replicate 10 0) }
+      record {
+        sent = sendHeartbeatSent (imageIn n q (now q)) 0 0 count channel (drive q) (replicate (10 + length (drive q)) 0) 0;
+        bytes = sendHeartbeatLeft (imageIn n q (now q)) 0 0 count channel (drive q) (replicate (10 + length (drive q)) 0);
+      }
 
   abbrev voteFrames : ℕ → ℕ → Frame
   voteFrames q channel =
@@ -187,8 +190,8 @@ module _ (n count : ℕ) (two : 2 ≤ n) (few : n ≤ 64) (counted : count < 64)
   now-formed : (q : ℕ) → q < n → formedState q n (now q) ≡ true
   now-formed q l = stop-start-formed (has q (c .stop)) (has q (c .start)) n q (at row q) (formed q l)
 
-  beat-made : (q : ℕ) → q < n → (channel : ℕ) → channel < 2 → byDefinition .send-heartbeat (imageIn n q (now q)) 0 0 count channel (beatFrame q channel)
-  beat-made q l channel k = lift (replicate 10 0, 0, beat-good n q (now q) (placed n q two few l) (now-formed q l) count channel counted k, refl, refl)
+  beat-made : (q : ℕ) → q < n → (channel : ℕ) → channel < 2 → byDefinition .send-heartbeat (imageIn n q (now q)) 0 0 count channel (drive q) (beatFrame q channel)
+  beat-made q l channel k = lift (replicate (10 + length (drive q)) 0, 0, beat-good n q (now q) (placed n q two few l) (now-formed q l) count channel (drive q) counted k (even q), refl, refl)
 
   vote-made : (q : ℕ) → q < n → (channel : ℕ) → channel < 2 → byDefinition .send-vote (imageIn n q (now q)) (heard isAlive q) (heard isJoin q) count channel (voteFrames q channel)
   vote-made q l channel k = lift (replicate 36 0, 0, vote-good n q (now q) (placed n q two few l) (now-formed q l) count channel counted k, refl, refl)
@@ -204,15 +207,16 @@ module _ (n count : ℕ) (two : 2 ≤ n) (few : n ≤ 64) (counted : count < 64)
         starts = start-made E had n q place (has q (c .stop)) (has q (c .start)) (at row q) (stop-start-formed (has q (c .stop)) false n q (at row q) (formed q l));
         sync = λ channel. 0;
         startup = λ channel. 0;
+        drive = drive q;
         heartbeat = beatFrame q;
-        beats = λ channel k. had .send-heartbeat _ 0 0 count channel _ (beat-made q l channel k);
+        beats = λ channel k. had .send-heartbeat _ 0 0 count channel _ _ (beat-made q l channel k);
         heard0 = heard isAlive q;
         heard1 = heard isJoin q;
         hears = λ p k o.
             let good = hear-good n p count two few k counted in
             inl (
               heardCode (r p),
-              had .receive-heartbeat n p count _ _ _ (lift (0, good, sym (unless-done (receiveHeartbeatStatus n p count) (heardCode (r p)) 0 (sym good)))),
+              had .receive-heartbeat n p count _ _ _ (lift (replicate 252 0, 0, good, sym (unless-done (receiveHeartbeatStatus n p count (replicate 252 0)) (heardCode (r p)) 0 (sym good)))),
               hears-bit n count (bus .heartbeats) isAlive p q k o ∙ sym (alive-code (r p)),
               hears-bit n count (bus .heartbeats) isJoin p q k o ∙ sym (join-code (r p)),
             );
@@ -239,10 +243,10 @@ module _ (n count : ℕ) (two : 2 ≤ n) (few : n ≤ 64) (counted : count < 64)
 
   -- ---- all units
 
-  beat-given : (p : ℕ) → p < n → (channel : ℕ) → channel < 2 → Gives (beatFrame p channel) (heartbeatSent 0 0 count p (at (ruleOne n c row) p) channel)
+  beat-given : (p : ℕ) → p < n → (channel : ℕ) → channel < 2 → Gives (beatFrame p channel) (heartbeatSent 0 0 (drive p) count p (at (ruleOne n c row) p) channel)
   beat-given p l channel k =
-      subst (λ (s : State). Gives (beatFrame p channel) (heartbeatSent 0 0 count p s channel)) (ruled n c row p l)
-      (beat-gives n p (now p) (placed n p two few l) (now-formed p l) 0 0 count channel (beatFrame p channel) (beat-made p l channel k))
+      subst (λ (s : State). Gives (beatFrame p channel) (heartbeatSent 0 0 (drive p) count p s channel)) (ruled n c row p l)
+      (beat-gives n p (now p) (placed n p two few l) (now-formed p l) 0 0 count channel (drive p) (beatFrame p channel) (beat-made p l channel k))
 
   vote-given : (p : ℕ) → p < n → (channel : ℕ) → channel < 2 → Gives (voteFrames p channel) (voteSent n count (bus .heartbeats) p (at (ruleOne n c row) p) channel)
   vote-given p l channel k =
@@ -250,24 +254,30 @@ module _ (n count : ℕ) (two : 2 ≤ n) (few : n ≤ 64) (counted : count < 64)
       (subst (λ (v : Option Vote). Gives (voteFrames p channel) (voteFramed count p v channel)) (cast-by n count (bus .heartbeats) p (now p))
       (vote-gives n p (now p) (placed n p two few l) (now-formed p l) (heard isAlive p) (heard isJoin p) count channel (voteFrames p channel) (vote-made p l channel k)))
 
-  cycle-made : (E : Entries) → Within byDefinition E → (z : ℕ → List ℕ) → ((q : ℕ) → q < n → z q ≡ decided q) → CycleDone E n count c bus (λ q. imageIn n q (at row q)) z
-  unfolding busOf heartbeatsOf votesOf made
-  cycle-made E had z e =
-      record {
-        counted = counted;
-        parts = λ q l. calls (made E had z e q l);
-        beats = λ p q lp lq o.
-            stands (beatFrame p) (HeartbeatRefused count p) (heartbeatSent 0 0 count p (at (ruleOne n c row) p)) (sendsHeartbeat (at (ruleOne n c row) p)) (heartbeatReaches c p q)
-            (no-heartbeat count p) (beat-given p lp) (λ channel. beat-speaks 0 0 count p channel (at (ruleOne n c row) p));
-        ballots = λ p q lp lq o.
-            stands (voteFrames p) (VoteRefused n count p) (voteSent n count (bus .heartbeats) p (at (ruleOne n c row) p)) (sendsMember (at (ruleOne n c row) p)) (voteReaches c p q)
-            (no-vote n count p) (vote-given p lp) (λ channel. vote-speaks n count (bus .heartbeats) p channel (at (ruleOne n c row) p));
-      }
+  -- a cycle whose units give those drive bytes
+  abbrev Cycled : Entries → (ℕ → List ℕ) → Type 1
+  Cycled E z = (k : CycleDone E n count c bus (λ q. imageIn n q (at row q)) z) × Lift {0, 1} ((q : ℕ) (l : q < n) → driveIn (k .parts q l) ≡ drive q)
 
-  cycle-there : (E : Entries) → Within byDefinition E → CycleDone E n count c bus (λ q. imageIn n q (at row q)) (λ q. imageIn n q (at (cycle C c row) q))
+  cycle-made : (E : Entries) → Within byDefinition E → (z : ℕ → List ℕ) → ((q : ℕ) → q < n → z q ≡ decided q) → Cycled E z
+  unfolding busWith heartbeatsOf votesOf made
+  cycle-made E had z e = (
+    record {
+      counted = counted;
+      parts = λ q l. calls (made E had z e q l);
+      beats = λ p q lp lq o.
+          stands (beatFrame p) (HeartbeatRefused count p) (heartbeatSent 0 0 (drive p) count p (at (ruleOne n c row) p)) (sendsHeartbeat (at (ruleOne n c row) p)) (heartbeatReaches c p q)
+          (empty-heartbeat count p) (beat-given p lp) (λ channel. beat-speaks 0 0 (drive p) count p channel (at (ruleOne n c row) p));
+      ballots = λ p q lp lq o.
+          stands (voteFrames p) (VoteRefused n count p) (voteSent n count (bus .heartbeats) p (at (ruleOne n c row) p)) (sendsMember (at (ruleOne n c row) p)) (voteReaches c p q)
+          (empty-vote n count p) (vote-given p lp) (λ channel. vote-speaks n count (bus .heartbeats) p channel (at (ruleOne n c row) p));
+    },
+    lift (λ q l. refl),
+  )
+
+  cycle-there : (E : Entries) → Within byDefinition E → Cycled E (λ q. imageIn n q (at (cycle C c row) q))
   cycle-there E had =
       cycle-made E had (λ q. imageIn n q (at (cycle C c row) q))
-      (λ q l. sym (cycle-holds byDefinition same n two few count c bus (λ y. imageIn n y (at row y)) decided row formed (λ y h. refl) (cycle-made byDefinition same decided (λ y h. refl)) q l))
+      (λ q l. sym (cycle-holds byDefinition same n two few count c bus (λ y. imageIn n y (at row y)) decided row formed (λ y h. refl) (cycle-made byDefinition same decided (λ y h. refl) .0) q l))
 
 begin-made : (E : Entries) → Within byDefinition E → (n q F : ℕ) → 2 ≤ n → n ≤ 64 → q < n → eqb F 0 ≡ false → below n F ≡ F → E .begin n q F (imageIn n q (initial 0 F q))
 unfolding beginLeft
@@ -275,25 +285,28 @@ begin-made E had n q F two few l some-founder founders =
     let good = begin-good n q F two few l some-founder founders in
     had .begin n q F _ (lift (replicate 24 0, good, sym (unless-done (beginStatus n q F (replicate 24 0)) (imageIn n q (initial 0 F q)) (replicate 24 0) (sym good))))
 
--- for every founding set and list of fault records there is such a press
-pub press-there : (E : Entries) → Within byDefinition E → (n F : ℕ) (cs : List Faults) → 2 ≤ n → n ≤ 64 → eqb F 0 ≡ false → below n F ≡ F
-    → (x : ℕ → List ℕ) × (z : ℕ → List ℕ) × Begins E n F x × Pressed E n cs x z
+-- for every founding set, list of fault records and drive bytes of each unit there is such a press
+pub press-there : (E : Entries) → Within byDefinition E → (n F : ℕ) (cs : List Faults) (drive : ℕ → List ℕ) → 2 ≤ n → n ≤ 64 → eqb F 0 ≡ false → below n F ≡ F
+    → ((q : ℕ) → wrongDrive (drive q) ≡ false)
+    → (x : ℕ → List ℕ) × (z : ℕ → List ℕ) × Begins E n F x × (k : Pressed E n cs x z) × Lift {0, 1} (Driven drive k)
 unfolding founding
-press-there E had n F cs two few some-founder founders =
+press-there E had n F cs drive two few some-founder founders even =
     let run = cycles cs 1 (founding n 0 F) (founding-formed n 0 F (lit< tt) founders) in
-    ((λ q. imageIn n q (at (founding n 0 F) q)), run .0, began, run .1)
+    ((λ q. imageIn n q (at (founding n 0 F) q)), run .0, began, run .1, run .2)
   where
     began : Begins E n F (λ q. imageIn n q (at (founding n 0 F) q))
     began q l =
         subst (λ (y : List ℕ). E .begin n q F y) (ap (imageIn n q) (sym (get-tabulate n q (initial 0 F) stopped l))) (begin-made E had n q F two few l some-founder founders)
 
-    cycles : (cs : List Faults) (k : ℕ) (row : Row) → FormedRow n row → (z : ℕ → List ℕ) × Pressed E n cs (λ q. imageIn n q (at row q)) z
-    cycles [] k row w = ((λ q. imageIn n q (at row q)), no-cycle)
+    cycles : (cs : List Faults) (k : ℕ) (row : Row) → FormedRow n row
+        → (z : ℕ → List ℕ) × (p : Pressed E n cs (λ q. imageIn n q (at row q)) z) × Lift {0, 1} (Driven drive p)
+    cycles [] k row w = ((λ q. imageIn n q (at row q)), no-cycle, lift tt)
     cycles (c ∷ cs) k row w =
         let rest = cycles cs (suc k) (cycle (ofNodes n) c row) (cycle-formed (ofNodes n) c row w) in
         let counted : cycleCount k < 64 = mod-lt (k - 1) (lit< tt) in
         let empty = length-replicate {A = ℕ} 1792 0 in
-        (rest .0, next (cycleCount k) (busOf (ofNodes n) (cycleCount k) c row) (cycle-there n (cycleCount k) two few counted c row w (replicate 1792 0) empty 0 E had) (rest .1))
+        let done = cycle-there drive even n (cycleCount k) two few counted c row w (replicate 1792 0) empty 0 E had in
+        (rest .0, next (cycleCount k) (busWith drive (ofNodes n) (cycleCount k) c row) (done .0) (rest .1), lift (done .1 .lower, rest .2 .lower))
 
 -- ---- each other way that a part may go can be gone
 

@@ -50,11 +50,12 @@ pub record UnitDone (E : Entries) (n count stop start : ℕ) (bus : Bus) (q : �
   pub ruled : List ℕ
   pub stops : Stops E n q (has q stop) x between
   pub starts : Starts E (has q start) between ruled
-  -- on each channel, with indicators of its own
+  -- on each channel, with indicators of its own, and with the same drive bytes on both
+  pub drive : List ℕ
   pub sync : ℕ → ℕ
   pub startup : ℕ → ℕ
   pub heartbeat : ℕ → Frame
-  pub beats : (channel : ℕ) → channel < 2 → E .send-heartbeat ruled (sync channel) (startup channel) count channel (heartbeat channel)
+  pub beats : (channel : ℕ) → channel < 2 → E .send-heartbeat ruled (sync channel) (startup channel) count channel drive (heartbeat channel)
   -- for every other unit, in any order: the bits of heard0 and heard1 are what the call answers; clear where nothing came and no call was made
   pub heard0 : ℕ
   pub heard1 : ℕ
@@ -101,6 +102,12 @@ votesWritten (calls d) = d .vote
 votesWritten (rests k a b e) = noFrames
 votesWritten (leaves a b k) = noFrames
 
+-- the drive bytes that it gave with its heartbeats
+abbrev pub driveIn : {E : Entries} {n count stop start : ℕ} {bus : Bus} {q : ℕ} {x z : List ℕ} → Part E n count stop start bus q x z → List ℕ
+driveIn (calls d) = d .drive
+driveIn (rests k a b e) = []
+driveIn (leaves a b k) = []
+
 -- x was written for the channel; and whether there are frames, on both channels alike
 abbrev pub Wrote : (ℕ → Frame) → ℕ → List ℕ → Type 0
 Wrote frames channel x = (frames channel .sent ≡ 1) × (frames channel .bytes ≡ x)
@@ -125,6 +132,11 @@ pub data Pressed (E : Entries) (n : ℕ) : List Faults → (ℕ → List ℕ) �
   none : {x : ℕ → List ℕ} → Pressed E n [] x x
   next : {c : Faults} {cs : List Faults} {x y z : ℕ → List ℕ} (count : ℕ) (bus : Bus) → CycleDone E n count c bus x y → Pressed E n cs y z
       → Pressed E n (c ∷ cs) x z
+
+-- every unit gives these drive bytes in every cycle
+abbrev pub Driven : {E : Entries} {n : ℕ} {cs : List Faults} {x z : ℕ → List ℕ} → (ℕ → List ℕ) → Pressed E n cs x z → Type 0
+Driven drive none = Unit {0}
+Driven {n = n} drive (next count bus d rest) = ((q : ℕ) (l : q < n) → driveIn (d .parts q l) ≡ drive q) × Driven drive rest
 
 -- ---- cycles where nobody knows the records
 

@@ -1,5 +1,6 @@
 -- The premises of units in blocks can be met: for every founding set and list of fault records there is a press whose units keep their states in blocks. Assumes nothing.
 use mathlib.Core.Path.{_≡_, refl, sym, ap, _∙_, subst}
+use mathlib.Core.Logic.{Lift}
 use mathlib.Core.Bool.{false, not, _||_}
 use mathlib.Core.List.{List, [], _++_}
 use Prim.Native.Nat.{ℕ, _≤_}
@@ -25,7 +26,8 @@ use Rattle.registers.specs.Steps.{Step, Write, Cycle, WriteCycle, wrongVotes, w
 use Rattle.registers.proofs.Blocks.{begins}
 use Rattle.registers.proofs.Found.{status-found}
 use Rattle.theorem_unit_calls.specs.Entries.{Within, byDefinition}
-use Rattle.theorem_unit_calls.specs.Cycle.{Pressed}
+use Rattle.frames.specs.Written.{wrongDrive}
+use Rattle.theorem_unit_calls.specs.Cycle.{Pressed, Driven}
 use Rattle.theorem_unit_calls.specs.Promise.{Begins}
 use Rattle.theorem_unit_calls.proofs.There.{press-there}
 use Rattle.theorem_units.proofs.Compiled as single
@@ -110,6 +112,6 @@ had =
       decide = λ x heard0 heard1 votes arrived y k. decide-had x heard0 heard1 votes arrived y (k .lower .0) (k .lower .1);
     }
 
-pub blocks-there : (n F : ℕ) (cs : List Faults) → 2 ≤ n → n ≤ 64 → eqb F 0 ≡ false → below n F ≡ F
-    → (x : ℕ → List ℕ) × (z : ℕ → List ℕ) × Begins inBlocks n F x × Pressed inBlocks n cs x z
+pub blocks-there : (n F : ℕ) (cs : List Faults) (drive : ℕ → List ℕ) → 2 ≤ n → n ≤ 64 → eqb F 0 ≡ false → below n F ≡ F → ((q : ℕ) → wrongDrive (drive q) ≡ false)
+    → (x : ℕ → List ℕ) × (z : ℕ → List ℕ) × Begins inBlocks n F x × (k : Pressed inBlocks n cs x z) × Lift {0, 1} (Driven drive k)
 blocks-there = press-there inBlocks had

@@ -4,6 +4,7 @@ use mathlib.Core.List.{List, []}
 use Prim.Native.Nat.{ℕ}
 use denote.Ref.{RefT, now}
 use Rattle.theorem_unit_calls.specs.Entries.{Frame, Within, byDefinition}
+use Rattle.entry_receive_heartbeat.specs.Hearing.{receiveHeartbeatDrive, receiveHeartbeatNumber}
 use Rattle.theorem_units.specs.Compiled.{begin, stop, start, send-heartbeat, receive-heartbeat, send-vote, receive-vote, decide, compiled}
 use Rattle.gm.proofs.gm_begin.Statement as gm-begin-says
 use Rattle.gm.proofs.gm_begin.Met as gm-begin-met
@@ -59,12 +60,14 @@ stop-told x y (stop κs a r s l z) = record { lower = (sym z ∙ l .0, l .1) }
 start-told : (x y : List ℕ) → compiled .start x y → byDefinition .start x y
 start-told x y (start κs a r s l z) = record { lower = (sym z ∙ l .0, l .1) }
 
-send-heartbeat-told : (x : List ℕ) (sync startup count channel : ℕ) (g : Frame) → compiled .send-heartbeat x sync startup count channel g → byDefinition .send-heartbeat x sync startup count channel g
-send-heartbeat-told x sync startup count channel g (send-heartbeat κs a r s l z) =
-    record { lower = (now (a .1 .1 .1 .1 .1 .0), now (a .1 .1 .1 .1 .1 .1 .0), sym z ∙ l .0, l .1 .0, l .1 .1) }
+send-heartbeat-told : (x : List ℕ) (sync startup count channel : ℕ) (drive : List ℕ) (g : Frame) → compiled .send-heartbeat x sync startup count channel drive g
+    → byDefinition .send-heartbeat x sync startup count channel drive g
+send-heartbeat-told x sync startup count channel drive g (send-heartbeat κs a r s l z) =
+    record { lower = (now (a .1 .1 .1 .1 .1 .1 .0), now (a .1 .1 .1 .1 .1 .1 .1 .0), sym z ∙ l .0, l .1 .0, l .1 .1) }
 
 receive-heartbeat-told : (n p count : ℕ) (x y : List ℕ) (heard : ℕ) → compiled .receive-heartbeat n p count x y heard → byDefinition .receive-heartbeat n p count x y heard
-receive-heartbeat-told n p count x y heard (receive-heartbeat κs a r s l z) = record { lower = (now (a .1 .1 .1 .1 .1 .0), sym z ∙ l .0, l .1) }
+receive-heartbeat-told n p count x y heard (receive-heartbeat κs a r s l z) =
+    record { lower = (now (a .1 .1 .1 .1 .1 .0), now (a .1 .1 .1 .1 .1 .1 .0), sym z ∙ l .0, l .1 .1 .0) }
 
 send-vote-told : (x : List ℕ) (heard0 heard1 count channel : ℕ) (g : Frame) → compiled .send-vote x heard0 heard1 count channel g → byDefinition .send-vote x heard0 heard1 count channel g
 send-vote-told x heard0 heard1 count channel g (send-vote κs a r s l z) =
@@ -101,11 +104,14 @@ had =
       begin = λ n q F y k. begin ([], tt) (n, (q, (F, (ref (k .lower .0), tt)))) 0 (n, (q, (F, (ref y, tt)))) (k .lower .1, k .lower .2) refl;
       stop = λ x y k. stop ([], tt) (ref x, tt) 0 (ref y, tt) (k .lower .0, k .lower .1) refl;
       start = λ x y k. start ([], tt) (ref x, tt) 0 (ref y, tt) (k .lower .0, k .lower .1) refl;
-      send-heartbeat = λ x sync startup count channel g k.
-          send-heartbeat ([], ([], ([], tt))) (ref x, (sync, (startup, (count, (channel, (ref (k .lower .0), (ref (k .lower .1), tt))))))) 0
-          (ref x, (sync, (startup, (count, (channel, (ref (g .bytes), (ref (g .sent), tt))))))) (k .lower .2, (k .lower .3, k .lower .4)) refl;
+      send-heartbeat = λ x sync startup count channel drive g k.
+          send-heartbeat ([], ([], ([], ([], tt)))) (ref x, (sync, (startup, (count, (channel, (ref drive, (ref (k .lower .0), (ref (k .lower .1), tt)))))))) 0
+          (ref x, (sync, (startup, (count, (channel, (ref drive, (ref (g .bytes), (ref (g .sent), tt)))))))) (k .lower .2, (k .lower .3, k .lower .4)) refl;
       receive-heartbeat = λ n p count x y heard k.
-          receive-heartbeat ([], ([], ([], tt))) (n, (p, (count, (ref x, (ref y, (ref (k .lower .0), tt)))))) 0 (n, (p, (count, (ref x, (ref y, (ref heard, tt)))))) (k .lower .1, k .lower .2) refl;
+          let d = k .lower .0 in
+          receive-heartbeat ([], ([], ([], ([], ([], tt))))) (n, (p, (count, (ref x, (ref y, (ref d, (ref (k .lower .1), (ref 0, tt)))))))) 0
+          (n, (p, (count, (ref x, (ref y, (ref (receiveHeartbeatDrive n p count x y d), (ref heard, (ref (receiveHeartbeatNumber n p count x y d 0), tt))))))))
+          (k .lower .2, (refl, (k .lower .3, refl))) refl;
       send-vote = λ x heard0 heard1 count channel g k.
           send-vote ([], ([], ([], tt))) (ref x, (heard0, (heard1, (count, (channel, (ref (k .lower .0), (ref (k .lower .1), tt))))))) 0
           (ref x, (heard0, (heard1, (count, (channel, (ref (g .bytes), (ref (g .sent), tt))))))) (k .lower .2, (k .lower .3, k .lower .4)) refl;

@@ -1,5 +1,6 @@
 -- The promise for units that call the compiled entries. Assumes nothing.
 use mathlib.Core.Path.{_≡_}
+use mathlib.Core.Logic.{Lift}
 use mathlib.Core.Bool.{false}
 use mathlib.Core.List.{List}
 use Prim.Native.Nat.{ℕ, _≤_}
@@ -7,7 +8,8 @@ use lib.Dec.{eqb}
 use Rattle.sets.specs.Sets.{below}
 use Rattle.rules.specs.declared.Faults.{Faults}
 use Rattle.rules.specs.Faults.{founding}
-use Rattle.theorem_unit_calls.specs.Cycle.{Pressed, SoundPressed}
+use Rattle.frames.specs.Written.{wrongDrive}
+use Rattle.theorem_unit_calls.specs.Cycle.{Pressed, Driven, SoundPressed}
 use Rattle.theorem_unit_calls.specs.Promise.{Begins, OverUnits, OverAnyBus}
 use Rattle.theorem_unit_calls.proofs.Press.{over-units, over-any-bus}
 use Rattle.theorem_unit_calls.proofs.There.{press-there}
@@ -21,16 +23,16 @@ compiled-units = over-units compiled told
 pub compiled-any-bus : OverAnyBus compiled
 compiled-any-bus = over-any-bus compiled told
 
--- the premises can be met: for every founding set and list of fault records there is such a press
-pub compiled-there : (n F : ℕ) (cs : List Faults) → 2 ≤ n → n ≤ 64 → eqb F 0 ≡ false → below n F ≡ F
-    → (x : ℕ → List ℕ) × (z : ℕ → List ℕ) × Begins compiled n F x × Pressed compiled n cs x z
+-- the premises can be met: for every founding set, list of fault records and drive bytes of each unit there is such a press
+pub compiled-there : (n F : ℕ) (cs : List Faults) (drive : ℕ → List ℕ) → 2 ≤ n → n ≤ 64 → eqb F 0 ≡ false → below n F ≡ F → ((q : ℕ) → wrongDrive (drive q) ≡ false)
+    → (x : ℕ → List ℕ) × (z : ℕ → List ℕ) × Begins compiled n F x × (k : Pressed compiled n cs x z) × Lift {0, 1} (Driven drive k)
 compiled-there = press-there compiled had
 
 -- and where nobody knows the records: the same press, cycle by cycle with the same units stopped and started, under the records of what came
-pub compiled-sound-there : (n F : ℕ) (cs : List Faults) → 2 ≤ n → n ≤ 64 → eqb F 0 ≡ false → below n F ≡ F
-    → (x : ℕ → List ℕ) × (z : ℕ → List ℕ) × Begins compiled n F x × Pressed compiled n cs x z
+pub compiled-sound-there : (n F : ℕ) (cs : List Faults) (drive : ℕ → List ℕ) → 2 ≤ n → n ≤ 64 → eqb F 0 ≡ false → below n F ≡ F → ((q : ℕ) → wrongDrive (drive q) ≡ false)
+    → (x : ℕ → List ℕ) × (z : ℕ → List ℕ) × Begins compiled n F x × ((k : Pressed compiled n cs x z) × Lift {0, 1} (Driven drive k))
     × (ds : List Faults) × SameRuleOne cs ds × SoundPressed compiled n (founding n 0 F) ds x z
-compiled-sound-there n F cs two few some-founder founders =
-    let press = compiled-there n F cs two few some-founder founders in
+compiled-sound-there n F cs drive two few some-founder founders even =
+    let press = compiled-there n F cs drive two few some-founder founders even in
     let sound = pressed-sound compiled n (founding n 0 F) cs (press .0) (press .1) (press .3) in
-    (press .0, press .1, press .2, press .3, sound .0, sound .1, sound .2)
+    (press .0, press .1, press .2, (press .3, press .4), sound .0, sound .1, sound .2)

@@ -26,15 +26,16 @@ pub data Stop : (x y : List ℕ) → Type 1 where
 pub data Start : (x y : List ℕ) → Type 1 where
   start : (κs : _) (a : _) (r : _) (s : _) → gm-start.Learnt κs a r s → r ≡ 0 → Start (now (a .0)) (now (s .0))
 
--- gm_send_heartbeat(state, sync, startup, cycle, channel, frame, sent)
-pub data SendHeartbeat : (x : List ℕ) (sync startup count channel : ℕ) (g : Frame) → Type 1 where
+-- gm_send_heartbeat(state, sync, startup, cycle, channel, drive, frame, sent)
+pub data SendHeartbeat : (x : List ℕ) (sync startup count channel : ℕ) (drive : List ℕ) (g : Frame) → Type 1 where
   send-heartbeat : (κs : _) (a : _) (r : _) (s : _) → gm-send-heartbeat.Learnt κs a r s → r ≡ 0
-      → SendHeartbeat (now (a .0)) (a .1 .0) (a .1 .1 .0) (a .1 .1 .1 .0) (a .1 .1 .1 .1 .0) (record { bytes = now (s .1 .1 .1 .1 .1 .0); sent = now (s .1 .1 .1 .1 .1 .1 .0) })
+      → SendHeartbeat (now (a .0)) (a .1 .0) (a .1 .1 .0) (a .1 .1 .1 .0) (a .1 .1 .1 .1 .0) (now (a .1 .1 .1 .1 .1 .0))
+      (record { bytes = now (s .1 .1 .1 .1 .1 .1 .0); sent = now (s .1 .1 .1 .1 .1 .1 .1 .0) })
 
--- gm_receive_heartbeat(n, node, cycle, a, b, heard)
+-- gm_receive_heartbeat(n, node, cycle, a, b, drive, heard, drive_bytes)
 pub data ReceiveHeartbeat : (n p count : ℕ) (x y : List ℕ) (heard : ℕ) → Type 1 where
   receive-heartbeat : (κs : _) (a : _) (r : _) (s : _) → gm-receive-heartbeat.Learnt κs a r s → r ≡ 0
-      → ReceiveHeartbeat (a .0) (a .1 .0) (a .1 .1 .0) (now (a .1 .1 .1 .0)) (now (a .1 .1 .1 .1 .0)) (now (s .1 .1 .1 .1 .1 .0))
+      → ReceiveHeartbeat (a .0) (a .1 .0) (a .1 .1 .0) (now (a .1 .1 .1 .0)) (now (a .1 .1 .1 .1 .0)) (now (s .1 .1 .1 .1 .1 .1 .0))
 
 -- gm_send_vote(state, heard0, heard1, cycle, channel, frame, sent)
 pub data SendVote : (x : List ℕ) (heard0 heard1 count channel : ℕ) (g : Frame) → Type 1 where

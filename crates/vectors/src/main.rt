@@ -1,6 +1,16 @@
 // Published values of the frame check, and header checks and frames made by other code: what is printed here must be the stored output.
-// Published are the checks of the digits 1 to 9, as CRC-24/FLEXRAY-A and -B. The header checks and frames are those of the plain C in bench/plain and of the
-// Rust in tests/host, which agree.
+// Published are the checks of the digits 1 to 9, as CRC-24/FLEXRAY-A and -B. The header checks and the votes are those of the plain C in bench/plain and of the
+// Rust in tests/host, which agree. The heartbeats are made with Debian's python3-crccheck, by `/usr/bin/python3` on these lines:
+//     from crccheck.crc import Crc11Flexray, Crc24FlexrayA, Crc24FlexrayB
+//     def beat(q, join, sync, startup, cycle, drive, crc):
+//         field = ((sync * 2 + startup) << 18) + ((q + 1) << 7) + 1 + len(drive) // 2
+//         check = Crc11Flexray.calc((field ^ 0x1A << 9).to_bytes(3, "big"), 0)
+//         head = ((4 << 35) + (field << 17) + (check << 6) + cycle).to_bytes(5, "big")
+//         frame = head + bytes([join * 128, 0]) + drive
+//         print((frame + crc.calc(frame).to_bytes(3, "big")).hex())
+//     drive = bytes((7 * i + 13) % 256 for i in range(252))
+//     for b in (0, 0, 0, 0, 0, 0), (4, 1, 0, 0, 63, 0), (63, 0, 1, 1, 9, 0), (2, 1, 1, 0, 5, 2), (40, 0, 0, 0, 62, 4), (63, 1, 1, 1, 63, 252):
+//         for crc in Crc24FlexrayA, Crc24FlexrayB: beat(*b[:5], drive[:b[5]], crc)
 ghost use Prim.Native.Nat.{_<_};
 use libc::STDOUT_FILENO;
 use rules::Vote;
@@ -93,18 +103,52 @@ fn show_headers() {
     show_header(0, 0, 2047, 127);
 }
 
-fn show_frames() {
-    let member = frame_writing::write_heartbeat(0, 0, 0, 0, 0, 0);
-    show_bytes(&member);
-    let joining = frame_writing::write_heartbeat(4, 1, 0, 0, 63, 1);
-    show_bytes(&joining);
-    let starting = frame_writing::write_heartbeat(63, 0, 1, 1, 9, 0);
-    show_bytes(&starting);
+// A heartbeat of node q of 64 on both channels, through a buffer as long as it.
+fn show_heartbeat(
+    q: u32,
+    join: u32,
+    sync: u32,
+    startup: u32,
+    cycle: u32,
+    drive: &[u8],
+    frame: &mut [u8],
+) {
+    entry_write_heartbeat::write(64, q, join, sync, startup, cycle, 0, drive, frame);
+    show_bytes(frame);
+    entry_write_heartbeat::write(64, q, join, sync, startup, cycle, 1, drive, frame);
+    show_bytes(frame);
+}
+
+// Drive bytes: no two that follow each other are equal.
+fn drive_bytes() -> [u8; 252] {
+    let mut drive = [0u8; 252];
+    let mut i = 0;
+    while i < 252 {
+        drive[i] = ((7 * i + 13) % 256) as u8;
+        i += 1;
+    }
+    drive
+}
+
+// Of one, two, three and 127 words.
+fn show_heartbeats() {
+    let none = [0u8; 0];
+    let mut one = [0u8; 10];
+    show_heartbeat(0, 0, 0, 0, 0, &none, &mut one);
+    show_heartbeat(4, 1, 0, 0, 63, &none, &mut one);
+    show_heartbeat(63, 0, 1, 1, 9, &none, &mut one);
+    let mut two = [0u8; 12];
+    show_heartbeat(2, 1, 1, 0, 5, &[13, 20], &mut two);
+    let mut three = [0u8; 14];
+    show_heartbeat(40, 0, 0, 0, 62, &[13, 20, 27, 34], &mut three);
+    let drive = drive_bytes();
+    let mut most = [0u8; 262];
+    show_heartbeat(63, 1, 1, 1, 63, &drive, &mut most);
 }
 
 fn main() {
     show_headers();
     show_check(b"123456789");
-    show_frames();
+    show_heartbeats();
     show_votes();
 }

@@ -9,11 +9,11 @@ use Rattle.bus_channels.proofs.put_heartbeat.Tie as tie
 contains-requires : tie.Need-contains-requires
 contains-requires c κs = search needs
 
-cast-write-heartbeat : tie.Need-cast-write-heartbeat
-cast-write-heartbeat c = search needs
+cast-run-heartbeat : tie.Need-cast-run-heartbeat
+cast-run-heartbeat c = search needs
 
-write-heartbeat-requires : tie.Need-write-heartbeat-requires
-write-heartbeat-requires c κs = search needs
+run-heartbeat-requires : tie.Need-run-heartbeat-requires
+run-heartbeat-requires c κs = search needs
 
 slice-aggregate-put : tie.Need-slice-aggregate-put
 slice-aggregate-put c = search needs
@@ -24,11 +24,11 @@ put-requires c κs = search needs
 contains-requires-2 : tie.Need-contains-requires-2
 contains-requires-2 c κs = search needs
 
-cast-write-heartbeat-2 : tie.Need-cast-write-heartbeat-2
-cast-write-heartbeat-2 c = search needs
+cast-run-heartbeat-2 : tie.Need-cast-run-heartbeat-2
+cast-run-heartbeat-2 c = search needs
 
-write-heartbeat-requires-2 : tie.Need-write-heartbeat-requires-2
-write-heartbeat-requires-2 c κs = search needs
+run-heartbeat-requires-2 : tie.Need-run-heartbeat-requires-2
+run-heartbeat-requires-2 c κs = search needs
 
 slice-aggregate-put-2 : tie.Need-slice-aggregate-put-2
 slice-aggregate-put-2 c = search needs
@@ -40,7 +40,7 @@ returns : tie.Need-returns
 returns c =
     let t = c .before .before .before in
     let a = t .before .before .args in
-    rw (sym (t .before .contains .ensures) ∙ t .if1 .taken) (c .put .ensures ∙ ap (λ (x : List ℕ). withFrame (a .q) x (a .all)) (c .before .before .write-heartbeat .ensures))
+    rw (sym (t .before .contains .ensures) ∙ t .if1 .taken) (c .put .ensures ∙ ap (λ (x : List ℕ). withFrame (a .q) x (a .all)) (c .before .before .run-heartbeat .ensures))
 
 returns-2 : tie.Need-returns-2
 returns-2 c =
@@ -48,7 +48,7 @@ returns-2 c =
     let e = t .before .before in
     let a = e .before .before .args in
     rw (sym (e .before .contains .ensures) ∙ e .if1 .left, sym (t .before .contains2 .ensures) ∙ t .if2 .taken)
-    (c .put2 .ensures ∙ ap (λ (x : List ℕ). withFrame (a .q) x (a .all)) (c .before .before .write-heartbeat2 .ensures))
+    (c .put2 .ensures ∙ ap (λ (x : List ℕ). withFrame (a .q) x (a .all)) (c .before .before .run-heartbeat2 .ensures))
 
 returns-3 : tie.Need-returns-3
 returns-3 c =
@@ -60,13 +60,13 @@ put-heartbeat-spec =
     tie.close
     (tie.spec
     contains-requires
-    cast-write-heartbeat
-    write-heartbeat-requires
+    cast-run-heartbeat
+    run-heartbeat-requires
     slice-aggregate-put
     put-requires
     contains-requires-2
-    cast-write-heartbeat-2
-    write-heartbeat-requires-2
+    cast-run-heartbeat-2
+    run-heartbeat-requires-2
     slice-aggregate-put-2
     put-requires-2
     returns

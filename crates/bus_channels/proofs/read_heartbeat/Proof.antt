@@ -1,30 +1,24 @@
-use mathlib.Core.Path.{_≡_, ap, ap₂, _∙_}
+use mathlib.Core.Path.{_≡_, ap, _∙_}
 use mathlib.Core.Bool.{Bool, cond}
 use mathlib.Core.List.{List}
 use Prim.Native.Nat.{ℕ, _+_, _-_, _*_}
 use native.Mathlib.Omega.{arith}
 use lib.ListN.{take, drop}
-use borrow.Author.Needs.{needs}
 use Rattle.sets.specs.Sets.{has}
-use Rattle.frames.specs.declared.HeartbeatRead.{HeartbeatRead}
-use Rattle.frames.specs.declared.HeartbeatReceived.{HeartbeatReceived}
-use Rattle.frames.specs.Read.{readHeartbeat, receiveHeartbeat}
+use Rattle.frames.specs.declared.HeartbeatCounted.{HeartbeatCounted}
+use Rattle.frames.specs.Read.{receiveHeartbeat}
 use Rattle.bus_channels.specs.Channels.{heartbeatRead}
+use borrow.Author.Needs.{needs}
 use Rattle.bus_channels.proofs.read_heartbeat.Statement.{statement}
 use Rattle.bus_channels.proofs.read_heartbeat.Tie as tie
 
 -- what is found in the two copies is what is read there
-found : (p count reach k : ℕ) (a b : List ℕ) {x y : HeartbeatRead} {r : HeartbeatReceived} → k ≡ cond (has p reach) 10 0
-    → x ≡ readHeartbeat p count 0 (take (36 * p + k - 36 * p) (drop (36 * p) a)) → y ≡ readHeartbeat p count 1 (take (36 * p + k - 36 * p) (drop (36 * p) b))
-    → r ≡ receiveHeartbeat x y → r ≡ heartbeatRead count reach a b p
+found : (p count reach k : ℕ) (a b : List ℕ) {r : HeartbeatCounted} → k ≡ cond (has p reach) 10 0
+    → r ≡ receiveHeartbeat p count (take (36 * p + k - 36 * p) (drop (36 * p) a)) (take (36 * p + k - 36 * p) (drop (36 * p) b)) → r .heard ≡ heartbeatRead count reach a b p
 unfolding heartbeatRead
-found p count reach k a b e ex ey er =
+found p count reach k a b e er =
     let l : 36 * p + k - 36 * p ≡ k = omega arith in
-    let m : 36 * p + k - 36 * p ≡ cond (has p reach) 10 0 = l ∙ e in
-    er
-    ∙ ap₂ receiveHeartbeat
-    (ex ∙ ap (λ (n : ℕ). readHeartbeat p count 0 (take n (drop (36 * p) a))) m)
-    (ey ∙ ap (λ (n : ℕ). readHeartbeat p count 1 (take n (drop (36 * p) b))) m)
+    ap (λ (z : HeartbeatCounted). z .heard) (er ∙ ap (λ (n : ℕ). receiveHeartbeat p count (take n (drop (36 * p) a)) (take n (drop (36 * p) b))) (l ∙ e))
 
 mul-at : tie.Need-mul-at
 mul-at c = search needs
@@ -38,46 +32,36 @@ copy-length-requires c κs = search needs
 add-end : tie.Need-add-end
 add-end c = search needs
 
-cast-read-heartbeat : tie.Need-cast-read-heartbeat
-cast-read-heartbeat c = search needs
+cast-receive-heartbeat : tie.Need-cast-receive-heartbeat
+cast-receive-heartbeat c = search needs
 
-sub-read-heartbeat : tie.Need-sub-read-heartbeat
-sub-read-heartbeat c = search needs
+sub-receive-heartbeat : tie.Need-sub-receive-heartbeat
+sub-receive-heartbeat c = search needs
 
-part-read-heartbeat-start : tie.Need-part-read-heartbeat-start
-part-read-heartbeat-start c = search needs
+part-receive-heartbeat-start : tie.Need-part-receive-heartbeat-start
+part-receive-heartbeat-start c = search needs
 
-part-read-heartbeat-end : tie.Need-part-read-heartbeat-end
-part-read-heartbeat-end c = search needs
+part-receive-heartbeat-end : tie.Need-part-receive-heartbeat-end
+part-receive-heartbeat-end c = search needs
 
-read-heartbeat-requires : tie.Need-read-heartbeat-requires
-read-heartbeat-requires c κs = search needs
+sub-receive-heartbeat-2 : tie.Need-sub-receive-heartbeat-2
+sub-receive-heartbeat-2 c = search needs
 
-cast-read-heartbeat-2 : tie.Need-cast-read-heartbeat-2
-cast-read-heartbeat-2 c = search needs
+part-receive-heartbeat-start-2 : tie.Need-part-receive-heartbeat-start-2
+part-receive-heartbeat-start-2 c = search needs
 
-sub-read-heartbeat-2 : tie.Need-sub-read-heartbeat-2
-sub-read-heartbeat-2 c = search needs
-
-part-read-heartbeat-start-2 : tie.Need-part-read-heartbeat-start-2
-part-read-heartbeat-start-2 c = search needs
-
-part-read-heartbeat-end-2 : tie.Need-part-read-heartbeat-end-2
-part-read-heartbeat-end-2 c = search needs
-
-read-heartbeat-requires-2 : tie.Need-read-heartbeat-requires-2
-read-heartbeat-requires-2 c κs = search needs
+part-receive-heartbeat-end-2 : tie.Need-part-receive-heartbeat-end-2
+part-receive-heartbeat-end-2 c = search needs
 
 receive-heartbeat-requires : tie.Need-receive-heartbeat-requires
 receive-heartbeat-requires c κs = search needs
 
 returns : tie.Need-returns
 returns c =
-    let two = c .before .before .before in
-    let len = two .before .before in
+    let len = c .before .before .before in
     let a = len .before .before .before .before .args in
     found (a .p) (a .count) (a .reach) (len .copy-length .result) (a .a .now) (a .b .now) (len .copy-length .ensures .0 ∙ ap (λ (x : Bool). cond x 10 0) (len .before .contains .ensures))
-    (two .read-heartbeat .ensures) (c .before .read-heartbeat2 .ensures) (c .receive-heartbeat .ensures)
+    (c .receive-heartbeat .ensures)
 
 pub read-heartbeat-spec : {M : Type 1} → statement M
 read-heartbeat-spec =
@@ -87,15 +71,12 @@ read-heartbeat-spec =
     contains-requires
     copy-length-requires
     add-end
-    cast-read-heartbeat
-    sub-read-heartbeat
-    part-read-heartbeat-start
-    part-read-heartbeat-end
-    read-heartbeat-requires
-    cast-read-heartbeat-2
-    sub-read-heartbeat-2
-    part-read-heartbeat-start-2
-    part-read-heartbeat-end-2
-    read-heartbeat-requires-2
+    cast-receive-heartbeat
+    sub-receive-heartbeat
+    part-receive-heartbeat-start
+    part-receive-heartbeat-end
+    sub-receive-heartbeat-2
+    part-receive-heartbeat-start-2
+    part-receive-heartbeat-end-2
     receive-heartbeat-requires
     returns)

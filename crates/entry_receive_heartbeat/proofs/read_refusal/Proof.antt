@@ -1,4 +1,5 @@
 use mathlib.Core.Path.{sym, _∙_}
+use borrow.Author.Tests.{eq-eqb, ne-eqb}
 use Rattle.refusal.specs.Refusal.{first}
 use Rattle.entry_receive_heartbeat.specs.Hearing.{readStatus}
 use borrow.Author.Needs.{needs}
@@ -21,8 +22,16 @@ returns-2 c = simp (sym (c .before .before .before .wrong-count .ensures) ∙ c 
 
 returns-3 : tie.Need-returns-3
 unfolding readStatus first
-returns-3 c = simp (sym (c .before .before .before .wrong-count .ensures) ∙ c .before .before .if1 .left, sym (c .before .wrong-slot .ensures) ∙ c .if2 .left)
+returns-3 c =
+    let s = c .before in
+    simp (sym (s .before .before .before .wrong-count .ensures) ∙ s .before .before .if1 .left, sym (s .before .wrong-slot .ensures) ∙ s .if2 .left, ne-eqb _ _ (c .if3 .taken))
+
+returns-4 : tie.Need-returns-4
+unfolding readStatus first
+returns-4 c =
+    let s = c .before in
+    simp (sym (s .before .before .before .wrong-count .ensures) ∙ s .before .before .if1 .left, sym (s .before .wrong-slot .ensures) ∙ s .if2 .left, eq-eqb _ _ (c .if3 .left))
 
 pub read-refusal-spec : {M : Type 1} → statement M
 read-refusal-spec =
-    tie.close (tie.spec wrong-count-requires returns wrong-slot-requires returns-2 returns-3)
+    tie.close (tie.spec wrong-count-requires returns wrong-slot-requires returns-2 returns-3 returns-4)

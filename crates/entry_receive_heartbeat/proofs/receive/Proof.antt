@@ -1,4 +1,13 @@
-use mathlib.Core.Path.{_≡_, sym, _∙_}
+use mathlib.Core.Path.{_≡_, refl, sym, ap, _∙_}
+use mathlib.Core.List.{[]}
+use Prim.Native.Nat.{_≤_}
+use lib.ListN.{length}
+use denote.Ref.{now}
+use Rattle.frames.specs.declared.Copy.{Copy}
+use Rattle.frames.specs.declared.Copy.the-variants.{Neither, OnA, OnB}
+use Rattle.frames.specs.declared.HeartbeatCounted.{HeartbeatCounted}
+use Rattle.frames.specs.Read.{driveOf, receiveHeartbeat}
+use Rattle.frames.proofs.TwoChannels.{a-counts, b-counts, drive-of-copy}
 use Rattle.entry_receive_heartbeat.specs.Hearing.{readStatus}
 use Rattle.entry_receive_heartbeat.proofs.Heard.{read-bounds, receive-refused, receive-copies}
 use borrow.Author.Needs.{needs}
@@ -6,40 +15,107 @@ use Rattle.entry_receive_heartbeat.proofs.receive.Statement.{statement}
 use Rattle.entry_receive_heartbeat.proofs.receive.Tie as tie
 
 -- nothing was refused
-fine : (c : tie.Else1) → let a = c .before .before .before .before .args in readStatus (a .n) (a .node) (a .cycle) 0 ≡ 0
+fine : (c : tie.Else1) → let a = c .before .before .before .before .before .before .args in readStatus (a .n) (a .node) (a .cycle) 0 (now (a .drive)) ≡ 0
 fine c = sym (c .before .read-refusal .ensures) ∙ c .if1 .left
+
+-- the copy that counts
+counts : (c : tie.After-receive-heartbeat) (copy : Copy) → c .receive-heartbeat .result .copy ≡ copy
+    → let a = c .before .before .before .before .before .before .before .args in receiveHeartbeat (a .node) (a .cycle) (now (a .a)) (now (a .b)) .copy ≡ copy
+counts c copy e = ap (λ (x : HeartbeatCounted). x .copy) (sym (c .receive-heartbeat .ensures)) ∙ e
 
 read-refusal-requires : tie.Need-read-refusal-requires
 read-refusal-requires c κs = search needs
 
+same-length : tie.Need-same-length
+same-length c = search needs
+
 returns : tie.Need-returns
-returns c = receive-refused _ _ _ _ _ _ _ (c .before .read-refusal .ensures) (c .if1 .taken)
-
-read-heartbeat-requires : tie.Need-read-heartbeat-requires
-read-heartbeat-requires c κs = read-bounds _ _ _ _ (fine c)
-
-read-heartbeat-requires-2 : tie.Need-read-heartbeat-requires-2
-read-heartbeat-requires-2 c κs = read-bounds _ _ _ _ (fine (c .before))
+returns c =
+    let a = c .before .before .before .before .before .before .args in
+    receive-refused (a .n) (a .node) (a .cycle) (now (a .a)) (now (a .b)) (now (a .drive)) (now (a .heard)) (now (a .number)) _ (c .before .read-refusal .ensures) (c .if1 .taken)
 
 receive-heartbeat-requires : tie.Need-receive-heartbeat-requires
-receive-heartbeat-requires c κs = search needs
+receive-heartbeat-requires c κs = read-bounds _ _ _ _ _ (fine c) .0
 
 heard-code-requires : tie.Need-heard-code-requires
 heard-code-requires c κs = search needs
 
+enum-told : tie.Need-enum-told
+enum-told c = search needs
+
+enum-told-2 : tie.Need-enum-told-2
+enum-told-2 c = search needs
+
+put-drive-requires : tie.Need-put-drive-requires
+put-drive-requires c κs =
+    let t = c .before in
+    let r = t .before .before .before in
+    let l = a-counts _ _ _ _ (counts r OnA (t .enum-told2 .given .1)) in
+    (l .0, (l .1, read-bounds _ _ _ _ _ (fine (r .before)) .1))
+
+enum-told-3 : tie.Need-enum-told-3
+enum-told-3 c = search needs
+
+put-drive-requires-2 : tie.Need-put-drive-requires-2
+put-drive-requires-2 c κs =
+    let t = c .before in
+    let r = t .before .before .before in
+    let l = b-counts _ _ _ _ (counts r OnB (t .enum-told3 .given .1)) in
+    (l .0, (l .1, read-bounds _ _ _ _ _ (fine (r .before)) .1))
+
+same-length-2 : tie.Need-same-length-2
+same-length-2 c = search needs
+
 returns-2 : tie.Need-returns-2
 returns-2 c =
-    let b = c .before .before in
-    receive-copies _ _ _ _ _ _ _ _ _ _ (fine (b .before .before)) (b .before .read-heartbeat .ensures) (b .read-heartbeat2 .ensures) (c .before .receive-heartbeat .ensures) (c .heard-code .ensures)
+    let h = c .before .before in
+    let r = h .before in
+    let a = r .before .before .before .before .before .before .before .args in
+    receive-copies (a .n) (a .node) (a .cycle) (now (a .a)) (now (a .b)) (now (a .drive)) (now (a .heard)) (now (a .number)) _ [] _ _ _ (fine (r .before)) (r .receive-heartbeat .ensures) (h .heard-code .ensures) (drive-of-copy _ _ _ _ Neither (counts r Neither (c .enum-told .given .1))) refl refl
+
+same-length-3 : tie.Need-same-length-3
+same-length-3 c = search needs
+
+returns-3 : tie.Need-returns-3
+returns-3 c =
+    let p = c .before .before in
+    let t = p .before .before in
+    let h = t .before .before in
+    let r = h .before in
+    let a = r .before .before .before .before .before .before .before .args in
+    receive-copies (a .n) (a .node) (a .cycle) (now (a .a)) (now (a .b)) (now (a .drive)) (now (a .heard)) (now (a .number)) _ (driveOf (now (a .a))) _ _ _ (fine (r .before)) (r .receive-heartbeat .ensures) (h .heard-code .ensures) (drive-of-copy _ _ _ _ OnA (counts r OnA (t .enum-told2 .given .1)))
+    (p .put-drive .ensures .1) (p .put-drive .ensures .0)
+
+same-length-4 : tie.Need-same-length-4
+same-length-4 c = search needs
+
+returns-4 : tie.Need-returns-4
+returns-4 c =
+    let p = c .before .before in
+    let t = p .before .before in
+    let h = t .before .before in
+    let r = h .before in
+    let a = r .before .before .before .before .before .before .before .args in
+    receive-copies (a .n) (a .node) (a .cycle) (now (a .a)) (now (a .b)) (now (a .drive)) (now (a .heard)) (now (a .number)) _ (driveOf (now (a .b))) _ _ _ (fine (r .before)) (r .receive-heartbeat .ensures) (h .heard-code .ensures) (drive-of-copy _ _ _ _ OnB (counts r OnB (t .enum-told3 .given .1)))
+    (p .put-drive2 .ensures .1) (p .put-drive2 .ensures .0)
 
 pub receive-spec : {M : Type 1} → statement M
 receive-spec =
     tie.close
     (tie.spec
     read-refusal-requires
+    same-length
     returns
-    read-heartbeat-requires
-    read-heartbeat-requires-2
     receive-heartbeat-requires
     heard-code-requires
-    returns-2)
+    enum-told
+    enum-told-2
+    put-drive-requires
+    enum-told-3
+    put-drive-requires-2
+    same-length-2
+    returns-2
+    same-length-3
+    returns-3
+    same-length-4
+    returns-4)

@@ -1,3 +1,4 @@
+use native.Mathlib.Omega.{arith}
 use Rattle.entry_send_heartbeat.proofs.Sent.{send-frame, send-nothing}
 use borrow.Author.Needs.{needs}
 use Rattle.entry_send_heartbeat.proofs.send_of.Statement.{statement}
@@ -13,30 +14,28 @@ join-bit-requires : tie.Need-join-bit-requires
 join-bit-requires c κs = search needs
 
 write-heartbeat-requires : tie.Need-write-heartbeat-requires
-write-heartbeat-requires c κs = search needs
-
-slice-aggregate-copy : tie.Need-slice-aggregate-copy
-slice-aggregate-copy c = search needs
-
-copy-requires : tie.Need-copy-requires
-copy-requires c κs = search needs
+write-heartbeat-requires c κs =
+    let s = c .before .before .before .before .before .before .before in
+    (omega arith, (c .before .join-bit .ensures .1, (omega arith, (omega arith, (omega arith, (s .pre .1 .1 .1 .1 .0, s .pre .1 .1 .1 .1 .1))))))
 
 same-length : tie.Need-same-length
 same-length c = search needs
 
 returns : tie.Need-returns
 returns c =
-    let m = c .before .before in
-    let w = m .before .before .before in
-    let b = w .before .before .before .before in
-    let a = b .before .before in (
-      send-frame (a .args .n) _ _ _ _ _ _ _ _ _ (a .pre .1 .1 .1 .1) (b .sends-byte .ensures) (w .before .before .before .if1 .taken) (w .before .join-bit .ensures .0) (w .write-heartbeat .ensures) (m .copy .ensures .1),
+    let w = c .before .before in
+    let j = w .before .before in
+    let t = j .before .before in
+    let b = t .before in
+    let a = b .before .before .before .args in (
+      send-frame (a .n) _ _ _ _ _ (a .frame .now) _ _ _ (b .sends-byte .ensures) (t .if1 .taken) (j .join-bit .ensures .0) (w .write-heartbeat .ensures),
       b .sends-byte .ensures,
     )
 
 returns-2 : tie.Need-returns-2
 returns-2 c =
-    (send-nothing (c .before .before .before .args .n) _ _ _ _ _ _ (c .before .sends-byte .ensures) (c .if1 .left), c .before .sends-byte .ensures)
+    let a = c .before .before .before .before .args in
+    (send-nothing (a .n) (a .sync) (a .startup) (a .cycle) (a .channel) (a .drive .now) (a .frame .now) _ (c .before .sends-byte .ensures) (c .if1 .left), c .before .sends-byte .ensures)
 
 pub send-of-spec : {M : Type 1} → statement M
 send-of-spec =
@@ -46,8 +45,6 @@ send-of-spec =
     cast-write-heartbeat
     join-bit-requires
     write-heartbeat-requires
-    slice-aggregate-copy
-    copy-requires
     same-length
     returns
     returns-2)

@@ -1,15 +1,15 @@
 use mathlib.Core.Path.{_≡_, sym, _∙_}
-use native.Mathlib.Omega.{arith}
 use Rattle.refusal.proofs.Laws.{unless-refused}
 use denote.Ref.{now}
 use Rattle.entry_write_heartbeat.specs.Heartbeats.{writeHeartbeatStatus, writeHeartbeatLeft}
-use Rattle.entry_write_heartbeat.proofs.Beats.{write-bounds, write-length, written}
+use Rattle.entry_write_heartbeat.proofs.Beats.{write-bounds, written}
 use borrow.Author.Needs.{needs}
 use Rattle.entry_write_heartbeat.proofs.write.Statement.{statement}
 use Rattle.entry_write_heartbeat.proofs.write.Tie as tie
 
 -- nothing was refused
-fine : (c : tie.Else1) → let a = c .before .before .before .before .args in writeHeartbeatStatus (a .n) (a .node) (a .join) (a .sync) (a .startup) (a .cycle) (a .channel) (now (a .frame)) ≡ 0
+fine : (c : tie.Else1) → let a = c .before .before .before .before .before .args in
+    writeHeartbeatStatus (a .n) (a .node) (a .join) (a .sync) (a .startup) (a .cycle) (a .channel) (now (a .drive)) (now (a .frame)) ≡ 0
 fine c = sym (c .before .write-refusal .ensures) ∙ c .if1 .left
 
 write-refusal-requires : tie.Need-write-refusal-requires
@@ -25,18 +25,11 @@ returns c = (c .before .write-refusal .ensures, sym (unless-refused _ _ _ (λ z.
 -- above what the call asks: a frame of other numbers is wrong here alone
 returns-2 : tie.Need-returns-2
 returns-2 c =
-    let m = c .before .before in
-    let w = m .before .before .before in
-    written _ _ _ _ _ _ _ _ (fine (w .before)) _ _ (w .write-heartbeat .ensures) (m .copy .ensures .1)
+    let w = c .before .before in
+    written _ _ _ _ _ _ _ _ _ (fine (w .before .before)) _ (w .write-heartbeat .ensures)
 
 write-heartbeat-requires : tie.Need-write-heartbeat-requires
-write-heartbeat-requires c κs = write-bounds _ _ _ _ _ _ _ _ (fine c)
-
-slice-aggregate-copy : tie.Need-slice-aggregate-copy
-slice-aggregate-copy c = search needs
-
-copy-requires : tie.Need-copy-requires
-copy-requires c κs = let l = write-length _ _ _ _ _ _ _ _ (fine (c .before .before .before)) in omega arith
+write-heartbeat-requires c κs = write-bounds _ _ _ _ _ _ _ _ _ (fine (c .before))
 
 same-length-2 : tie.Need-same-length-2
 same-length-2 c = search needs
@@ -49,7 +42,5 @@ write-spec =
     same-length
     returns
     write-heartbeat-requires
-    slice-aggregate-copy
-    copy-requires
     same-length-2
     returns-2)

@@ -1,6 +1,7 @@
 -- `frame_checks::is_due` meets its contract: each test is one of `isDue`. Assumes nothing.
+use mathlib.Core.Path.{sym, _∙_}
 use native.Mathlib.Nat.{div-one}
-use borrow.Author.Tests.{eq-eqb, ne-eqb}
+use borrow.Author.Tests.{eq-eqb, ne-eqb, not-true, not-false}
 use borrow.Author.Needs.{needs}
 use Rattle.frames.specs.Read.{isDue}
 use Rattle.frame_checks.proofs.is_due.Statement.{statement}
@@ -20,20 +21,28 @@ returns-3 c = λ s e. simp (e, eq-eqb _ _ (c .before .before .if1 .left), eq-eqb
 
 returns-4 : tie.Need-returns-4
 unfolding isDue
-returns-4 c = λ s e. simp (e, eq-eqb _ _ (c .before .before .before .if1 .left), eq-eqb _ _ (c .before .before .if2 .left), eq-eqb _ _ (c .before .if3 .left), ne-eqb _ _ (c .if4 .taken))
+returns-4 c = λ s e. simp (e, div-one, eq-eqb _ _ (c .before .before .before .if1 .left), eq-eqb _ _ (c .before .before .if2 .left), eq-eqb _ _ (c .before .if3 .left), ne-eqb _ _ (c .if4 .taken))
+
+words-due-requires : tie.Need-words-due-requires
+words-due-requires c κs = search needs
 
 returns-5 : tie.Need-returns-5
 unfolding isDue
-returns-5 c = λ s e. simp (e, div-one, eq-eqb _ _ (c .before .before .before .before .if1 .left), eq-eqb _ _ (c .before .before .before .if2 .left), eq-eqb _ _ (c .before .before .if3 .left), eq-eqb _ _ (c .before .if4 .left), ne-eqb _ _ (c .if5 .taken))
+returns-5 c =
+    let p = c .before .before in
+    λ s e. simp (e, div-one, eq-eqb _ _ (p .before .before .before .if1 .left), eq-eqb _ _ (p .before .before .if2 .left), eq-eqb _ _ (p .before .if3 .left), eq-eqb _ _ (p .if4 .left), sym (c .before .words-due .ensures s e) ∙ not-true _ (c .if5 .taken))
 
 indicators-requires : tie.Need-indicators-requires
 indicators-requires c κs = search needs
 
 returns-6 : tie.Need-returns-6
 unfolding isDue
-returns-6 c = λ s e. simp (e, div-one, eq-eqb _ _ (c .before .before .before .before .before .if1 .left), eq-eqb _ _ (c .before .before .before .before .if2 .left), eq-eqb _ _ (c .before .before .before .if3 .left), eq-eqb _ _ (c .before .before .if4 .left), eq-eqb _ _ (c .before .if5 .left), c .indicators .ensures s e)
+returns-6 c =
+    let w = c .before .before in
+    let p = w .before in
+    λ s e. simp (e, div-one, eq-eqb _ _ (p .before .before .before .if1 .left), eq-eqb _ _ (p .before .before .if2 .left), eq-eqb _ _ (p .before .if3 .left), eq-eqb _ _ (p .if4 .left), sym (w .words-due .ensures s e) ∙ not-false _ (c .before .if5 .left), c .indicators .ensures s e)
 
 pub is-due-spec : {M : Type 1} → statement M
 is-due-spec =
     tie.close
-    (tie.spec returns returns-2 returns-3 returns-4 returns-5 indicators-requires returns-6)
+    (tie.spec returns returns-2 returns-3 returns-4 words-due-requires returns-5 indicators-requires returns-6)

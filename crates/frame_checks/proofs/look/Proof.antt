@@ -1,5 +1,5 @@
 -- `frame_checks::look` meets its contract: each refusal comes after the tests of those below it. Assumes nothing.
-use mathlib.Core.Path.{_≡_, sym, _∙_}
+use mathlib.Core.Path.{_≡_, sym, ap, _∙_}
 use mathlib.Core.Bool.{true, false}
 use mathlib.Core.List.{List}
 use Prim.Native.Nat.{ℕ, _+_, _*_, _/_, _%_, _≤_}
@@ -8,8 +8,9 @@ use lib.ListN.{length}
 use borrow.Author.Tests.{eq-eqb, ne-eqb, lt-ltb, le-ltb}
 use borrow.Author.Needs.{needs}
 use Rattle.bigendian.specs.BigEndian.{numberAt}
-use Rattle.frames.specs.Read.{wrongLength, wrongHeader, wrongFrame, faultOf}
-use Rattle.frames.specs.Looked.{dueFault}
+use Rattle.frames.specs.Read.{wrongLength, wrongHeader, wrongFrame}
+use Rattle.frames.specs.Looked.{looked}
+use Rattle.frames.proofs.Faults.{by-length, by-header, by-frame, by-due}
 use Rattle.frame_checks.proofs.look.Statement.{statement}
 use Rattle.frame_checks.proofs.look.Tie as tie
 
@@ -38,8 +39,8 @@ framed c = sym (c .before .wrong-frame .ensures) ∙ c .if4 .left
 -- ---- the needs
 
 returns : tie.Need-returns
-unfolding faultOf wrongLength
-returns c = simp (lt-ltb _ _ (c .if1 .taken))
+unfolding wrongLength
+returns c = sym (ap looked (by-length _ _ _ _ _ _ (rw (lt-ltb _ _ (c .if1 .taken)))))
 
 header-of-requires : tie.Need-header-of-requires
 header-of-requires c κs = search needs
@@ -51,29 +52,29 @@ add-if2 : tie.Need-add-if2
 add-if2 c = omega arith
 
 returns-2 : tie.Need-returns-2
-unfolding faultOf
-returns-2 c = simp (uneven _ _ (headed (c .before)) (c .before .before .if1 .left) (c .if2 .taken))
+returns-2 c = sym (ap looked (by-length _ _ _ _ _ _ (uneven _ _ (headed (c .before)) (c .before .before .if1 .left) (c .if2 .taken))))
 
 wrong-header-requires : tie.Need-wrong-header-requires
 wrong-header-requires c κs = search needs
 
 returns-3 : tie.Need-returns-3
-unfolding faultOf
-returns-3 c = simp (sized (c .before .before), sym (c .before .wrong-header .ensures _ (headed (c .before .before .before))) ∙ c .if3 .taken)
+returns-3 c =
+    sym (ap looked (by-header _ _ _ _ _ _ (sized (c .before .before)) (sym (c .before .wrong-header .ensures _ (headed (c .before .before .before))) ∙ c .if3 .taken)))
 
 wrong-frame-requires : tie.Need-wrong-frame-requires
 wrong-frame-requires c κs = search needs
 
 returns-4 : tie.Need-returns-4
-unfolding faultOf
-returns-4 c = simp (sized (c .before .before .before .before), checked (c .before .before), sym (c .before .wrong-frame .ensures) ∙ c .if4 .taken)
+returns-4 c =
+    sym (ap looked (by-frame _ _ _ _ _ _ (sized (c .before .before .before .before)) (checked (c .before .before)) (sym (c .before .wrong-frame .ensures) ∙ c .if4 .taken)))
 
 null-or-due-requires : tie.Need-null-or-due-requires
 null-or-due-requires c κs = search needs
 
 returns-5 : tie.Need-returns-5
-unfolding faultOf dueFault
-returns-5 c = simp (sized (c .before .before .before .before .before), checked (c .before .before .before), framed (c .before)) (c .null-or-due .ensures _ (headed (c .before .before .before .before .before .before)))
+returns-5 c =
+    c .null-or-due .ensures _ (headed (c .before .before .before .before .before .before))
+    ∙ sym (ap looked (by-due _ _ _ _ _ _ (sized (c .before .before .before .before .before)) (checked (c .before .before .before)) (framed (c .before))))
 
 pub look-spec : {M : Type 1} → statement M
 look-spec =

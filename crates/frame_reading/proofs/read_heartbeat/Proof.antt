@@ -1,7 +1,8 @@
 -- `frame_reading::read_heartbeat` meets its contract: a frame that is due has its payload. Assumes nothing.
-use mathlib.Core.Path.{_≡_}
+use mathlib.Core.Path.{_≡_, sym, _∙_}
 use mathlib.Core.Bool.{true}
 use mathlib.Core.List.{List}
+use mathlib.Core.Option.{none}
 use Prim.Native.Nat.{ℕ, _+_, _≤_}
 use native.Mathlib.Omega.{arith}
 use lib.ListN.{length, getD}
@@ -11,23 +12,23 @@ use Rattle.frames.specs.declared.Fault.{Fault}
 use Rattle.frames.specs.declared.Looked.{Looked}
 use Rattle.frames.specs.declared.Looked.the-variants.{Due, Refused}
 use Rattle.frames.specs.declared.HeartbeatRead.{HeartbeatRead}
-use Rattle.frames.specs.Read.{faultOf, readHeartbeat}
-use Rattle.frames.specs.Looked.{looked, indicatorsOf, heartbeatOf}
-use Rattle.frames.proofs.Faults.{looked-refused, looked-due, long}
+use Rattle.frames.specs.Read.{readHeartbeat}
+use Rattle.frames.specs.Looked.{looked, wordsDue, indicatorsOf, heartbeatOf}
+use Rattle.frames.proofs.Faults.{looked-refused, looked-due, heartbeatFault, heartbeat-read, heartbeat-length}
 use Rattle.frame_reading.proofs.read_heartbeat.Statement.{statement}
 use Rattle.frame_reading.proofs.read_heartbeat.Tie as tie
 
-module _ (q cycle channel : ℕ) (s : List ℕ) {l : Looked} (answer : l ≡ looked (faultOf (q + 1) 1 cycle (indicatorsOf true s) channel s)) where
+module _ (q cycle channel : ℕ) (s : List ℕ) {l : Looked} (answer : l ≡ looked (heartbeatFault q cycle channel s)) where
   refused : {f : Fault} → l ≡ Refused f → beat.Refused f ≡ readHeartbeat q cycle channel s
-  unfolding readHeartbeat indicatorsOf
-  refused e = rw (looked-refused (faultOf (q + 1) 1 cycle (indicatorsOf true s) channel s) answer e)
+  refused e = sym (heartbeat-read q cycle channel s _ (looked-refused (heartbeatFault q cycle channel s) answer e))
 
   due : {r : HeartbeatRead} → l ≡ Due → r ≡ heartbeatOf (getD s 5 0) (getD s 6 0) → r ≡ readHeartbeat q cycle channel s
-  unfolding readHeartbeat indicatorsOf heartbeatOf
-  due e h = rw (looked-due (faultOf (q + 1) 1 cycle (indicatorsOf true s) channel s) answer e) h
+  unfolding heartbeatOf
+  due e h = h ∙ sym (heartbeat-read q cycle channel s none (looked-due (heartbeatFault q cycle channel s) answer e))
 
   due-long : l ≡ Due → 8 ≤ length s
-  due-long e = long (q + 1) 1 cycle (indicatorsOf true s) channel s (looked-due _ answer e)
+  unfolding wordsDue
+  due-long e = let n = heartbeat-length (q + 1) cycle (indicatorsOf true s) channel s (looked-due _ answer e) .0 in omega arith
 
 add-look : tie.Need-add-look
 add-look c = omega arith

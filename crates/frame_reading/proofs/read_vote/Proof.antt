@@ -1,7 +1,8 @@
 -- `frame_reading::read_vote` meets its contract: a frame that is due is 36 bytes long. Assumes nothing.
-use mathlib.Core.Path.{_≡_}
+use mathlib.Core.Path.{_≡_, sym, _∙_}
 use mathlib.Core.Bool.{false}
 use mathlib.Core.List.{List}
+use mathlib.Core.Option.{none}
 use Prim.Native.Nat.{ℕ, _+_}
 use native.Mathlib.Omega.{arith}
 use lib.ListN.{length}
@@ -11,23 +12,22 @@ use Rattle.frames.specs.declared.Fault.{Fault}
 use Rattle.frames.specs.declared.Looked.{Looked}
 use Rattle.frames.specs.declared.Looked.the-variants.{Due, Refused}
 use Rattle.frames.specs.declared.VoteRead.{VoteRead}
-use Rattle.frames.specs.Read.{faultOf, voteContent, readVote}
-use Rattle.frames.specs.Looked.{looked, indicatorsOf}
-use Rattle.frames.proofs.Faults.{looked-refused, looked-due, whole-length}
+use Rattle.frames.specs.Read.{voteContent, readVote}
+use Rattle.frames.specs.Looked.{looked, wordsDue, indicatorsOf}
+use Rattle.frames.proofs.Faults.{looked-refused, looked-due, voteFault, vote-read, vote-length}
 use Rattle.frame_reading.proofs.read_vote.Statement.{statement}
 use Rattle.frame_reading.proofs.read_vote.Tie as tie
 
-module _ (n q cycle channel : ℕ) (s : List ℕ) {l : Looked} (answer : l ≡ looked (faultOf (q + 65) 14 cycle (indicatorsOf false s) channel s)) where
+module _ (n q cycle channel : ℕ) (s : List ℕ) {l : Looked} (answer : l ≡ looked (voteFault q cycle channel s)) where
   refused : {f : Fault} → l ≡ Refused f → vote.Refused f ≡ readVote n q cycle channel s
-  unfolding readVote indicatorsOf
-  refused e = rw (looked-refused (faultOf (q + 65) 14 cycle (indicatorsOf false s) channel s) answer e)
+  refused e = sym (vote-read q cycle channel s n _ (looked-refused (voteFault q cycle channel s) answer e))
 
   due : {r : VoteRead} → l ≡ Due → r ≡ voteContent n q s → r ≡ readVote n q cycle channel s
-  unfolding readVote indicatorsOf
-  due e h = rw (looked-due (faultOf (q + 65) 14 cycle (indicatorsOf false s) channel s) answer e) h
+  due e h = h ∙ sym (vote-read q cycle channel s n none (looked-due (voteFault q cycle channel s) answer e))
 
   due-length : l ≡ Due → length s ≡ 36
-  due-length e = whole-length (q + 65) 14 cycle (indicatorsOf false s) channel s (looked-due _ answer e)
+  unfolding wordsDue
+  due-length e = vote-length (q + 65) cycle (indicatorsOf false s) channel s (looked-due _ answer e)
 
 add-look : tie.Need-add-look
 add-look c = omega arith

@@ -3,16 +3,15 @@ use mathlib.Core.Path.{_≡_, sym, ap, ap₂, _∙_}
 use mathlib.Core.List.{List, _++_}
 use Prim.Native.Nat.{ℕ, _+_, _≤_}
 use native.Mathlib.Omega.{arith}
-use lib.ListN.{length, take, length-append}
+use lib.ListN.{length, take}
 use lib.Seq.{length-take-le}
 use Rattle.bigendian.specs.BigEndian.{bytesOf}
-use Rattle.bigendian.proofs.Laws.{length-bytes}
 use Rattle.crc.specs.Crc.{frameCheck, channelStart}
 use Rattle.parts.specs.Parts.{withPart}
-use Rattle.parts.proofs.Laws.{part-all, part-front, fill-next}
 use Rattle.rules.specs.declared.Vote.{Vote}
 use Rattle.frames.specs.Written.{header, frame, votePayload, voteFrame}
 use Rattle.frames.proofs.Lengths.{length-header, length-payload}
+use Rattle.frame_writing.proofs.Framed.{framed}
 use borrow.Author.Needs.{needs}
 use Rattle.frame_writing.proofs.write_vote.Statement.{statement}
 use Rattle.frame_writing.proofs.write_vote.Tie as tie
@@ -20,20 +19,11 @@ use Rattle.frame_writing.proofs.write_vote.Tie as tie
 whole : (q : ℕ) (v : Vote) (cycle channel : ℕ) (h p c f₀ f₁ f₂ f₃ : List ℕ) (start check : ℕ) → length f₀ ≡ 36 → h ≡ header 0 0 (q + 65) 14 cycle
     → p ≡ votePayload v → start ≡ channelStart channel → check ≡ frameCheck start (take 33 f₂) → c ≡ bytesOf 3 check → f₁ ≡ withPart 0 h f₀
     → f₂ ≡ withPart 5 p f₁ → f₃ ≡ withPart 33 c f₂ → f₃ ≡ voteFrame q v cycle channel
-unfolding voteFrame frame
+unfolding voteFrame
 whole q v cycle channel h p c f₀ f₁ f₂ f₃ start check l eh ep es ek ec ph pp pc =
     let lh : length h ≡ 5 = ap length eh ∙ length-header 0 0 (q + 65) 14 cycle in
     let lp : length p ≡ 28 = ap length ep ∙ length-payload v in
-    let lc : length c ≡ 3 = ap length ec ∙ length-bytes 3 check in
-    let two : length (h ++ p) ≡ length h + length p = length-append h p in
-    let three : length ((h ++ p) ++ c) ≡ length (h ++ p) + length c = length-append (h ++ p) c in
-    let ends : 33 ≡ 0 + length (h ++ p) = omega arith in
-    let p2 = fill-next h p f₀ f₁ f₂ 5 (omega arith) ph pp in
-    let p3 = fill-next (h ++ p) c f₀ f₂ f₃ 33 (omega arith) p2 pc in
-    let body : h ++ p ≡ header 0 0 (q + 65) 14 cycle ++ votePayload v = ap₂ _++_ eh ep in
-    let seen : take 33 f₂ ≡ h ++ p = ap₂ take ends p2 ∙ part-front 0 (h ++ p) f₀ (omega arith) in
-    p3 ∙ part-all ((h ++ p) ++ c) f₀ (omega arith)
-    ∙ ap₂ (λ (x y : List ℕ). x ++ y) body (ec ∙ ap (bytesOf 3) (ek ∙ ap₂ frameCheck es (seen ∙ body)))
+    framed start 33 check h p c f₀ f₁ f₂ f₃ lh (omega arith) l ph pp ek ec pc ∙ ap₂ frame es (ap₂ _++_ eh ep)
 
 slice-aggregate-put : tie.Need-slice-aggregate-put
 slice-aggregate-put c = search needs
