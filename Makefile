@@ -1,6 +1,6 @@
 # The commands of this repository; `make help` lists them. They need the Rattle kit's `rt` on the path, and gcc and g++ for the C side.
 # The version of the delivery; include/gm.h and what `grouprun --version` prints say it again, and tests/archive.sh and arguments-test hold them equal.
-VERSION = 0.2.0
+VERSION = 0.3.0
 PREFIX = /usr/local
 ARCHIVE = target/staticlib/libgm.a
 GROUPRUN = target/bin/grouprun
@@ -38,7 +38,7 @@ TO = $(DESTDIR)$(PREFIX)
 
 # in the order of `make help`: first the commands, then the parts of `test` and of `load`; the line above a target is what `make help` says of it
 .PHONY: help run archive host test evidence trace edits install uninstall compare bench stack load load-full
-.PHONY: format trace-test commands-test archive-test series-test vectors-test badinput-test examples-test text-test arguments-test install-test compare-test load-test load-program load-archive
+.PHONY: format trace-test commands-test archive-test series-test heartbeats-test vectors-test badinput-test examples-test text-test arguments-test install-test compare-test load-test load-program load-archive
 
 # a command that is needed and not there is named in one sentence, before anything is done
 called_rt = the Rattle kit
@@ -47,7 +47,7 @@ needs = $(foreach command,$(1),$(if $(shell command -v $(command) || true),,\
     $(error this needs $(or $(called_$(command)),$(command)): there is no command $(command) on the path$(without_$(command)))))
 # what these use only after minutes, when the archive or the program is made
 asked = $(if $(filter $(1),$(MAKECMDGOALS)),$(2))
-$(call needs,$(call asked,run host stack archive-test series-test bench install,gcc) $(call asked,archive-test,g++) $(call asked,compare compare-test bench,cargo))
+$(call needs,$(call asked,run host stack archive-test series-test heartbeats-test bench install,gcc) $(call asked,archive-test,g++) $(call asked,compare compare-test bench,cargo))
 
 # this list
 help:
@@ -67,7 +67,7 @@ run: $(GROUPRUN) $(TABLETEXT)
 
 # what `make test` runs before the gate: first what needs no archive, then the archive and the programs, last what takes longest
 FIRST_TESTS = format trace-test commands-test
-BUILT_TESTS = archive-test series-test host run examples-test vectors-test badinput-test text-test arguments-test install-test
+BUILT_TESTS = archive-test series-test heartbeats-test host run examples-test vectors-test badinput-test text-test arguments-test install-test
 LONG_TESTS = compare-test load-test
 # whether make was given an option of one letter
 option = $(findstring $1,$(filter-out -%,$(firstword $(MAKEFLAGS))))
@@ -87,7 +87,7 @@ test:
 evidence: $(if $(wildcard log/gate.log),$(ARCHIVE) $(PROGRAMS))
 	@$(call needs,rt git)tools/evidence.sh $(VERSION) $(ARCHIVE) $(HEADERS) $(PROGRAMS)
 
-# five units run the example of the paper through frames on both channels, beside gm_cycle and over a bus with damage; then drive cards on register blocks
+# five units run the example of the paper through frames with drive bytes on both channels, beside gm_cycle and over a bus with damage; then drive cards on register blocks
 host: archive
 	@mkdir -p $(BUILD)
 	@for host in $(HOSTS); do $(C99) examples/$$host.c $(ARCHIVE) -o $(BUILD)/$$host && $(BUILD)/$$host | tee $(BUILD)/$$host.out && \
@@ -110,6 +110,12 @@ series-test: archive
 	@mkdir -p $(BUILD)
 	@$(C99) tests/series.c $(ARCHIVE) -o $(BUILD)/series
 	@$(BUILD)/series tests/vectors/t01/series.txt
+
+# the stored calls that write, send, read and receive heartbeats give their stored statuses, results, frames and drive bytes
+heartbeats-test: archive
+	@mkdir -p $(BUILD)
+	@$(C99) tests/heartbeats.c $(ARCHIVE) -o $(BUILD)/heartbeats
+	@$(BUILD)/heartbeats tests/vectors/t02/heartbeats.txt
 
 # the program that prints the run of a table
 $(GROUPRUN): $(SOURCES)

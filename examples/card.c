@@ -16,6 +16,9 @@
 
 enum { UNITS = 5, FOUNDING = 0x1f, MOST_CYCLES = 5 };
 
+/* these heartbeats carry no drive bytes: a pointer that is not null, lent with length 0 */
+static const uint8_t no_drive[1] = {0};
+
 /* what one unit keeps; `seen` are the flags that its card has read and not yet acknowledged, `acknowledged` those written back with the last cycle */
 struct unit {
     uint8_t block[GM_REGISTERS_BYTES];
@@ -122,7 +125,8 @@ static void send_heartbeats(struct press *p, uint32_t count, uint64_t lost)
         for (uint32_t ch = 0; ch < GM_CHANNELS; ch++) {
             struct slot *slot = &p->heartbeats[q];
             uint32_t sent = 0;
-            must(gm_send_heartbeat(p->units[q].block, GM_STATE_BYTES, 0, 0, count, ch, slot->bytes[ch], GM_HEARTBEAT_BYTES, &sent), "gm_send_heartbeat");
+            must(gm_send_heartbeat(p->units[q].block, GM_STATE_BYTES, 0, 0, count, ch, no_drive, 0, slot->bytes[ch], GM_HEARTBEAT_BYTES, &sent),
+                 "gm_send_heartbeat");
             slot->len[ch] = sent && !in(lost, q) ? GM_HEARTBEAT_BYTES : 0;
         }
 }
@@ -130,14 +134,15 @@ static void send_heartbeats(struct press *p, uint32_t count, uint64_t lost)
 static void hear(struct press *p, unsigned self, uint32_t count)
 {
     struct unit *u = &p->units[self];
+    uint8_t drive[GM_DRIVE_BYTES];
     u->heard0 = u->heard1 = 0;
     for (unsigned q = 0; q < UNITS; q++) {
         const struct slot *slot = &p->heartbeats[q];
-        uint32_t heard = GM_MISSED;
+        uint32_t heard = GM_MISSED, drive_bytes = 0;
         if (q == self)
             continue;
         must(gm_receive_heartbeat(UNITS, q, count, slot->bytes[GM_CHANNEL_A], slot->len[GM_CHANNEL_A], slot->bytes[GM_CHANNEL_B],
-                                  slot->len[GM_CHANNEL_B], &heard),
+                                  slot->len[GM_CHANNEL_B], drive, sizeof drive, &heard, &drive_bytes),
              "gm_receive_heartbeat");
         if (heard == GM_HEARD_MEMBER)
             u->heard0 |= only(q);

@@ -1,9 +1,11 @@
 /*
  * An example host: a press of five units that run the example of the product paper through frames on both channels, using nothing but the entries of gm.h.
  * In cycle 2 the heartbeat of unit 4 is lost in sending, in cycle 3 unit 4 is started again, in cycle 4 the vote of unit 0 is lost in sending.
+ * Each heartbeat carries four drive bytes, the speed of its unit in that cycle.
  * Beside that the bus damages single copies: one is lost, in one a bit flips, and one is the frame of the cycle before. This is no fault of a record and
  * changes nothing, since the copy on the other channel counts: after each cycle the units must hold what gm_cycle makes of a row under the cycle's record.
- * After each cycle it prints the group of the lowest unit that was not touched in it or the one before, and who halted and who entered; then the damage.
+ * After each cycle it prints the group of the lowest unit that was not touched in it or the one before, who halted and who entered, and the speeds that this
+ * unit received; at the end the damage, and how many speeds all units received.
  */
 #include "gm.h"
 #include "gm_refusal.h"
@@ -15,14 +17,19 @@
 
 enum { UNITS = 5, CYCLES = 5, FOUNDING = 0x1f };
 
+/* the drive bytes of a heartbeat are a speed; all heartbeats of this press have one length, that of its static slots */
+enum { SPEED_BYTES = 4, HEARTBEAT_BYTES = GM_HEARTBEAT_BYTES + SPEED_BYTES };
+
 /* what can happen to a copy */
 enum { LOST, FLIPPED, LATE, DAMAGES };
 
-/* what one unit keeps */
+/* what one unit keeps; `drive` are the drive bytes that it sends, and `speeds` those received in this cycle, from the units in `told` */
 struct unit {
     uint8_t state[GM_STATE_BYTES];
-    uint64_t heard0, heard1, arrived;
+    uint64_t heard0, heard1, arrived, told;
     uint8_t votes[GM_VOTES_BYTES];
+    uint8_t drive[SPEED_BYTES];
+    uint64_t speeds[UNITS];
 };
 
 /* a frame on the bus: a copy per channel, of length 0 if none is there */
@@ -37,13 +44,16 @@ struct phase {
     struct slot before[UNITS], sent[UNITS], come[UNITS];
 };
 
-/* `row` is for gm_cycle; `damaged` copies, and frames `saved` by the other channel where a unit received one of which a copy was damaged */
+/*
+ * `row` is for gm_cycle; `damaged` copies, frames `saved` by the other channel where a unit received one of which a copy was damaged, and `speeds` received by
+ * all units
+ */
 struct press {
     struct unit units[UNITS];
     struct phase heartbeats, votes;
     uint8_t row[UNITS * GM_STATE_BYTES];
     uint64_t halted, entered;
-    unsigned damaged, saved;
+    unsigned damaged, saved, speeds;
 };
 
 /* the faults of one cycle */
@@ -82,11 +92,19 @@ static struct parts parts_of(const struct unit *u)
     return p;
 }
 
-/* into a record: highest byte first */
-static void put_mask(uint8_t *s, uint64_t mask)
+/* into a record, or as drive bytes: highest byte first */
+static void put_number(uint8_t *s, unsigned bytes, uint64_t number)
 {
-    for (unsigned i = GM_SET_BYTES; i-- > 0; mask >>= 8)
-        s[i] = (uint8_t)mask;
+    for (unsigned i = bytes; i-- > 0; number >>= 8)
+        s[i] = (uint8_t)number;
+}
+
+static uint64_t number_at(const uint8_t *s, unsigned bytes)
+{
+    uint64_t number = 0;
+    for (unsigned i = 0; i < bytes; i++)
+        number = number << 8 | s[i];
+    return number;
 }
 
 /* ---- the bus */
@@ -121,30 +139,49 @@ static unsigned carry(struct phase *p, uint32_t count)
 
 /* ---- one cycle of the units */
 
+/* once in a cycle, for both channels: two good copies with different drive bytes would be a missed frame. In thousandths of a millimetre per second */
+static void measure(struct unit *u, unsigned unit, uint32_t count)
+{
+    put_number(u->drive, SPEED_BYTES, 12000000 + 1000 * count + unit);
+}
+
 static void send_heartbeats(struct press *p, uint32_t count, uint64_t lost)
 {
     for (unsigned q = 0; q < UNITS; q++)
         for (uint32_t ch = 0; ch < GM_CHANNELS; ch++) {
+            const struct unit *u = &p->units[q];
             struct slot *slot = &p->heartbeats.sent[q];
             uint32_t sent = 0;
-            must(gm_send_heartbeat(p->units[q].state, GM_STATE_BYTES, 0, 0, count, ch, slot->bytes[ch], GM_HEARTBEAT_BYTES, &sent),
+            must(gm_send_heartbeat(u->state, GM_STATE_BYTES, 0, 0, count, ch, u->drive, SPEED_BYTES, slot->bytes[ch], HEARTBEAT_BYTES, &sent),
                  "gm_send_heartbeat");
-            slot->len[ch] = sent && !in(lost, q) ? GM_HEARTBEAT_BYTES : 0;
+            slot->len[ch] = sent && !in(lost, q) ? HEARTBEAT_BYTES : 0;
         }
+}
+
+/* a heartbeat that is missed has no drive bytes, and one of another length than is sent here no speed */
+static void note_speed(struct press *p, struct unit *u, unsigned sender, const uint8_t *drive, uint32_t drive_bytes)
+{
+    if (drive_bytes != SPEED_BYTES)
+        return;
+    u->speeds[sender] = number_at(drive, SPEED_BYTES);
+    u->told |= only(sender);
+    p->speeds++;
 }
 
 static void hear(struct press *p, unsigned self, uint32_t count)
 {
     struct unit *u = &p->units[self];
-    u->heard0 = u->heard1 = 0;
+    uint8_t drive[GM_DRIVE_BYTES];
+    u->heard0 = u->heard1 = u->told = 0;
     for (unsigned q = 0; q < UNITS; q++) {
         const struct slot *slot = &p->heartbeats.come[q];
-        uint32_t heard = GM_MISSED;
+        uint32_t heard = GM_MISSED, drive_bytes = 0;
         if (q == self)
             continue;
         must(gm_receive_heartbeat(UNITS, q, count, slot->bytes[GM_CHANNEL_A], slot->len[GM_CHANNEL_A], slot->bytes[GM_CHANNEL_B],
-                                  slot->len[GM_CHANNEL_B], &heard),
+                                  slot->len[GM_CHANNEL_B], drive, sizeof drive, &heard, &drive_bytes),
              "gm_receive_heartbeat");
+        note_speed(p, u, q, drive, drive_bytes);
         if (heard == GM_HEARD_MEMBER)
             u->heard0 |= only(q);
         else if (heard == GM_HEARD_JOINING)
@@ -199,6 +236,8 @@ static void cycle(struct press *p, const struct faults *f, uint32_t count)
     for (unsigned q = 0; q < UNITS; q++)
         if (in(f->start, q))
             must(gm_start(p->units[q].state, GM_STATE_BYTES), "gm_start");
+    for (unsigned q = 0; q < UNITS; q++)
+        measure(&p->units[q], q, count);
     send_heartbeats(p, count, f->heartbeat_lost);
     p->damaged += carry(&p->heartbeats, count);
     for (unsigned q = 0; q < UNITS; q++)
@@ -225,15 +264,29 @@ static void begin(struct press *p)
 static void must_agree(struct press *p, const struct faults *f, uint32_t number)
 {
     uint8_t record[GM_CYCLE_AT_ENTRIES] = {GM_MARK_0, GM_MARK_1, GM_RECORD_CYCLE};
-    put_mask(record + GM_CYCLE_AT_START, f->start);
-    put_mask(record + GM_CYCLE_AT_HEARTBEAT_LOST, f->heartbeat_lost);
-    put_mask(record + GM_CYCLE_AT_VOTE_LOST, f->vote_lost);
+    put_number(record + GM_CYCLE_AT_START, GM_SET_BYTES, f->start);
+    put_number(record + GM_CYCLE_AT_HEARTBEAT_LOST, GM_SET_BYTES, f->heartbeat_lost);
+    put_number(record + GM_CYCLE_AT_VOTE_LOST, GM_SET_BYTES, f->vote_lost);
     must(gm_cycle(UNITS, p->row, sizeof p->row, record, sizeof record), "gm_cycle");
     for (unsigned q = 0; q < UNITS; q++)
         if (memcmp(p->row + q * GM_STATE_BYTES, p->units[q].state, GM_STATE_BYTES) != 0) {
             fprintf(stderr, "cycle %" PRIu32 ": unit %u holds another state than gm_cycle gives it\n", number, q);
             exit(1);
         }
+}
+
+/* of each other unit the speed, or - where none came */
+static void print_speeds(const struct unit *u, unsigned self)
+{
+    for (unsigned q = 0; q < UNITS; q++) {
+        if (q == self)
+            printf(" own");
+        else if (in(u->told, q))
+            printf(" %" PRIu64, u->speeds[q]);
+        else
+            printf(" -");
+    }
+    putchar('\n');
 }
 
 static void print_cycle(const struct press *p, uint32_t number, uint64_t touched)
@@ -245,7 +298,8 @@ static void print_cycle(const struct press *p, uint32_t number, uint64_t touched
     if (q == UNITS)
         exit(1);
     shown = parts_of(&p->units[q]);
-    printf("%" PRIu32 " %" PRIu32 " %016" PRIx64 " %016" PRIx64 " %016" PRIx64 "\n", number, shown.number, shown.set, p->halted, p->entered);
+    printf("%" PRIu32 " %" PRIu32 " %016" PRIx64 " %016" PRIx64 " %016" PRIx64, number, shown.number, shown.set, p->halted, p->entered);
+    print_speeds(&p->units[q], q);
 }
 
 int main(void)
@@ -254,7 +308,7 @@ int main(void)
     static struct press press;
     uint64_t touched = 0;
     begin(&press);
-    puts("cycle group set halted entered");
+    puts("cycle group set halted entered, then the speeds received from units 0 to 4");
     for (uint32_t n = 0; n < CYCLES; n++) {
         uint64_t now = faults[n].heartbeat_lost | faults[n].vote_lost;
         cycle(&press, &faults[n], n % GM_CYCLE_COUNTS);
@@ -262,6 +316,6 @@ int main(void)
         print_cycle(&press, n + 1, now | touched);
         touched = now;
     }
-    printf("%u copies damaged on one channel, %u frames received by the other\n", press.damaged, press.saved);
+    printf("%u copies damaged on one channel, %u frames received by the other; %u speeds received\n", press.damaged, press.saved, press.speeds);
     return 0;
 }

@@ -19,10 +19,10 @@
  * nothing is read. A null pointer is outside the promise even where it seems to work: for a copy that did
  * not come lend the other one's pointer with length 0. What an entry only reads (const) may coincide with
  * or overlap anything else that it only reads in that call, such as one frame lent as both copies. A buffer
- * or a result that it writes overlaps nothing else of the call, no other result either; what happens where
- * it does is outside the promise. Nobody else writes a buffer, or reads one that is written (but see A
- * REGISTER BLOCK), until the call returns. Entries may be called from several threads at once on buffers of
- * their own.
+ * or a result that it writes overlaps nothing else of the call, no other result either: drive bytes, too,
+ * are lent from elsewhere than the frame that they go into. What happens where it does is outside the
+ * promise. Nobody else writes a buffer, or reads one that is written (but see A REGISTER BLOCK), until the
+ * call returns. Entries may be called from several threads at once on buffers of their own.
  *
  * NUMBERS. A set of nodes is a mask of 64 bits, bit q for node q; nodes are numbered from 0, and n is how
  * many there are. Arguments and results are numbers of the host. In states, votes, frames and tables every
@@ -80,13 +80,15 @@
  *
  * FRAMES are as ISO 17458-2 lays them out: 5 header bytes, the payload, 3 check bytes, which differ between
  * the channels; the entries write and read them whole. The heartbeat of node q goes in slot q + 1
- * (GM_HEARTBEAT_SLOT) and has 10 bytes, one word of payload, of which bit 7 of the first byte is 1 for a
- * node that is joining and all else 0. Its vote goes in slot q + 65 (GM_VOTE_SLOT) and has 36 bytes, the
- * payload a vote. So heartbeats have one length, as static slots ask, and votes another, as dynamic slots
- * allow: the static segment has n to 64 slots. The slot is the frame number of the header. The cycle count
- * is that of the bus, 0 to 63. A host may set sync and startup in heartbeats (startup only with sync); in
- * votes both are 0. A controller that hands over payloads alone is not provided for (SAFETY.md, "What is
- * not covered").
+ * (GM_HEARTBEAT_SLOT) and has a payload of 1 to 127 words of two bytes. The first word is the library's:
+ * bit 7 of its first byte is 1 for a node that is joining, and all else in it is 0. The other words are the
+ * drive's: DRIVE BYTES, an even number of them up to 252 (GM_DRIVE_BYTES), of any values, from byte 7 of
+ * the frame on. A heartbeat with k drive bytes has 10 + k bytes. The vote of node q goes in slot q + 65
+ * (GM_VOTE_SLOT) and has 36 bytes, the payload a vote. Heartbeats are for static slots, all of which have
+ * one length, and votes for dynamic slots, which may have another: the static segment has n to 64 slots.
+ * The slot is the frame number of the header. The cycle count is that of the bus, 0 to 63. A host may set
+ * sync and startup in heartbeats (startup only with sync); in votes both are 0. A controller that hands
+ * over payloads alone is not provided for (SAFETY.md, "What is not covered").
  *
  * A TABLE is records, one behind the other, each beginning with GM_MARK_0, GM_MARK_1 and its kind:
  *   - GM_RECORD_START, first and only once, 12 bytes (GM_START_AT_..): byte 3 n, bytes 4-11 founding set
@@ -98,9 +100,11 @@
  *
  * ONE CYCLE of a node, heard0, heard1 and arrived being 0 before it:
  *   1. gm_stop, gm_start where the host wants it, or writes of these commands to a register block
- *   2. gm_send_heartbeat for each channel; the host sends the frame if there is one
+ *   2. gm_send_heartbeat for each channel, with the same drive bytes; the host sends the frame if there is
+ *      one
  *   3. gm_receive_heartbeat for every other node; the sender's bit is set in heard0 after GM_HEARD_MEMBER
- *      and in heard1 after GM_HEARD_JOINING
+ *      and in heard1 after GM_HEARD_JOINING. After either the host takes the sender's drive bytes from the
+ *      front of the buffer, as many as *drive_bytes says; the buffer may then be lent for the next node
  *   4. gm_send_vote for each channel, with these masks; the host sends the frame if there is one
  *   5. gm_receive_vote for every other node, into the vote buffer, whatever stands in it, and `arrived`
  *   6. gm_decide, with the same heard0 and heard1; of a register block gm_register_cycle in its place, or
@@ -138,6 +142,15 @@
  *     unit sends nothing more in that cycle and counts as having lost its state.
  *   - gm_send_vote, on both channels, and gm_decide, or the cycle of a block, get the same heard0 and
  *     heard1: the decision makes the node's own vote from them again.
+ *   - gm_send_heartbeat gets the same drive bytes on both channels of a cycle. Two good copies whose drive
+ *     bytes differ are a missed frame for every unit that both reach.
+ *   - The static slots of the press are configured for the heartbeats that are sent: 1 + k / 2 words for k
+ *     drive bytes. No entry knows that length, and a good heartbeat of another one is heard too: the host
+ *     looks at *drive_bytes before it takes the bytes for what they mean.
+ *   - Drive bytes are protected by the frame check and by the comparison of two good copies, and by nothing
+ *     else: nobody votes on them, where one copy is good nothing is compared, and a missed frame gives
+ *     none. AGREEMENT holds whatever they are, and says nothing of them. What they mean, and what a drive
+ *     does in a cycle without them, is the host's to say.
  *   - No cycle is skipped: a unit that slept through one and goes on with its old state holds a state that
  *     the rules do not give. Only a node that is out, and neither stopped nor started, may make no calls at
  *     all, and one that is stopped and not started none but gm_stop or the write of that command.
@@ -173,9 +186,9 @@ extern "C" {
 
 /* the version of header and archive */
 #define GM_VERSION_MAJOR 0U
-#define GM_VERSION_MINOR 2U
+#define GM_VERSION_MINOR 3U
 #define GM_VERSION_PATCH 0U
-#define GM_VERSION "0.2.0"
+#define GM_VERSION "0.3.0"
 
 /* how many nodes, channels and cycle counts there can be */
 #define GM_NODES_MIN 2U
@@ -187,7 +200,9 @@ extern "C" {
 #define GM_SET_BYTES 8U
 #define GM_STATE_BYTES 24U
 #define GM_REGISTERS_BYTES 64U
-#define GM_HEARTBEAT_BYTES 10U
+#define GM_DRIVE_BYTES 252U     /* the most drive bytes of a heartbeat, and the buffer for those read */
+#define GM_HEARTBEAT_BYTES 10U  /* a heartbeat without drive bytes; with k of them GM_HEARTBEAT_BYTES + k */
+#define GM_HEARTBEAT_MOST_BYTES 262U
 #define GM_VOTE_FRAME_BYTES 36U
 #define GM_VOTE_BYTES 28U
 #define GM_VOTES_BYTES 1792U
@@ -279,7 +294,10 @@ extern "C" {
  * 1, startup without sync
  */
 #define GM_REFUSED_NUMBER 2U
-/* a buffer of another length than its entry names, or a row not of n states */
+/*
+ * a buffer of another length than its entry names, or a row not of n states; drive bytes to be written that
+ * are odd in number or above 252
+ */
 #define GM_REFUSED_LENGTH 3U
 /*
  * a state that is not well formed, or in a row a state q that is not node q of n; a register block whose
@@ -292,11 +310,14 @@ extern "C" {
 #define GM_REFUSED_HEADER_CHECK 6U
 #define GM_REFUSED_FRAME_CHECK 7U
 #define GM_REFUSED_NULL_FRAME 8U
-/* another frame number, cycle count, payload length, indicator or reserved bit than due */
+/*
+ * another frame number, cycle count, payload length, indicator or reserved bit than due; of a heartbeat's
+ * lengths only 0 is not due
+ */
 #define GM_REFUSED_NOT_DUE 9U
 /*
- * heartbeat bits that must be 0; a vote whose set or view lacks the sender, whose base lacks part of the
- * set, or with a bit at n or above
+ * bits of a heartbeat's first word that must be 0; a vote whose set or view lacks the sender, whose base
+ * lacks part of the set, or with a bit at n or above
  */
 #define GM_REFUSED_CONTENT 10U
 /* of a table or a record of it: it ends inside a record, or is empty */
@@ -349,37 +370,48 @@ uint32_t gm_state(const uint8_t *state, size_t state_len, uint32_t *kind, uint32
                   uint32_t *n, uint32_t *number, uint64_t *set, uint64_t *base);
 
 /*
- * Writes the heartbeat of a node from numbers.
- * frame: GM_HEARTBEAT_BYTES. Refusals: COUNT, NUMBER, LENGTH.
+ * Writes the heartbeat of a node from numbers, with the drive bytes behind its first word. Where there are
+ * none, `drive` is any pointer that is not null, and drive_len 0.
+ * drive: an even number of bytes, at most GM_DRIVE_BYTES; frame: GM_HEARTBEAT_BYTES + drive_len. Refusals:
+ * COUNT, NUMBER, LENGTH.
  */
 uint32_t gm_write_heartbeat(uint32_t n, uint32_t node, uint32_t join, uint32_t sync, uint32_t startup,
-                            uint32_t cycle, uint32_t channel, uint8_t *frame, size_t frame_len);
+                            uint32_t cycle, uint32_t channel, const uint8_t *drive, size_t drive_len,
+                            uint8_t *frame, size_t frame_len);
 
 /*
- * Writes the heartbeat that a node sends in its state: *sent is 1, or 0 if it sends none, and frame is then
- * as it came in.
- * state: GM_STATE_BYTES, frame: GM_HEARTBEAT_BYTES. Refusals: NUMBER, LENGTH, STATE.
+ * Writes the heartbeat that a node sends in its state, with the drive bytes behind its first word: *sent is
+ * 1, or 0 if it sends none, and frame is then as it came in. The lengths are looked at also of a node that
+ * sends none. Where there are no drive bytes, `drive` is any pointer that is not null, and drive_len 0.
+ * state: GM_STATE_BYTES; drive: an even number of bytes, at most GM_DRIVE_BYTES; frame: GM_HEARTBEAT_BYTES
+ * + drive_len. Refusals: NUMBER, LENGTH, STATE.
  */
 uint32_t gm_send_heartbeat(const uint8_t *state, size_t state_len, uint32_t sync, uint32_t startup,
-                           uint32_t cycle, uint32_t channel, uint8_t *frame, size_t frame_len,
-                           uint32_t *sent);
+                           uint32_t cycle, uint32_t channel, const uint8_t *drive, size_t drive_len,
+                           uint8_t *frame, size_t frame_len, uint32_t *sent);
 
 /*
- * Reads one copy of the heartbeat of `node`, due in cycle count `cycle` on `channel`: *join is 0 or 1.
- * frame: of any length. Refusals: COUNT, NUMBER, FRAME_LENGTH, HEADER_CHECK, FRAME_CHECK, NULL_FRAME,
- * NOT_DUE, CONTENT.
+ * Reads one copy of the heartbeat of `node`, due in cycle count `cycle` on `channel`: *join is 0 or 1,
+ * *drive_bytes is the number of its drive bytes, even and at most GM_DRIVE_BYTES, and these stand at the
+ * front of `drive`. From that number on `drive` is as it came in.
+ * frame: of any length, drive: GM_DRIVE_BYTES, however many come. Refusals: COUNT, NUMBER, LENGTH,
+ * FRAME_LENGTH, HEADER_CHECK, FRAME_CHECK, NULL_FRAME, NOT_DUE, CONTENT.
  */
 uint32_t gm_read_heartbeat(uint32_t n, uint32_t node, uint32_t cycle, uint32_t channel,
-                           const uint8_t *frame, size_t frame_len, uint32_t *join);
+                           const uint8_t *frame, size_t frame_len, uint8_t *drive, size_t drive_len,
+                           uint32_t *join, uint32_t *drive_bytes);
 
 /*
  * Receives the heartbeat of `node` from its copies on channels A and B (length 0 where none came): *heard
  * is GM_MISSED, GM_HEARD_MEMBER or GM_HEARD_JOINING. One good copy counts; two count if their payloads are
- * equal, else the heartbeat is missed; sync and startup are not compared.
- * a, b: of any length. Refusals: COUNT, NUMBER.
+ * equal, first word and drive bytes, else the heartbeat is missed; sync and startup are not compared. Of a
+ * copy that counts *drive_bytes and `drive` are as gm_read_heartbeat gives them. A missed heartbeat is no
+ * refusal: *drive_bytes is 0, and all of `drive` is as it came in.
+ * a, b: of any length, drive: GM_DRIVE_BYTES, however many come. Refusals: COUNT, NUMBER, LENGTH.
  */
 uint32_t gm_receive_heartbeat(uint32_t n, uint32_t node, uint32_t cycle, const uint8_t *a, size_t a_len,
-                              const uint8_t *b, size_t b_len, uint32_t *heard);
+                              const uint8_t *b, size_t b_len, uint8_t *drive, size_t drive_len,
+                              uint32_t *heard, uint32_t *drive_bytes);
 
 /*
  * The view of a member from what it heard: the members of its set in heard0, the nodes outside its set in
@@ -481,8 +513,8 @@ uint32_t gm_run(uint8_t *row, size_t row_len, const uint8_t *table, size_t table
  * show of the last cycle: heartbeats on A, heartbeats on B, votes on A, votes on B, each of these four
  * parts 64 slots of GM_VOTE_FRAME_BYTES. The frame that node q sent stands at the front of slot q, whether
  * or not it reached anybody; zeros stand behind it, and where nothing was sent. Cycle k of the run has
- * cycle count k - 1 modulo 64, and its heartbeats have sync and startup 0. A table without cycles leaves
- * `frames` as it came in.
+ * cycle count k - 1 modulo 64, and its heartbeats have sync and startup 0 and no drive bytes. A table
+ * without cycles leaves `frames` as it came in.
  * row, table: as for gm_run; frames: GM_FRAMES_BYTES, another length being refused where the row's is.
  * Refusals: those of gm_run.
  */

@@ -18,7 +18,10 @@ static inline const char *gm_refusal_text(uint32_t status)
         text = "A node is not below the number of nodes, a cycle count is above 63, a channel is not A or B, "
                "or an indicator to be written is wrong.";
         break;
-    case GM_REFUSED_LENGTH: text = "A buffer has another length than its entry names, or a row has not one state for each node."; break;
+    case GM_REFUSED_LENGTH:
+        text = "A buffer has another length than its entry names, drive bytes to be written are odd in number or more than 252, "
+               "or a row has not one state for each node.";
+        break;
     case GM_REFUSED_STATE: text = "A state or a register block is not well formed, or a state stands in a row at the place of another node."; break;
     case GM_REFUSED_FRAME_LENGTH: text = "The frame has fewer than 8 bytes, or not as many as its length field says."; break;
     case GM_REFUSED_HEADER_CHECK: text = "The header check of the frame is wrong."; break;
@@ -29,7 +32,7 @@ static inline const char *gm_refusal_text(uint32_t status)
                "or with an indicator or reserved bit that it may not have.";
         break;
     case GM_REFUSED_CONTENT:
-        text = "The content is not allowed: heartbeat bits that must be 0, "
+        text = "The content is not allowed: bits of a heartbeat's first word that must be 0, "
                "or a vote whose set, base and view do not fit its sender and each other.";
         break;
     case GM_REFUSED_CUT: text = "The table is empty, or it or the record ends before the record is whole."; break;

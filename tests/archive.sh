@@ -1,7 +1,7 @@
 #!/usr/bin/env bash
 # Whether the headers and the archive agree: every entry declared once and exported, each called from C and known to whoever has to know all entries, the
-# places and values that the headers name those of the archive, nothing undefined but what is named here, no writable data, and no deeper stack than the
-# header says. Usage: archive.sh ARCHIVE BUILD-FOLDER
+# places and values that the headers name those of the archive, a host of an older header refused by the compiler, nothing undefined but what is named here, no
+# writable data, and no deeper stack than the header says. Usage: archive.sh ARCHIVE BUILD-FOLDER
 set -euo pipefail
 archive=$1 build=$2
 mkdir -p "$build"
@@ -52,6 +52,17 @@ statuses=$("$build/layout")
 printf '#include "gm_refusal.h"\nint main() { uint8_t s[1] = {0}; return gm_refusal_text(gm_stop(s, sizeof s)) == gm_refusal_text(GM_REFUSED_LENGTH) ? 0 : 1; }\n' >"$build/cpp.cc"
 g++ -Wall -Wextra -Werror -pedantic -Iinclude "$build/cpp.cc" "$archive" -o "$build/cpp"
 "$build/cpp" || fail "the C++ caller got another answer"
+
+# a call as it was before heartbeats carried drive bytes does not compile, whatever warnings a host has off: the archive alone could not tell
+old=("gm_write_heartbeat(5, 2, 1, 0, 0, 9, GM_CHANNEL_B, frame, GM_HEARTBEAT_BYTES)"
+    "gm_send_heartbeat(lent, GM_STATE_BYTES, 0, 0, 9, GM_CHANNEL_A, frame, GM_HEARTBEAT_BYTES, result)"
+    "gm_read_heartbeat(5, 2, 9, GM_CHANNEL_B, lent, GM_HEARTBEAT_BYTES, result)"
+    "gm_receive_heartbeat(5, 2, 9, lent, 0, lent, GM_HEARTBEAT_BYTES, result)")
+for call in "${old[@]}"; do
+    printf '#include "gm.h"\nuint32_t call(const uint8_t *lent, uint8_t *frame, uint32_t *result)\n{\n    return %s;\n}\n' "$call" >"$build/old.c"
+    ! LC_ALL=C gcc -std=c99 -w -Iinclude -fsyntax-only "$build/old.c" 2>"$build/old.message" || fail "an old host still compiles: $call"
+    [[ $(grep 'error: ' "$build/old.message") == *"too few arguments to function '${call%%(*}'"* ]] || fail "an old host is refused otherwise: $(<"$build/old.message")"
+done
 
 # a host that makes the calls of a cycle on one node and links with --gc-sections has nothing of the other entries
 "${cc[@]}" tests/onecycle.c "$archive" -o "$build/onecycle"

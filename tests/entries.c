@@ -28,7 +28,7 @@ static void unchanged(const char *entry, const void *a, const void *b, size_t le
 }
 
 static uint8_t state[GM_STATE_BYTES], other[GM_STATE_BYTES], before[GM_VOTES_BYTES], votes[GM_VOTES_BYTES];
-static uint8_t beat[GM_HEARTBEAT_BYTES], frame[2][GM_VOTE_FRAME_BYTES], payload[GM_VOTE_BYTES];
+static uint8_t beat[GM_HEARTBEAT_BYTES + 4], frame[2][GM_VOTE_FRAME_BYTES], payload[GM_VOTE_BYTES];
 
 static void states(void)
 {
@@ -96,19 +96,70 @@ static void states_apart(void)
     entries -= count - 1;
 }
 
+/* the drive bytes of every heartbeat here, and what those received and read are lent */
+static const uint8_t carried[4] = {0x80, 0, 0xFF, 7};
+struct received {
+    uint8_t drive[GM_DRIVE_BYTES];
+    uint32_t answer, number;
+};
+
+/* what `got` holds after a call: the results, the drive bytes at the front, and behind them what stood there */
+static void holds_drive(const char *entry, const struct received *got, uint32_t answer)
+{
+    struct received due;
+    memset(&due, 0xA5, sizeof due);
+    memcpy(due.drive, carried, sizeof carried);
+    due.answer = answer;
+    due.number = sizeof carried;
+    if (memcmp(got, &due, sizeof due) != 0) {
+        fprintf(stderr, "%s left other numbers or drive bytes\n", entry);
+        exit(1);
+    }
+}
+
+static void read_heartbeats(void)
+{
+    struct received got, kept;
+    memset(&got, 0xA5, sizeof got);
+    kept = got;
+    expect("gm_read_heartbeat", gm_read_heartbeat(5, 2, 9, GM_CHANNEL_A, beat, sizeof beat, got.drive, sizeof got.drive, &got.answer, &got.number),
+           GM_REFUSED_FRAME_CHECK);
+    expect("gm_read_heartbeat", gm_read_heartbeat(5, 2, 9, GM_CHANNEL_A, beat, 0, got.drive, sizeof got.drive - 1, &got.answer, &got.number),
+           GM_REFUSED_LENGTH);
+    unchanged("gm_read_heartbeat", &got, &kept, sizeof got);
+    expect("gm_read_heartbeat", gm_read_heartbeat(5, 2, 9, GM_CHANNEL_B, beat, sizeof beat, got.drive, sizeof got.drive, &got.answer, &got.number), 0);
+    holds_drive("gm_read_heartbeat", &got, 1);
+}
+
+static void receive_heartbeats(void)
+{
+    struct received got, kept;
+    memset(&got, 0xA5, sizeof got);
+    kept = got;
+    expect("gm_receive_heartbeat", gm_receive_heartbeat(5, 2, 64, beat, 0, beat, sizeof beat, got.drive, sizeof got.drive, &got.answer, &got.number),
+           GM_REFUSED_NUMBER);
+    expect("gm_receive_heartbeat", gm_receive_heartbeat(5, 2, 9, beat, 0, beat, sizeof beat, got.drive, 0, &got.answer, &got.number), GM_REFUSED_LENGTH);
+    unchanged("gm_receive_heartbeat", &got, &kept, sizeof got);
+    expect("gm_receive_heartbeat", gm_receive_heartbeat(5, 2, 9, beat, 0, beat, sizeof beat, got.drive, sizeof got.drive, &got.answer, &got.number), 0);
+    holds_drive("gm_receive_heartbeat", &got, GM_HEARD_JOINING);
+}
+
 static void heartbeats(void)
 {
-    uint32_t sent = 7, join = 7, heard = 7;
-    expect("gm_write_heartbeat", gm_write_heartbeat(5, 2, 1, 1, 1, 9, GM_CHANNEL_B, beat, sizeof beat), 0);
-    expect("gm_write_heartbeat", gm_write_heartbeat(5, 2, 1, 0, 1, 9, GM_CHANNEL_B, beat, sizeof beat), GM_REFUSED_NUMBER);
-    expect("gm_read_heartbeat", gm_read_heartbeat(5, 2, 9, GM_CHANNEL_A, beat, sizeof beat, &join), GM_REFUSED_FRAME_CHECK);
-    expect("gm_read_heartbeat", gm_read_heartbeat(5, 2, 9, GM_CHANNEL_B, beat, sizeof beat, &join), 0);
-    expect("gm_receive_heartbeat", gm_receive_heartbeat(5, 2, 9, beat, 0, beat, sizeof beat, &heard), 0);
-    expect("heard", heard != GM_HEARD_JOINING || join != 1, 0);
+    uint32_t sent = 7;
+    expect("gm_write_heartbeat", gm_write_heartbeat(5, 2, 1, 1, 1, 9, GM_CHANNEL_B, carried, sizeof carried, beat, sizeof beat), 0);
+    memcpy(before, beat, sizeof beat);
+    expect("gm_write_heartbeat", gm_write_heartbeat(5, 2, 1, 0, 1, 9, GM_CHANNEL_B, carried, 3, beat, sizeof beat), GM_REFUSED_NUMBER);
+    expect("gm_write_heartbeat", gm_write_heartbeat(5, 2, 1, 0, 0, 9, GM_CHANNEL_B, carried, 3, beat, GM_HEARTBEAT_BYTES + 3), GM_REFUSED_LENGTH);
+    unchanged("gm_write_heartbeat", before, beat, sizeof beat);
+    read_heartbeats();
+    receive_heartbeats();
+    expect("gm_send_heartbeat", gm_send_heartbeat(state, sizeof state, 0, 0, 9, 2, carried, 2, beat, 1, &sent), GM_REFUSED_NUMBER);
+    expect("gm_send_heartbeat", gm_send_heartbeat(state, sizeof state, 0, 0, 9, GM_CHANNEL_A, carried, 2, beat, sizeof beat, &sent), GM_REFUSED_LENGTH);
+    unchanged("gm_send_heartbeat", before, beat, sizeof beat);
+    expect("gm_send_heartbeat", gm_send_heartbeat(state, sizeof state, 0, 0, 9, GM_CHANNEL_A, carried, sizeof carried, beat, sizeof beat, &sent), 0);
+    expect("sent", sent != 1 || memcmp(beat + 7, carried, sizeof carried) != 0, 0);
     entries--;
-    expect("gm_receive_heartbeat", gm_receive_heartbeat(5, 2, 64, beat, 0, beat, sizeof beat, &heard), GM_REFUSED_NUMBER);
-    expect("gm_send_heartbeat", gm_send_heartbeat(state, sizeof state, 0, 0, 9, GM_CHANNEL_A, beat, sizeof beat, &sent), 0);
-    expect("gm_send_heartbeat", gm_send_heartbeat(state, sizeof state, 0, 0, 9, 2, beat, 1, &sent), GM_REFUSED_NUMBER);
 }
 
 static void views_and_votes(void)
@@ -159,7 +210,7 @@ static void shown(const uint8_t *frames, uint32_t part, uint32_t channel, uint32
     uint32_t sent = 0;
     gm_begin(3, node, 7, begun, sizeof begun);
     if (part == 0)
-        gm_send_heartbeat(begun, sizeof begun, 0, 0, 0, channel, slot, GM_HEARTBEAT_BYTES, &sent);
+        gm_send_heartbeat(begun, sizeof begun, 0, 0, 0, channel, begun, 0, slot, GM_HEARTBEAT_BYTES, &sent);
     else
         gm_send_vote(begun, sizeof begun, 7, 0, 0, channel, slot, sizeof slot, &sent);
     if (sent != 1 || memcmp(frames + GM_VOTE_FRAME_BYTES * (size_t)(64 * (2 * part + channel) + node), slot, sizeof slot) != 0) {

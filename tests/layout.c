@@ -129,10 +129,52 @@ static uint32_t slot_of(const uint8_t *frame)
     return (frame[0] & 7U) << 8 | frame[1];
 }
 
+/* without drive bytes */
+static uint32_t write_beat(uint32_t n, uint32_t node, uint32_t cycle, uint32_t channel, uint8_t *beat)
+{
+    static const uint8_t none[1] = {0};
+    return gm_write_heartbeat(n, node, 0, 0, 0, cycle, channel, none, 0, beat, GM_HEARTBEAT_BYTES);
+}
+
+/* accepted, it has no drive bytes */
+static uint32_t read_beat(uint32_t n, uint32_t node, uint32_t cycle, uint32_t channel, const uint8_t *beat, size_t len)
+{
+    uint8_t drive[GM_DRIVE_BYTES];
+    uint32_t join = 7, number = 7, status = gm_read_heartbeat(n, node, cycle, channel, beat, len, drive, sizeof drive, &join, &number);
+    hold(status != GM_OK || number == 0, "a heartbeat without drive bytes is read with some");
+    return status;
+}
+
+/* of node 3 of nine in cycle 5 */
+static uint32_t receive_beat(const uint8_t *a, size_t a_len, const uint8_t *b, size_t b_len)
+{
+    uint8_t drive[GM_DRIVE_BYTES];
+    uint32_t heard = 7, number = 7;
+    hold(gm_receive_heartbeat(9, 3, 5, a, a_len, b, b_len, drive, sizeof drive, &heard, &number) == GM_OK, "copies of a heartbeat are refused");
+    hold(number == 0, "a heartbeat without drive bytes is received with some");
+    return heard;
+}
+
+/* as many as there may be, in the longest frame and in the buffer for them; one more, or a longer buffer, is refused */
+static void drive_bytes(void)
+{
+    static uint8_t drive[GM_DRIVE_BYTES + 2U], frame[GM_HEARTBEAT_MOST_BYTES + 2U], got[GM_DRIVE_BYTES + 1U];
+    uint32_t join = 7, number = 7;
+    for (size_t i = 0; i < sizeof drive; i++)
+        drive[i] = (uint8_t)(3U * i + 1U);
+    hold(gm_write_heartbeat(9, 3, 1, 0, 0, 5, GM_CHANNEL_A, drive, GM_DRIVE_BYTES, frame, GM_HEARTBEAT_MOST_BYTES) == GM_OK, "a heartbeat of most drive bytes is refused");
+    hold(gm_write_heartbeat(9, 3, 1, 0, 0, 5, GM_CHANNEL_A, drive, sizeof drive, frame, sizeof frame) == GM_REFUSED_LENGTH, "two drive bytes too many");
+    hold(gm_write_heartbeat(9, 3, 1, 0, 0, 5, GM_CHANNEL_A, drive, 1, frame, GM_HEARTBEAT_BYTES + 1U) == GM_REFUSED_LENGTH, "an odd number of drive bytes");
+    hold(gm_read_heartbeat(9, 3, 5, GM_CHANNEL_A, frame, GM_HEARTBEAT_MOST_BYTES, got, sizeof got, &join, &number) == GM_REFUSED_LENGTH, "a longer buffer is filled");
+    hold(gm_read_heartbeat(9, 3, 5, GM_CHANNEL_A, frame, GM_HEARTBEAT_MOST_BYTES, got, GM_DRIVE_BYTES, &join, &number) == GM_OK, "the longest heartbeat is not read");
+    hold(join == 1 && number == GM_DRIVE_BYTES && memcmp(got, drive, GM_DRIVE_BYTES) == 0, "other drive bytes are read than were written");
+    hold(frame[5] == 0x80U && frame[6] == 0 && memcmp(frame + 7, drive, GM_DRIVE_BYTES) == 0, "join or the drive bytes stand elsewhere");
+}
+
 static void frames(void)
 {
     uint8_t beat[GM_HEARTBEAT_BYTES], frame[GM_VOTE_FRAME_BYTES], vote[GM_VOTE_BYTES], due[GM_VOTE_BYTES];
-    hold(gm_write_heartbeat(9, 3, 1, 0, 0, 5, GM_CHANNEL_A, beat, sizeof beat) == GM_OK, "a heartbeat is refused");
+    hold(write_beat(9, 3, 5, GM_CHANNEL_A, beat) == GM_OK, "a heartbeat is refused");
     hold(slot_of(beat) == GM_HEARTBEAT_SLOT + 3U, "a heartbeat has another slot");
     hold(gm_write_vote(9, 3, 0x01020304, 0x0F8, 0x1F9, 0x01C, 5, GM_CHANNEL_B, frame, sizeof frame) == GM_OK, "a vote is refused");
     hold(slot_of(frame) == GM_VOTE_SLOT + 3U, "a vote has another slot");
@@ -148,13 +190,13 @@ static void frames(void)
 static void coinciding(void)
 {
     uint8_t beat[GM_HEARTBEAT_BYTES], frame[GM_VOTE_FRAME_BYTES], again[GM_VOTE_FRAME_BYTES], votes[2][GM_VOTES_BYTES];
-    uint32_t heard = GM_MISSED;
     uint64_t arrived[2] = {0, 0};
     memset(votes, 0, sizeof votes);
-    gm_write_heartbeat(9, 3, 0, 0, 0, 5, GM_CHANNEL_B, beat, sizeof beat);
-    hold(gm_receive_heartbeat(9, 3, 5, beat, sizeof beat, beat, sizeof beat, &heard) == GM_OK && heard == GM_HEARD_MEMBER, "one copy lent twice is not heard");
-    hold(gm_receive_heartbeat(9, 3, 5, beat + sizeof beat, 0, beat, sizeof beat, &heard) == GM_OK && heard == GM_HEARD_MEMBER, "no copy on A is not taken so");
-    hold(gm_receive_heartbeat(9, 3, 5, beat + sizeof beat, 0, beat + sizeof beat, 0, &heard) == GM_OK && heard == GM_MISSED, "no copy is heard");
+    write_beat(9, 3, 5, GM_CHANNEL_B, beat);
+    hold(receive_beat(beat, sizeof beat, beat, sizeof beat) == GM_HEARD_MEMBER, "one copy lent twice is not heard");
+    hold(receive_beat(beat, 0, beat, sizeof beat) == GM_HEARD_MEMBER, "one copy lent with no length on A is not heard");
+    hold(receive_beat(beat + sizeof beat, 0, beat, sizeof beat) == GM_HEARD_MEMBER, "no copy on A is not taken so");
+    hold(receive_beat(beat + sizeof beat, 0, beat + sizeof beat, 0) == GM_MISSED, "no copy is heard");
     gm_write_vote(9, 3, 1, 0x0F8, 0x1F9, 0x01C, 5, GM_CHANNEL_A, frame, sizeof frame);
     memcpy(again, frame, sizeof again);
     gm_receive_vote(9, 3, 5, frame, sizeof frame, frame, sizeof frame, votes[0], sizeof votes[0], &arrived[0]);
@@ -166,14 +208,13 @@ static void coinciding(void)
 static void damaged(void)
 {
     uint8_t beat[GM_HEARTBEAT_BYTES];
-    uint32_t join = 7;
-    gm_write_heartbeat(9, 3, 1, 0, 0, 5, GM_CHANNEL_A, beat, sizeof beat);
-    hold(gm_read_heartbeat(9, 3, 5, GM_CHANNEL_A, beat, sizeof beat - 1U, &join) == GM_REFUSED_FRAME_LENGTH, "a cut copy is refused otherwise");
+    write_beat(9, 3, 5, GM_CHANNEL_A, beat);
+    hold(read_beat(9, 3, 5, GM_CHANNEL_A, beat, sizeof beat - 1U) == GM_REFUSED_FRAME_LENGTH, "a cut copy is refused otherwise");
     beat[3] ^= 1U;
-    hold(gm_read_heartbeat(9, 3, 5, GM_CHANNEL_A, beat, sizeof beat, &join) == GM_REFUSED_HEADER_CHECK, "a damaged header is refused otherwise");
+    hold(read_beat(9, 3, 5, GM_CHANNEL_A, beat, sizeof beat) == GM_REFUSED_HEADER_CHECK, "a damaged header is refused otherwise");
     beat[3] ^= 1U;
     beat[9] ^= 1U;
-    hold(gm_read_heartbeat(9, 3, 5, GM_CHANNEL_A, beat, sizeof beat, &join) == GM_REFUSED_FRAME_CHECK, "a damaged frame is refused otherwise");
+    hold(read_beat(9, 3, 5, GM_CHANNEL_A, beat, sizeof beat) == GM_REFUSED_FRAME_CHECK, "a damaged frame is refused otherwise");
 }
 
 /* five units after one cycle of a table that is put together from the constants, units 0 to 3 founding */
@@ -224,10 +265,9 @@ static void shown(void)
     uint8_t table[GM_START_BYTES + GM_CYCLE_AT_ENTRIES] = {GM_MARK_0, GM_MARK_1, GM_RECORD_START, 2, 0, 0, 0, 0, 0, 0, 0, 3, GM_MARK_0, GM_MARK_1, GM_RECORD_CYCLE};
     uint8_t two[2 * GM_STATE_BYTES] = {0}, vote[GM_VOTE_BYTES];
     const size_t slot = GM_VOTE_FRAME_BYTES;
-    uint32_t join = 7;
     hold(gm_run_frames(two, sizeof two, table, sizeof table, frames, sizeof frames) == GM_OK, "a run through frames is refused");
-    hold(gm_read_heartbeat(2, 1, 0, GM_CHANNEL_A, frames + GM_FRAMES_AT_HEARTBEATS_A + slot, GM_HEARTBEAT_BYTES, &join) == GM_OK, "no heartbeat on A");
-    hold(gm_read_heartbeat(2, 1, 0, GM_CHANNEL_B, frames + GM_FRAMES_AT_HEARTBEATS_B + slot, GM_HEARTBEAT_BYTES, &join) == GM_OK, "no heartbeat on B");
+    hold(read_beat(2, 1, 0, GM_CHANNEL_A, frames + GM_FRAMES_AT_HEARTBEATS_A + slot, GM_HEARTBEAT_BYTES) == GM_OK, "no heartbeat on A");
+    hold(read_beat(2, 1, 0, GM_CHANNEL_B, frames + GM_FRAMES_AT_HEARTBEATS_B + slot, GM_HEARTBEAT_BYTES) == GM_OK, "no heartbeat on B");
     hold(gm_read_vote(2, 1, 0, GM_CHANNEL_A, frames + GM_FRAMES_AT_VOTES_A + slot, slot, vote, sizeof vote) == GM_OK, "no vote on A");
     hold(gm_read_vote(2, 1, 0, GM_CHANNEL_B, frames + GM_FRAMES_AT_VOTES_B + slot, slot, vote, sizeof vote) == GM_OK, "no vote on B");
 }
@@ -237,11 +277,11 @@ static void limits(void)
 {
     uint8_t beat[GM_HEARTBEAT_BYTES];
     const uint32_t last = GM_NODES_MAX - 1U;
-    hold(gm_write_heartbeat(GM_NODES_MAX, last, 0, 0, 0, GM_CYCLE_COUNTS - 1U, GM_CHANNELS - 1U, beat, sizeof beat) == GM_OK, "a last number is refused");
-    hold(gm_write_heartbeat(GM_NODES_MAX + 1U, last, 0, 0, 0, 0, 0, beat, sizeof beat) == GM_REFUSED_COUNT, "a node too many");
-    hold(gm_write_heartbeat(GM_NODES_MIN - 1U, 0, 0, 0, 0, 0, 0, beat, sizeof beat) == GM_REFUSED_COUNT, "a node too few");
-    hold(gm_write_heartbeat(GM_NODES_MIN, 0, 0, 0, 0, GM_CYCLE_COUNTS, 0, beat, sizeof beat) == GM_REFUSED_NUMBER, "a cycle count too many");
-    hold(gm_write_heartbeat(GM_NODES_MIN, 0, 0, 0, 0, 0, GM_CHANNELS, beat, sizeof beat) == GM_REFUSED_NUMBER, "a channel too many");
+    hold(write_beat(GM_NODES_MAX, last, GM_CYCLE_COUNTS - 1U, GM_CHANNELS - 1U, beat) == GM_OK, "a last number is refused");
+    hold(write_beat(GM_NODES_MAX + 1U, last, 0, 0, beat) == GM_REFUSED_COUNT, "a node too many");
+    hold(write_beat(GM_NODES_MIN - 1U, 0, 0, 0, beat) == GM_REFUSED_COUNT, "a node too few");
+    hold(write_beat(GM_NODES_MIN, 0, GM_CYCLE_COUNTS, 0, beat) == GM_REFUSED_NUMBER, "a cycle count too many");
+    hold(write_beat(GM_NODES_MIN, 0, 0, GM_CHANNELS, beat) == GM_REFUSED_NUMBER, "a channel too many");
 }
 
 /* a record of as many entries as there may be, and one more */
@@ -289,6 +329,7 @@ int main(void)
     registers();
     last_register();
     frames();
+    drive_bytes();
     coinciding();
     damaged();
     tables();

@@ -19,7 +19,7 @@
 #endif
 
 enum { NODES = 64, CHANNELS = 2, COUNTS = 64, PAGE = 4096, MOST_TABLES = 64 };
-enum { FIRST_BYTES = 12, CYCLE_BYTES = 36, ENTRY_BYTES = 9, ENTRIES_AT = 35, LONGEST_FRAME = 64, HEADER_BYTES = 5, NULL_FRAME = 0x20 };
+enum { FIRST_BYTES = 12, CYCLE_BYTES = 36, ENTRY_BYTES = 9, ENTRIES_AT = 35, LONGEST_FRAME = 300, HEADER_BYTES = 5, DRIVE_AT = 7, NULL_FRAME = 0x20 };
 enum { HEARTBEAT, VOTE, PHASES };
 enum { BEGIN, STOP, START, STATE, WRITE_HEARTBEAT, SEND_HEARTBEAT, READ_HEARTBEAT, RECEIVE_HEARTBEAT, VIEW };
 enum { WRITE_VOTE = VIEW + 1, SEND_VOTE, READ_VOTE, RECEIVE_VOTE, DECIDE, REGISTER_READ, REGISTER_WRITE, REGISTER_CYCLE, REGISTER_WRITE_CYCLE };
@@ -73,9 +73,11 @@ struct press {
     uint32_t n;
 };
 
-/* which frame is due */
+/* which frame is due, and what a heartbeat carries */
 struct due {
     uint32_t n, node, cycle, channel;
+    uint8_t drive[GM_DRIVE_BYTES];
+    size_t drive_len;
 };
 
 /* the entries, and the refusals that the header names for each */
@@ -96,8 +98,8 @@ static const struct {
     {"gm_state", STATES},
     {"gm_write_heartbeat", NUMBERS | BIT(GM_REFUSED_LENGTH)},
     {"gm_send_heartbeat", BIT(GM_REFUSED_NUMBER) | STATES},
-    {"gm_read_heartbeat", NUMBERS | FRAMES},
-    {"gm_receive_heartbeat", NUMBERS},
+    {"gm_read_heartbeat", NUMBERS | BIT(GM_REFUSED_LENGTH) | FRAMES},
+    {"gm_receive_heartbeat", NUMBERS | BIT(GM_REFUSED_LENGTH)},
     {"gm_view", STATES},
     {"gm_write_vote", NUMBERS | BIT(GM_REFUSED_LENGTH) | BIT(GM_REFUSED_CONTENT)},
     {"gm_send_vote", BIT(GM_REFUSED_NUMBER) | STATES},
@@ -260,6 +262,15 @@ static void settle(struct work *w, struct lent *l, int written)
     give_back(l);
 }
 
+/* after a call that writes these bytes of a buffer and no other */
+static void settle_part(struct work *w, struct lent *l, size_t from, size_t bytes)
+{
+    must_be_defined(w, l->bytes + from, bytes);
+    if (l->before != NULL)
+        memcpy(l->before + from, l->bytes + from, bytes);
+    settle(w, l, 0);
+}
+
 /* one answer of an entry; whether it was accepted */
 static int answered(struct work *w, unsigned entry, uint32_t status)
 {
@@ -366,13 +377,13 @@ static void seal(uint8_t *frame, size_t len, uint32_t channel)
 static struct lent frame_near(struct work *w, unsigned phase, const struct due *d)
 {
     uint8_t frame[LONGEST_FRAME] = {0};
-    size_t len = phase == VOTE ? GM_VOTE_FRAME_BYTES : GM_HEARTBEAT_BYTES;
+    size_t len = phase == VOTE ? GM_VOTE_FRAME_BYTES : GM_HEARTBEAT_BYTES + d->drive_len;
     uint64_t set = (any(w) & all_below(d->n)) | only(d->node), more = any(w) & all_below(d->n);
     uint32_t sync = below(w, 2), damage = below(w, 8);
     if (phase == VOTE)
         gm_write_vote(d->n, d->node, (uint32_t)any(w), set, set | more, more | only(d->node), d->cycle, d->channel, frame, len);
     else
-        gm_write_heartbeat(d->n, d->node, below(w, 2), sync, sync & below(w, 2), d->cycle, d->channel, frame, len);
+        gm_write_heartbeat(d->n, d->node, below(w, 2), sync, sync & below(w, 2), d->cycle, d->channel, d->drive, d->drive_len, frame, len);
     if (damage == 0)
         frame[0] ^= NULL_FRAME;
     else if (damage < 4)
@@ -382,6 +393,14 @@ static struct lent frame_near(struct work *w, unsigned phase, const struct due *
     return kept(w, copy_of(w, frame, one_in(w, 12) ? below(w, LONGEST_FRAME) : len));
 }
 
+/* an even number, for half of the heartbeats 0 */
+static void carry(struct work *w, struct due *d)
+{
+    d->drive_len = one_in(w, 2) ? 0 : 2 * (size_t)below(w, GM_DRIVE_BYTES / 2 + 1);
+    for (size_t i = 0; i < d->drive_len; i++)
+        d->drive[i] = (uint8_t)any(w);
+}
+
 static struct due due_near(struct work *w)
 {
     struct due d;
@@ -389,6 +408,7 @@ static struct due due_near(struct work *w)
     d.node = number_near(w, d.n);
     d.cycle = number_near(w, COUNTS);
     d.channel = number_near(w, CHANNELS);
+    carry(w, &d);
     return d;
 }
 
@@ -450,12 +470,26 @@ static void call_state(struct work *w)
     settle(w, &state, 0);
 }
 
+/* drive bytes to be written: those due, or as many as may not be, odd in number or too many */
+static struct lent drive_near(struct work *w, const struct due *d)
+{
+    switch (below(w, 16)) {
+    case 0: return filled(w, d->drive_len + 1);
+    case 1: return filled(w, GM_DRIVE_BYTES + 1 + below(w, GM_DRIVE_BYTES));
+    default: return kept(w, copy_of(w, d->drive, d->drive_len));
+    }
+}
+
 static void call_write_heartbeat(struct work *w)
 {
     struct due d = due_near(w);
     uint32_t join = number_near(w, 2), sync = number_near(w, 2), startup = number_near(w, 2);
-    struct lent frame = output(w, length_near(w, GM_HEARTBEAT_BYTES));
-    int accepted = answered(w, WRITE_HEARTBEAT, gm_write_heartbeat(d.n, d.node, join, sync, startup, d.cycle, d.channel, frame.bytes, frame.len));
+    struct lent drive = drive_near(w, &d), frame = output(w, length_near(w, GM_HEARTBEAT_BYTES + drive.len));
+    int accepted = answered(w, WRITE_HEARTBEAT, gm_write_heartbeat(d.n, d.node, join, sync, startup, d.cycle, d.channel, drive.bytes, drive.len, frame.bytes,
+                                                                   frame.len));
+    if (accepted && (drive.len % 2 != 0 || drive.len > GM_DRIVE_BYTES || frame.len != GM_HEARTBEAT_BYTES + drive.len))
+        fail(w, "accepted drive bytes or a frame of another length");
+    settle(w, &drive, 0);
     settle(w, &frame, accepted);
 }
 
@@ -463,42 +497,67 @@ static void call_send_heartbeat(struct work *w)
 {
     struct due d = due_near(w);
     uint32_t sync = number_near(w, 2), startup = number_near(w, 2);
-    struct lent state = state_near(w), frame = output(w, length_near(w, GM_HEARTBEAT_BYTES)), sent = output(w, sizeof(uint32_t));
-    int accepted = answered(w, SEND_HEARTBEAT, gm_send_heartbeat(state.bytes, state.len, sync, startup, d.cycle, d.channel, frame.bytes, frame.len,
-                                                                 number_in(&sent)));
+    struct lent state = state_near(w), drive = drive_near(w, &d), frame = output(w, length_near(w, GM_HEARTBEAT_BYTES + drive.len));
+    struct lent sent = output(w, sizeof(uint32_t));
+    int accepted = answered(w, SEND_HEARTBEAT, gm_send_heartbeat(state.bytes, state.len, sync, startup, d.cycle, d.channel, drive.bytes, drive.len, frame.bytes,
+                                                                 frame.len, number_in(&sent)));
     settle(w, &state, 0);
+    settle(w, &drive, 0);
     settle(w, &frame, accepted && *number_in(&sent) == 1);
     settle(w, &sent, accepted);
+}
+
+/* whether a call that was accepted gave the drive bytes of this copy */
+static int gave(const struct lent *copy, const struct lent *drive, uint32_t number)
+{
+    return copy->len == GM_HEARTBEAT_BYTES + (size_t)number && memcmp(drive->bytes, copy->bytes + DRIVE_AT, number) == 0;
 }
 
 static void call_read_heartbeat(struct work *w)
 {
     struct due d = due_near(w);
-    struct lent frame = frame_near(w, HEARTBEAT, &d), join = output(w, sizeof(uint32_t));
+    struct lent frame = frame_near(w, HEARTBEAT, &d), drive = output(w, length_near(w, GM_DRIVE_BYTES));
+    struct lent join = output(w, sizeof(uint32_t)), number = output(w, sizeof(uint32_t));
     int accepted;
     stray(w, &d);
-    accepted = answered(w, READ_HEARTBEAT, gm_read_heartbeat(d.n, d.node, d.cycle, d.channel, frame.bytes, frame.len, number_in(&join)));
+    accepted = answered(w, READ_HEARTBEAT, gm_read_heartbeat(d.n, d.node, d.cycle, d.channel, frame.bytes, frame.len, drive.bytes, drive.len, number_in(&join),
+                                                             number_in(&number)));
+    if (accepted && !gave(&frame, &drive, *number_in(&number)))
+        fail(w, "gave other drive bytes than the copy's");
+    settle_part(w, &drive, 0, accepted ? *number_in(&number) : 0);
     settle(w, &frame, 0);
     settle(w, &join, accepted);
+    settle(w, &number, accepted);
 }
 
-/* the copy on channel B is of a frame of its own, or absent */
+/* the copy on channel B is of a frame of its own, mostly with the same drive bytes, or absent */
 static struct lent other_copy(struct work *w, unsigned phase, struct due d)
 {
     d.channel = GM_CHANNEL_B;
+    if (one_in(w, 8))
+        carry(w, &d);
     return one_in(w, 4) ? kept(w, room_for(w, 0)) : frame_near(w, phase, &d);
 }
 
 static void call_receive_heartbeat(struct work *w)
 {
     struct due d = due_near(w);
-    struct lent a = frame_near(w, HEARTBEAT, &d), b = other_copy(w, HEARTBEAT, d), heard = output(w, sizeof(uint32_t));
-    int accepted;
+    struct lent a = frame_near(w, HEARTBEAT, &d), b = other_copy(w, HEARTBEAT, d), drive = output(w, length_near(w, GM_DRIVE_BYTES));
+    struct lent heard = output(w, sizeof(uint32_t)), number = output(w, sizeof(uint32_t));
+    int accepted, came;
     stray(w, &d);
-    accepted = answered(w, RECEIVE_HEARTBEAT, gm_receive_heartbeat(d.n, d.node, d.cycle, a.bytes, a.len, b.bytes, b.len, number_in(&heard)));
+    accepted = answered(w, RECEIVE_HEARTBEAT, gm_receive_heartbeat(d.n, d.node, d.cycle, a.bytes, a.len, b.bytes, b.len, drive.bytes, drive.len,
+                                                                   number_in(&heard), number_in(&number)));
+    came = accepted && *number_in(&heard) != GM_MISSED;
+    if (accepted && !came && *number_in(&number) != 0)
+        fail(w, "gave drive bytes of a missed heartbeat");
+    if (came && !gave(&a, &drive, *number_in(&number)) && !gave(&b, &drive, *number_in(&number)))
+        fail(w, "gave other drive bytes than a copy's");
+    settle_part(w, &drive, 0, came ? *number_in(&number) : 0);
     settle(w, &a, 0);
     settle(w, &b, 0);
     settle(w, &heard, accepted);
+    settle(w, &number, accepted);
 }
 
 static void call_view(struct work *w)
@@ -555,13 +614,9 @@ static void call_receive_vote(struct work *w)
     came = accepted && (*mask_in(&arrived) & only(d.node)) != 0;
     if (*mask_in(&arrived) != before && (!accepted || (*mask_in(&arrived) ^ before) != only(d.node)))
         fail(w, "changed a bit that is not the sender's");
-    if (came)
-        must_be_defined(w, votes.bytes + GM_VOTE_BYTES * (size_t)d.node, GM_VOTE_BYTES);
-    if (came && votes.before != NULL)
-        memcpy(votes.before + GM_VOTE_BYTES * (size_t)d.node, votes.bytes + GM_VOTE_BYTES * (size_t)d.node, GM_VOTE_BYTES);
+    settle_part(w, &votes, came ? GM_VOTE_BYTES * (size_t)d.node : 0, came ? GM_VOTE_BYTES : 0);
     settle(w, &a, 0);
     settle(w, &b, 0);
-    settle(w, &votes, 0);
     settle(w, &arrived, accepted);
 }
 
@@ -748,31 +803,65 @@ static void read_faults(struct faults *f, const uint8_t *record)
         f->missed[entry[0] >> 7][entry[0] % NODES] = mask_at(entry + 1);
 }
 
-static uint32_t send_copy(struct press *p, unsigned phase, uint32_t q, uint32_t count, uint32_t channel)
+/* what a unit's heartbeat carries in a cycle: none to the most, another number of bytes in each */
+static struct lent drive_of(struct work *w, uint32_t q, uint32_t count)
+{
+    struct lent drive = room_for(w, (8 * (size_t)q + 2 * (size_t)count) % (GM_DRIVE_BYTES + 2));
+    for (size_t i = 0; i < drive.len; i++)
+        drive.bytes[i] = (uint8_t)(q + 5 * count + 3 * i);
+    return drive;
+}
+
+/* what an analyser shows is written without drive bytes, as in a run */
+static uint32_t send_heartbeat(struct press *p, uint32_t q, uint32_t count, uint32_t channel)
+{
+    struct unit *u = &p->units[q];
+    struct lent drive = drive_of(p->work, q, count), *frame = &p->bus[q].copy[channel];
+    uint32_t sent, shown;
+    *frame = room_for(p->work, GM_HEARTBEAT_BYTES + drive.len);
+    must(p->work, SEND_HEARTBEAT, gm_send_heartbeat(u->state.bytes, u->state.len, 0, 0, count, channel, drive.bytes, drive.len, frame->bytes, frame->len, &sent));
+    must(p->work, SEND_HEARTBEAT, gm_send_heartbeat(u->state.bytes, u->state.len, 0, 0, count, channel, p->nothing.bytes, p->nothing.len,
+                                                    p->shown[HEARTBEAT][channel][q], GM_HEARTBEAT_BYTES, &shown));
+    if (sent != shown)
+        fail(p->work, "sends with drive bytes or without, and not both");
+    give_back(&drive);
+    return sent;
+}
+
+static uint32_t send_vote(struct press *p, uint32_t q, uint32_t count, uint32_t channel)
 {
     struct unit *u = &p->units[q];
     struct lent *frame = &p->bus[q].copy[channel];
     uint32_t sent;
-    *frame = room_for(p->work, phase == VOTE ? GM_VOTE_FRAME_BYTES : GM_HEARTBEAT_BYTES);
-    if (phase == VOTE)
-        must(p->work, SEND_VOTE, gm_send_vote(u->state.bytes, u->state.len, u->heard0, u->heard1, count, channel, frame->bytes, frame->len, &sent));
-    else
-        must(p->work, SEND_HEARTBEAT, gm_send_heartbeat(u->state.bytes, u->state.len, 0, 0, count, channel, frame->bytes, frame->len, &sent));
-    if (sent) {
-        note(p->work, frame->bytes, frame->len);
-        memcpy(p->shown[phase][channel][q], frame->bytes, frame->len);
-    }
+    *frame = room_for(p->work, GM_VOTE_FRAME_BYTES);
+    must(p->work, SEND_VOTE, gm_send_vote(u->state.bytes, u->state.len, u->heard0, u->heard1, count, channel, frame->bytes, frame->len, &sent));
+    if (sent)
+        memcpy(p->shown[VOTE][channel][q], frame->bytes, frame->len);
     return sent;
 }
 
+static uint32_t send_copy(struct press *p, unsigned phase, uint32_t q, uint32_t count, uint32_t channel)
+{
+    uint32_t sent = (phase == VOTE ? send_vote : send_heartbeat)(p, q, count, channel);
+    if (sent)
+        note(p->work, p->bus[q].copy[channel].bytes, p->bus[q].copy[channel].len);
+    return sent;
+}
+
+/* the buffer for drive bytes is as it was allocated, but for those that came */
 static void hear(struct press *p, struct unit *u, uint32_t sender, uint32_t count, const struct lent *a, const struct lent *b)
 {
-    uint32_t heard;
-    must(p->work, RECEIVE_HEARTBEAT, gm_receive_heartbeat(p->n, sender, count, a->bytes, a->len, b->bytes, b->len, &heard));
+    struct lent got = room_for(p->work, GM_DRIVE_BYTES), due = drive_of(p->work, sender, count);
+    uint32_t heard, number;
+    must(p->work, RECEIVE_HEARTBEAT, gm_receive_heartbeat(p->n, sender, count, a->bytes, a->len, b->bytes, b->len, got.bytes, got.len, &heard, &number));
+    if (number != (heard == GM_MISSED ? 0 : due.len) || memcmp(got.bytes, due.bytes, number) != 0)
+        fail(p->work, "gives other drive bytes than were sent");
     if (heard == GM_HEARD_MEMBER)
         u->heard0 |= only(sender);
     if (heard == GM_HEARD_JOINING)
         u->heard1 |= only(sender);
+    give_back(&got);
+    give_back(&due);
 }
 
 static void collect(struct press *p, struct unit *u, uint32_t sender, uint32_t count, const struct lent *a, const struct lent *b)

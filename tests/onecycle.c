@@ -3,17 +3,17 @@
  */
 #include "gm.h"
 
-static uint8_t state[GM_STATE_BYTES], votes[GM_VOTES_BYTES], beat[GM_HEARTBEAT_BYTES], frame[GM_VOTE_FRAME_BYTES];
+static uint8_t state[GM_STATE_BYTES], votes[GM_VOTES_BYTES], beat[GM_HEARTBEAT_BYTES], frame[GM_VOTE_FRAME_BYTES], drive[GM_DRIVE_BYTES];
 
 int main(void)
 {
-    uint32_t sent, heard = GM_MISSED;
+    uint32_t sent, heard = GM_MISSED, drive_bytes;
     uint64_t heard0 = 0, arrived = 0;
     gm_begin(5, 3, 0x1F, state, sizeof state);
     gm_stop(state, sizeof state);
     gm_start(state, sizeof state);
-    gm_send_heartbeat(state, sizeof state, 0, 0, 5, GM_CHANNEL_A, beat, sizeof beat, &sent);
-    gm_receive_heartbeat(5, 1, 5, beat, sizeof beat, beat, sizeof beat, &heard);
+    gm_send_heartbeat(state, sizeof state, 0, 0, 5, GM_CHANNEL_A, drive, 0, beat, sizeof beat, &sent);
+    gm_receive_heartbeat(5, 1, 5, beat, sizeof beat, beat, sizeof beat, drive, sizeof drive, &heard, &drive_bytes);
     heard0 |= (uint64_t)heard << 1;
     gm_send_vote(state, sizeof state, heard0, 0, 5, GM_CHANNEL_A, frame, sizeof frame, &sent);
     gm_receive_vote(5, 1, 5, frame, sizeof frame, frame, sizeof frame, votes, sizeof votes, &arrived);

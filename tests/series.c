@@ -4,19 +4,16 @@
  * Usage: series FILE
  */
 #include "gm.h"
+#include "lines.h"
 
-#include <stdio.h>
-#include <stdlib.h>
-#include <string.h>
-
-enum { LINE = 4096, MOST_FIELDS = 10, MOST_NAME = 64, GUARD = 64, MOST_BLOCK = 128, MOST_VOTES = 4096, FILL = 0xA5, NO_BYTE = 0x5A5A5A5A };
+enum { MOST_NAME = 64, GUARD = 64, MOST_BLOCK = 128, MOST_VOTES = 4096, FILL = 0xA5, NO_BYTE = 0x5A5A5A5A };
 
 /* how far the series is that is being read */
 enum stage { NONE, NAMED, LENT };
 
 static enum stage stage;
 static char name[MOST_NAME] = "none";
-static unsigned long at, series, steps;
+static unsigned long steps;
 
 /* what is lent, between guard bytes, and what is to stand there after the step */
 static uint8_t block[GUARD + MOST_BLOCK + GUARD], block_due[sizeof block];
@@ -34,25 +31,6 @@ static void must(int fact, const char *what)
 
 /* ---- fields */
 
-static uint32_t decimal(const char *field)
-{
-    size_t digits = strspn(field, "0123456789");
-    unsigned long long number = strtoull(field, NULL, 10);
-    must(digits > 0 && digits < 11 && field[digits] == '\0' && number <= UINT32_MAX, "this is no decimal number");
-    return (uint32_t)number;
-}
-
-/* of the next digits of a field, two for each byte */
-static uint64_t hexadecimal(const char *digits, size_t bytes)
-{
-    static const char hex[] = "0123456789abcdef";
-    uint64_t number = 0;
-    must(strspn(digits, hex) >= 2 * bytes, "hexadecimal digits are missing");
-    for (size_t k = 0; k < 2 * bytes; k++)
-        number = number << 4 | (uint64_t)(strchr(hex, digits[k]) - hex);
-    return number;
-}
-
 static uint8_t byte(const char *field)
 {
     must(strlen(field) == 2, "this is no byte");
@@ -63,20 +41,6 @@ static uint64_t mask(const char *field)
 {
     must(strlen(field) == 2 * GM_SET_BYTES, "this is no mask");
     return hexadecimal(field, GM_SET_BYTES);
-}
-
-static void put_bytes(uint8_t *to, const char *digits, size_t bytes)
-{
-    for (size_t k = 0; k < bytes; k++)
-        to[k] = (uint8_t)hexadecimal(digits + 2 * k, 1);
-}
-
-/* how many bytes a field has, `-` being none */
-static size_t length(const char *field, size_t most)
-{
-    size_t digits = strcmp(field, "-") == 0 ? 0 : strlen(field);
-    must(digits % 2 == 0 && digits / 2 <= most, "these are no bytes, or too many");
-    return digits / 2;
 }
 
 /* ---- what is lent */
@@ -113,6 +77,7 @@ static size_t lend_votes(const char *arrived, const char *field, const char *len
 
 static void settle(uint32_t status, const char *status_due, const char *after)
 {
+    must(stage == LENT, "a step without a block");
     must(status == decimal(status_due), "another status");
     if (strcmp(after, "=") != 0) {
         must(length(after, MOST_BLOCK) == block_len, "the block after the step has another length");
@@ -133,7 +98,6 @@ static void begin_series(char **field)
     must(strlen(field[1]) < sizeof name, "the name is too long");
     strcpy(name, field[1]);
     stage = NAMED;
-    series++;
 }
 
 static void lend_block(char **field)
@@ -174,57 +138,14 @@ static void write_and_cycle(char **field)
     settle(status, field[8], field[9]);
 }
 
-static const struct {
-    const char *word;
-    unsigned fields;
-    void (*done)(char **field);
-} kinds[] = {{"series", 2, begin_series}, {"block", 2, lend_block}, {"read", 5, read_register}, {"write", 5, write_register}, {"cycle", 8, cycle},
-             {"writecycle", MOST_FIELDS, write_and_cycle}};
-enum { KINDS = sizeof kinds / sizeof *kinds, STEPS_FROM = 2 };
-
-/* a space ends a field; how many there are, the rest of a line with too many being one more */
-static unsigned split(char *line, char **field)
-{
-    unsigned count = 0;
-    for (char *next = line; next != NULL && count <= MOST_FIELDS; count++) {
-        field[count] = next;
-        next = strchr(next, ' ');
-        if (next != NULL)
-            *next++ = '\0';
-    }
-    return count;
-}
-
-static void take_line(char *line)
-{
-    char *field[MOST_FIELDS + 1];
-    size_t end = strcspn(line, "\n");
-    unsigned count, kind = 0;
-    must(line[end] == '\n', "the line is too long, or has no end");
-    line[end] = '\0';
-    if (line[0] == '#')
-        return;
-    count = split(line, field);
-    while (kind < KINDS && strcmp(field[0], kinds[kind].word) != 0)
-        kind++;
-    must(kind < KINDS && count == kinds[kind].fields, "this line is none of a series");
-    must(kind < STEPS_FROM || stage == LENT, "a step without a block");
-    kinds[kind].done(field);
-}
+static struct kind kinds[] = {{"series", 2, begin_series, 0}, {"block", 2, lend_block, 0}, {"read", 5, read_register, 0},
+                              {"write", 5, write_register, 0}, {"cycle", 8, cycle, 0},     {"writecycle", 10, write_and_cycle, 0}};
+enum { KINDS = sizeof kinds / sizeof *kinds };
 
 int main(int argc, char **argv)
 {
-    static char line[LINE];
-    FILE *file = argc == 2 ? fopen(argv[1], "r") : NULL;
-    if (file == NULL) {
-        fputs("usage: series FILE, which can be read\n", stderr);
-        return 2;
-    }
-    for (at = 1; fgets(line, sizeof line, file) != NULL; at++)
-        take_line(line);
-    must(ferror(file) == 0, "the file cannot be read further");
-    must(stage == LENT && steps > 0, "the file ends without a step");
-    fclose(file);
-    printf("tests/series: %lu series agree, %lu steps\n", series, steps);
+    read_lines(argc, argv, kinds, KINDS);
+    must(stage == LENT, "the file ends without the block of a series");
+    printf("tests/series: %lu series agree, %lu steps\n", kinds[0].lines, steps);
     return 0;
 }

@@ -13,8 +13,8 @@
 enum { STACK = 1 << 18, PAINT = 0xA5, MARGIN = 256 };
 
 static uint8_t *stack;
-static uint8_t state[GM_STATE_BYTES], joiner[GM_STATE_BYTES], votes[GM_VOTES_BYTES], beat[GM_HEARTBEAT_BYTES], frame[GM_VOTE_FRAME_BYTES];
-static uint8_t payload[GM_VOTE_BYTES];
+static uint8_t state[GM_STATE_BYTES], joiner[GM_STATE_BYTES], votes[GM_VOTES_BYTES], frame[GM_VOTE_FRAME_BYTES], payload[GM_VOTE_BYTES];
+static uint8_t beat[GM_HEARTBEAT_MOST_BYTES], drive[GM_DRIVE_BYTES], received[GM_DRIVE_BYTES];
 static uint8_t row[64 * GM_STATE_BYTES], frames[GM_FRAMES_BYTES], block[GM_REGISTERS_BYTES];
 static uint8_t *origin;
 static uint32_t numbers[4];
@@ -52,10 +52,10 @@ static void run_entry(unsigned which)
     case 1: CALL(gm_begin, 64, 4, 8, joiner, sizeof joiner); break;
     case 2: CALL(gm_stop, joiner, sizeof joiner); break;
     case 3: CALL(gm_start, joiner, sizeof joiner); break;
-    case 4: CALL(gm_write_heartbeat, 64, 3, 0, 1, 1, 5, 1, beat, sizeof beat); break;
-    case 5: CALL(gm_send_heartbeat, state, sizeof state, 1, 1, 5, 1, beat, sizeof beat, &number); break;
-    case 6: CALL(gm_read_heartbeat, 64, 3, 5, 1, beat, sizeof beat, &number); break;
-    case 7: CALL(gm_receive_heartbeat, 64, 3, 5, beat, sizeof beat, beat, sizeof beat, &number); break;
+    case 4: CALL(gm_write_heartbeat, 64, 3, 0, 1, 1, 5, 1, drive, sizeof drive, beat, sizeof beat); break;
+    case 5: CALL(gm_send_heartbeat, state, sizeof state, 1, 1, 5, 1, drive, sizeof drive, beat, sizeof beat, &number); break;
+    case 6: CALL(gm_read_heartbeat, 64, 3, 5, 1, beat, sizeof beat, received, sizeof received, &number, numbers); break;
+    case 7: CALL(gm_receive_heartbeat, 64, 3, 5, beat, sizeof beat, beat, sizeof beat, received, sizeof received, &number, numbers); break;
     case 8: CALL(gm_view, state, sizeof state, all, all, &mask); break;
     case 9: CALL(gm_write_vote, 64, 3, 0, all, all, all, 5, 1, frame, sizeof frame); break;
     case 10: CALL(gm_send_vote, state, sizeof state, all, 0, 5, 1, frame, sizeof frame, &number); break;

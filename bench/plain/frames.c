@@ -4,7 +4,13 @@
 
 #include <string.h>
 
-enum { HEADER_BYTES = 5, CHECK_BYTES = 3, HEARTBEAT_WORDS = 1, VOTE_WORDS = 14, FIRST_VOTE = 65 };
+enum { HEADER_BYTES = 5, CHECK_BYTES = 3, AROUND_BYTES = HEADER_BYTES + CHECK_BYTES, DRIVE_AT = 7, VOTE_WORDS = 14, FIRST_VOTE = 65 };
+
+/* one channel's copy of a frame */
+struct copy {
+    const uint8_t *bytes;
+    size_t len;
+};
 
 /* `bits` bits of word, highest first, into a register of `width` bits, which is kept at the top of the number: the fastest of several plain forms */
 static inline uint32_t check_bits(unsigned width, uint32_t polynomial, uint32_t r, uint32_t word, unsigned bits)
@@ -42,10 +48,10 @@ static void close_frame(uint8_t *frame, uint32_t sync, uint32_t startup, uint32_
 /* refusals 5 to 8; *h is the header's 40 bits */
 static uint32_t look(uint32_t channel, const uint8_t *frame, size_t len, uint64_t *h)
 {
-    if (len < HEADER_BYTES + CHECK_BYTES)
+    if (len < AROUND_BYTES)
         return 5;
     *h = (uint64_t)frame[0] << 32 | word_at(frame + 1);
-    if (len != HEADER_BYTES + CHECK_BYTES + 2 * (*h >> 17 & 127))
+    if (len != AROUND_BYTES + 2 * (*h >> 17 & 127))
         return 5;
     if ((*h >> 6 & 2047) != header_check((uint32_t)(*h >> 17 & 0xFFFFF)))
         return 6;
@@ -54,24 +60,22 @@ static uint32_t look(uint32_t channel, const uint8_t *frame, size_t len, uint64_
     return (*h >> 37 & 1) == 0 ? 8 : 0;
 }
 
-/* whether all of the header but sync, startup and its check is as due */
-static int due(uint64_t h, uint32_t number, uint32_t words, uint32_t cycle)
+/* whether all of the header but sync, startup, length and its check is as due */
+static int due(uint64_t h, uint32_t number, uint32_t cycle)
 {
-    return h >> 38 == 0 && (h >> 24 & 2047) == number && (h >> 17 & 127) == words && (h & 63) == cycle;
+    return h >> 38 == 0 && (h >> 24 & 2047) == number && (h & 63) == cycle;
 }
 
-static uint32_t open_heartbeat(uint32_t node, uint32_t cycle, uint32_t channel, const uint8_t *frame, size_t len, uint32_t *join)
+/* the drive bytes are then those after the payload's first word, which holds join */
+static uint32_t open_heartbeat(uint32_t node, uint32_t cycle, uint32_t channel, const uint8_t *frame, size_t len)
 {
     uint64_t h;
     uint32_t refused = look(channel, frame, len, &h);
     if (refused != 0)
         return refused;
-    if (!due(h, node + 1, HEARTBEAT_WORDS, cycle) || (h >> 35 & 3) == 1)
+    if (!due(h, node + 1, cycle) || len == AROUND_BYTES || (h >> 35 & 3) == 1)
         return 9;
-    if ((frame[HEADER_BYTES] & 127) != 0 || frame[HEADER_BYTES + 1] != 0)
-        return 10;
-    *join = frame[HEADER_BYTES] >> 7;
-    return 0;
+    return (frame[HEADER_BYTES] & 127) != 0 || frame[HEADER_BYTES + 1] != 0 ? 10 : 0;
 }
 
 int sound_vote(unsigned n, unsigned q, uint64_t set, uint64_t base, uint64_t view)
@@ -86,7 +90,7 @@ static uint32_t open_vote(uint32_t n, uint32_t node, uint32_t cycle, uint32_t ch
     uint32_t refused = look(channel, frame, len, &h);
     if (refused != 0)
         return refused;
-    if (!due(h, node + FIRST_VOTE, VOTE_WORDS, cycle) || (h >> 35 & 3) != 0)
+    if (!due(h, node + FIRST_VOTE, cycle) || len != VOTE_FRAME_BYTES || (h >> 35 & 3) != 0)
         return 9;
     return sound_vote(n, node, mask_at(frame + 9), mask_at(frame + 17), mask_at(frame + 25)) ? 0 : 10;
 }
@@ -98,18 +102,24 @@ static uint32_t refused_numbers(uint32_t n, uint32_t node, uint32_t cycle, uint3
     return node >= n || cycle > 63 || channel > 1 ? 2 : 0;
 }
 
+int right_lengths(size_t drive_len, size_t frame_len)
+{
+    return drive_len % 2 == 0 && drive_len <= DRIVE_BYTES && frame_len == HEARTBEAT_BYTES + drive_len;
+}
+
 uint32_t plain_write_heartbeat(uint32_t n, uint32_t node, uint32_t join, uint32_t sync, uint32_t startup, uint32_t cycle, uint32_t channel,
-                               uint8_t *frame, size_t frame_len)
+                               const uint8_t *drive, size_t drive_len, uint8_t *frame, size_t frame_len)
 {
     uint32_t refused = refused_numbers(n, node, cycle, channel);
     if (refused != 0)
         return refused;
     if (join > 1 || sync > 1 || startup > sync)
         return 2;
-    if (frame_len != HEARTBEAT_BYTES)
+    if (!right_lengths(drive_len, frame_len))
         return 3;
     put_number(frame + HEADER_BYTES, 2, join << 15);
-    close_frame(frame, sync, startup, node + 1, HEARTBEAT_WORDS, cycle, channel);
+    memcpy(frame + DRIVE_AT, drive, drive_len);
+    close_frame(frame, sync, startup, node + 1, 1 + (uint32_t)drive_len / 2, cycle, channel);
     return 0;
 }
 
@@ -131,10 +141,27 @@ uint32_t plain_write_vote(uint32_t n, uint32_t node, uint32_t number, uint64_t s
     return 0;
 }
 
-uint32_t plain_read_heartbeat(uint32_t n, uint32_t node, uint32_t cycle, uint32_t channel, const uint8_t *frame, size_t frame_len, uint32_t *join)
+/* of a good heartbeat; how many they are */
+static uint32_t give_drive(uint8_t *drive, const uint8_t *frame, size_t frame_len)
+{
+    memcpy(drive, frame + DRIVE_AT, frame_len - HEARTBEAT_BYTES);
+    return (uint32_t)(frame_len - HEARTBEAT_BYTES);
+}
+
+uint32_t plain_read_heartbeat(uint32_t n, uint32_t node, uint32_t cycle, uint32_t channel, const uint8_t *frame, size_t frame_len, uint8_t *drive,
+                              size_t drive_len, uint32_t *join, uint32_t *drive_bytes)
 {
     uint32_t refused = refused_numbers(n, node, cycle, channel);
-    return refused != 0 ? refused : open_heartbeat(node, cycle, channel, frame, frame_len, join);
+    if (refused != 0)
+        return refused;
+    if (drive_len != DRIVE_BYTES)
+        return 3;
+    refused = open_heartbeat(node, cycle, channel, frame, frame_len);
+    if (refused != 0)
+        return refused;
+    *join = frame[HEADER_BYTES] >> 7;
+    *drive_bytes = give_drive(drive, frame, frame_len);
+    return 0;
 }
 
 uint32_t plain_read_vote(uint32_t n, uint32_t node, uint32_t cycle, uint32_t channel, const uint8_t *frame, size_t frame_len, uint8_t *vote,
@@ -151,20 +178,29 @@ uint32_t plain_read_vote(uint32_t n, uint32_t node, uint32_t cycle, uint32_t cha
     return refused;
 }
 
-/* one good copy counts; two count if their payloads are equal */
-uint32_t plain_receive_heartbeat(uint32_t n, uint32_t node, uint32_t cycle, const uint8_t *a, size_t a_len, const uint8_t *b, size_t b_len,
-                                 uint32_t *heard)
+/* One good copy counts; two count if their payloads are equal. A copy that is not good has length 0, and so has the answer if none counts. */
+static struct copy counting(struct copy a, struct copy b)
 {
-    uint32_t refused = refused_numbers(n, node, cycle, 0), join_a = 0, join_b = 0;
-    int good_a, good_b;
+    static const struct copy none = {NULL, 0};
+    if (a.len != 0 && b.len != 0 && (a.len != b.len || memcmp(a.bytes + HEADER_BYTES, b.bytes + HEADER_BYTES, a.len - AROUND_BYTES) != 0))
+        return none;
+    return a.len != 0 ? a : b;
+}
+
+uint32_t plain_receive_heartbeat(uint32_t n, uint32_t node, uint32_t cycle, const uint8_t *a, size_t a_len, const uint8_t *b, size_t b_len,
+                                 uint8_t *drive, size_t drive_len, uint32_t *heard, uint32_t *drive_bytes)
+{
+    uint32_t refused = refused_numbers(n, node, cycle, 0);
+    struct copy on_a = {a, a_len}, on_b = {b, b_len}, counts;
     if (refused != 0)
         return refused;
-    good_a = open_heartbeat(node, cycle, 0, a, a_len, &join_a) == 0;
-    good_b = open_heartbeat(node, cycle, 1, b, b_len, &join_b) == 0;
-    if (good_a + good_b == 0 || (good_a + good_b == 2 && join_a != join_b))
-        *heard = 0;
-    else
-        *heard = 1 + (good_a ? join_a : join_b);
+    if (drive_len != DRIVE_BYTES)
+        return 3;
+    on_a.len = open_heartbeat(node, cycle, 0, a, a_len) == 0 ? a_len : 0;
+    on_b.len = open_heartbeat(node, cycle, 1, b, b_len) == 0 ? b_len : 0;
+    counts = counting(on_a, on_b);
+    *heard = counts.len == 0 ? 0 : 1 + (counts.bytes[HEADER_BYTES] >> 7);
+    *drive_bytes = counts.len == 0 ? 0 : give_drive(drive, counts.bytes, counts.len);
     return 0;
 }
 
@@ -172,17 +208,18 @@ uint32_t plain_receive_vote(uint32_t n, uint32_t node, uint32_t cycle, const uin
                             size_t votes_len, uint64_t *arrived)
 {
     uint32_t refused = refused_numbers(n, node, cycle, 0);
-    int good_a, good_b;
+    struct copy on_a = {a, a_len}, on_b = {b, b_len}, counts;
     if (refused != 0)
         return refused;
     if (votes_len != VOTES_BYTES)
         return 3;
-    good_a = open_vote(n, node, cycle, 0, a, a_len) == 0;
-    good_b = open_vote(n, node, cycle, 1, b, b_len) == 0;
+    on_a.len = open_vote(n, node, cycle, 0, a, a_len) == 0 ? a_len : 0;
+    on_b.len = open_vote(n, node, cycle, 1, b, b_len) == 0 ? b_len : 0;
+    counts = counting(on_a, on_b);
     *arrived &= ~only(node);
-    if (good_a + good_b == 0 || (good_a + good_b == 2 && memcmp(a + HEADER_BYTES, b + HEADER_BYTES, VOTE_BYTES) != 0))
+    if (counts.len == 0)
         return 0;
-    memcpy(votes + VOTE_BYTES * (size_t)node, (good_a ? a : b) + HEADER_BYTES, VOTE_BYTES);
+    memcpy(votes + VOTE_BYTES * (size_t)node, counts.bytes + HEADER_BYTES, VOTE_BYTES);
     *arrived |= only(node);
     return 0;
 }

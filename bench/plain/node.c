@@ -111,18 +111,20 @@ uint32_t plain_state(const uint8_t *state, size_t state_len, uint32_t *kind, uin
 }
 
 uint32_t plain_send_heartbeat(const uint8_t *state, size_t state_len, uint32_t sync, uint32_t startup, uint32_t cycle, uint32_t channel,
-                              uint8_t *frame, size_t frame_len, uint32_t *sent)
+                              const uint8_t *drive, size_t drive_len, uint8_t *frame, size_t frame_len, uint32_t *sent)
 {
     uint32_t refused;
     if (sync > 1 || startup > sync || cycle > 63 || channel > 1)
         return 2;
-    if (frame_len != HEARTBEAT_BYTES)
+    if (!right_lengths(drive_len, frame_len))
         return 3;
     refused = refused_state(state, state_len);
     if (refused != 0)
         return refused;
     *sent = state[0] != OUT;
-    return *sent == 0 ? 0 : plain_write_heartbeat(state[3], state[2], state[0] == JOINING, sync, startup, cycle, channel, frame, frame_len);
+    if (*sent == 0)
+        return 0;
+    return plain_write_heartbeat(state[3], state[2], state[0] == JOINING, sync, startup, cycle, channel, drive, drive_len, frame, frame_len);
 }
 
 static uint64_t view_of(const uint8_t *s, uint64_t heard0, uint64_t heard1)

@@ -149,13 +149,14 @@ static void rule_one(uint8_t *row, unsigned n, const struct faults *f)
     }
 }
 
+/* without drive bytes */
 static void send_heartbeats(struct bus *bus, uint8_t *row, unsigned n, uint32_t count)
 {
     uint32_t a, b;
     bus->sent = 0;
     for (unsigned q = 0; q < n; q++) {
-        plain_send_heartbeat(image(row, q), STATE_BYTES, 0, 0, count, 0, bus->frames[0][q], HEARTBEAT_BYTES, &a);
-        plain_send_heartbeat(image(row, q), STATE_BYTES, 0, 0, count, 1, bus->frames[1][q], HEARTBEAT_BYTES, &b);
+        plain_send_heartbeat(image(row, q), STATE_BYTES, 0, 0, count, 0, row, 0, bus->frames[0][q], HEARTBEAT_BYTES, &a);
+        plain_send_heartbeat(image(row, q), STATE_BYTES, 0, 0, count, 1, row, 0, bus->frames[1][q], HEARTBEAT_BYTES, &b);
         bus->sent |= a + b == CHANNELS ? only(q) : 0;
     }
 }
@@ -164,10 +165,11 @@ static void send_heartbeats(struct bus *bus, uint8_t *row, unsigned n, uint32_t 
 static struct heard hear(const struct bus *bus, unsigned n, uint32_t count, uint64_t reaches)
 {
     struct heard h = {0, 0};
+    uint8_t drive[DRIVE_BYTES];
     for (unsigned p = 0; p < n; p++) {
         size_t len = in(bus->sent & reaches, p) ? HEARTBEAT_BYTES : 0;
-        uint32_t heard = 0;
-        plain_receive_heartbeat(n, p, count, bus->frames[0][p], len, bus->frames[1][p], len, &heard);
+        uint32_t heard = 0, none;
+        plain_receive_heartbeat(n, p, count, bus->frames[0][p], len, bus->frames[1][p], len, drive, sizeof drive, &heard, &none);
         h.alive |= heard == 1 ? only(p) : 0;
         h.joining |= heard == 2 ? only(p) : 0;
     }

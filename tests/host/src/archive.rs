@@ -38,6 +38,8 @@ macro_rules! linked {
                 startup: u32,
                 cycle: u32,
                 channel: u32,
+                drive: *const u8,
+                drive_len: usize,
                 frame: *mut u8,
                 frame_len: usize,
             ) -> u32;
@@ -48,12 +50,37 @@ macro_rules! linked {
                 startup: u32,
                 cycle: u32,
                 channel: u32,
+                drive: *const u8,
+                drive_len: usize,
                 frame: *mut u8,
                 frame_len: usize,
                 sent: *mut u32,
             ) -> u32;
-            fn $read_heartbeat(n: u32, node: u32, cycle: u32, channel: u32, frame: *const u8, frame_len: usize, join: *mut u32) -> u32;
-            fn $receive_heartbeat(n: u32, node: u32, cycle: u32, a: *const u8, a_len: usize, b: *const u8, b_len: usize, heard: *mut u32) -> u32;
+            fn $read_heartbeat(
+                n: u32,
+                node: u32,
+                cycle: u32,
+                channel: u32,
+                frame: *const u8,
+                frame_len: usize,
+                drive: *mut u8,
+                drive_len: usize,
+                join: *mut u32,
+                drive_bytes: *mut u32,
+            ) -> u32;
+            fn $receive_heartbeat(
+                n: u32,
+                node: u32,
+                cycle: u32,
+                a: *const u8,
+                a_len: usize,
+                b: *const u8,
+                b_len: usize,
+                drive: *mut u8,
+                drive_len: usize,
+                heard: *mut u32,
+                drive_bytes: *mut u32,
+            ) -> u32;
             fn $view(state: *const u8, state_len: usize, heard0: u64, heard1: u64, view: *mut u64) -> u32;
             fn $write_vote(
                 n: u32,
@@ -139,20 +166,65 @@ macro_rules! linked {
                 unsafe { $state(state.as_ptr(), state.len(), kind, reason, node, n, number, set, base) }
             }
 
-            fn write_heartbeat(&self, n: u32, node: u32, join: u32, sync: u32, startup: u32, cycle: u32, channel: u32, frame: &mut [u8]) -> u32 {
-                unsafe { $write_heartbeat(n, node, join, sync, startup, cycle, channel, frame.as_mut_ptr(), frame.len()) }
+            fn write_heartbeat(
+                &self,
+                n: u32,
+                node: u32,
+                join: u32,
+                sync: u32,
+                startup: u32,
+                cycle: u32,
+                channel: u32,
+                drive: &[u8],
+                frame: &mut [u8],
+            ) -> u32 {
+                let (lent, len) = (frame.as_mut_ptr(), frame.len());
+                unsafe { $write_heartbeat(n, node, join, sync, startup, cycle, channel, drive.as_ptr(), drive.len(), lent, len) }
             }
 
-            fn send_heartbeat(&self, state: &[u8], sync: u32, startup: u32, cycle: u32, channel: u32, frame: &mut [u8], sent: &mut u32) -> u32 {
-                unsafe { $send_heartbeat(state.as_ptr(), state.len(), sync, startup, cycle, channel, frame.as_mut_ptr(), frame.len(), sent) }
+            fn send_heartbeat(
+                &self,
+                state: &[u8],
+                sync: u32,
+                startup: u32,
+                cycle: u32,
+                channel: u32,
+                drive: &[u8],
+                frame: &mut [u8],
+                sent: &mut u32,
+            ) -> u32 {
+                let (lent, len) = (frame.as_mut_ptr(), frame.len());
+                unsafe { $send_heartbeat(state.as_ptr(), state.len(), sync, startup, cycle, channel, drive.as_ptr(), drive.len(), lent, len, sent) }
             }
 
-            fn read_heartbeat(&self, n: u32, node: u32, cycle: u32, channel: u32, frame: &[u8], join: &mut u32) -> u32 {
-                unsafe { $read_heartbeat(n, node, cycle, channel, frame.as_ptr(), frame.len(), join) }
+            fn read_heartbeat(
+                &self,
+                n: u32,
+                node: u32,
+                cycle: u32,
+                channel: u32,
+                frame: &[u8],
+                drive: &mut [u8],
+                join: &mut u32,
+                drive_bytes: &mut u32,
+            ) -> u32 {
+                let (lent, len) = (drive.as_mut_ptr(), drive.len());
+                unsafe { $read_heartbeat(n, node, cycle, channel, frame.as_ptr(), frame.len(), lent, len, join, drive_bytes) }
             }
 
-            fn receive_heartbeat(&self, n: u32, node: u32, cycle: u32, a: &[u8], b: &[u8], heard: &mut u32) -> u32 {
-                unsafe { $receive_heartbeat(n, node, cycle, a.as_ptr(), a.len(), b.as_ptr(), b.len(), heard) }
+            fn receive_heartbeat(
+                &self,
+                n: u32,
+                node: u32,
+                cycle: u32,
+                a: &[u8],
+                b: &[u8],
+                drive: &mut [u8],
+                heard: &mut u32,
+                drive_bytes: &mut u32,
+            ) -> u32 {
+                let (lent, len) = (drive.as_mut_ptr(), drive.len());
+                unsafe { $receive_heartbeat(n, node, cycle, a.as_ptr(), a.len(), b.as_ptr(), b.len(), lent, len, heard, drive_bytes) }
             }
 
             fn view(&self, state: &[u8], heard0: u64, heard1: u64, view: &mut u64) -> u32 {

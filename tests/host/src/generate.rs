@@ -1,7 +1,7 @@
 //! Inputs that are worth comparing: presses driven through faults, votes around the quorum, frames, tables, steps on a register block, and damage to each.
 use crate::paper::checks::frame_check;
 use crate::paper::faults::{after_rule1, all_heard, all_votes, arriving, cycle, Faults};
-use crate::paper::frames::{frame, header_of, heartbeat, vote_frame, vote_payload, Header, VOTES_BYTES, VOTE_BYTES};
+use crate::paper::frames::{frame, heartbeat, parts_of, vote_frame, vote_payload, Header, VOTES_BYTES, VOTE_BYTES};
 use crate::paper::registers::{block_of, written, Flags, Machine, BLOCK_BYTES, COMMAND, ENABLES, FLAGS};
 use crate::paper::rules::{rule3, Heard, Vote};
 use crate::paper::sets::{all, has, nodes, only};
@@ -367,14 +367,14 @@ pub fn any_frame(random: &mut Random, good: &[u8], channel: u32) -> Vec<u8> {
         0..=2 => {}
         3 => {
             // another field, the checks made again
-            let (mut header, _) = header_of(&bytes);
-            let mut payload = bytes[5..bytes.len() - 3].to_vec();
+            let (mut header, payload) = parts_of(good);
+            let mut payload = payload.to_vec();
             change_field(random, &mut header, &mut payload);
             bytes = frame(&header, &payload, channel);
         }
         4 | 5 => {
-            let (mut header, _) = header_of(&bytes);
-            let mut payload = bytes[5..bytes.len() - 3].to_vec();
+            let (mut header, payload) = parts_of(good);
+            let mut payload = payload.to_vec();
             if !payload.is_empty() {
                 let at = random.below(payload.len());
                 payload[at] ^= 1 << random.below(8);
@@ -445,12 +445,51 @@ fn change_field(random: &mut Random, header: &mut Header, payload: &mut Vec<u8>)
     }
 }
 
+/// drive bytes of a heartbeat: none half of the time, else a few or any number
+pub fn drive(random: &mut Random) -> Vec<u8> {
+    let words = match random.below(8) {
+        0 => random.pick(&[1, 2, 63, 125, 126]),
+        1 => 1 + random.below(126),
+        2 | 3 => 1 + random.below(6),
+        _ => 0,
+    };
+    random.bytes(2 * words)
+}
+
 /// a heartbeat of a node on a channel
-pub fn good_heartbeat(random: &mut Random, node: usize, cycle: u32, channel: u32) -> Vec<u8> {
+pub fn good_heartbeat(random: &mut Random, node: usize, cycle: u32, channel: u32, drive: &[u8]) -> Vec<u8> {
     let sync = random.once_in(2);
     let join = random.once_in(2);
     let startup = sync && random.once_in(2);
-    heartbeat(node, join, sync, startup, cycle, channel)
+    heartbeat(node, join, sync, startup, cycle, channel, drive)
+}
+
+/// both copies of a heartbeat of a node; in one of four pairs they say different things
+pub fn two_heartbeats(random: &mut Random, node: usize, cycle: u32) -> [Vec<u8>; 2] {
+    let (join, drive) = (random.once_in(2), drive(random));
+    let mut copies = [0, 1].map(|channel| {
+        let sync = random.once_in(2);
+        heartbeat(node, join, sync, sync && random.once_in(2), cycle, channel, &drive)
+    });
+    if random.once_in(4) {
+        let channel = random.below(2);
+        copies[channel] = other_heartbeat(random, &copies[channel], channel as u32);
+    }
+    copies
+}
+
+/// a good heartbeat that differs from another one in join, in a drive byte, or in how many there are
+pub fn other_heartbeat(random: &mut Random, good: &[u8], channel: u32) -> Vec<u8> {
+    let (header, payload) = parts_of(good);
+    let (mut payload, len) = (payload.to_vec(), payload.len());
+    match random.below(4) {
+        0 => payload[0] ^= 0x80,
+        1 if len > 2 => payload[2 + random.below(len - 2)] ^= 1 << random.below(8),
+        2 if len > 2 => payload.truncate(len - 2),
+        _ if len < 254 => payload.extend([random.pick(&[0, 0x5a]); 2]),
+        _ => payload[len - 1] ^= 1,
+    }
+    frame(&Header { words: payload.len() as u32 / 2, ..header }, &payload, channel)
 }
 
 /// a vote frame of a node on a channel

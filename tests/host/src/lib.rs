@@ -32,11 +32,24 @@ pub trait NodeEnd {
         base: &mut u64,
     ) -> u32;
     #[allow(clippy::too_many_arguments)]
-    fn write_heartbeat(&self, n: u32, node: u32, join: u32, sync: u32, startup: u32, cycle: u32, channel: u32, frame: &mut [u8]) -> u32;
+    fn write_heartbeat(&self, n: u32, node: u32, join: u32, sync: u32, startup: u32, cycle: u32, channel: u32, drive: &[u8], frame: &mut [u8])
+        -> u32;
     #[allow(clippy::too_many_arguments)]
-    fn send_heartbeat(&self, state: &[u8], sync: u32, startup: u32, cycle: u32, channel: u32, frame: &mut [u8], sent: &mut u32) -> u32;
-    fn read_heartbeat(&self, n: u32, node: u32, cycle: u32, channel: u32, frame: &[u8], join: &mut u32) -> u32;
-    fn receive_heartbeat(&self, n: u32, node: u32, cycle: u32, a: &[u8], b: &[u8], heard: &mut u32) -> u32;
+    fn send_heartbeat(&self, state: &[u8], sync: u32, startup: u32, cycle: u32, channel: u32, drive: &[u8], frame: &mut [u8], sent: &mut u32) -> u32;
+    #[allow(clippy::too_many_arguments)]
+    fn read_heartbeat(
+        &self,
+        n: u32,
+        node: u32,
+        cycle: u32,
+        channel: u32,
+        frame: &[u8],
+        drive: &mut [u8],
+        join: &mut u32,
+        drive_bytes: &mut u32,
+    ) -> u32;
+    #[allow(clippy::too_many_arguments)]
+    fn receive_heartbeat(&self, n: u32, node: u32, cycle: u32, a: &[u8], b: &[u8], drive: &mut [u8], heard: &mut u32, drive_bytes: &mut u32) -> u32;
     fn view(&self, state: &[u8], heard0: u64, heard1: u64, view: &mut u64) -> u32;
     #[allow(clippy::too_many_arguments)]
     fn write_vote(&self, n: u32, node: u32, number: u32, set: u64, base: u64, view: u64, cycle: u32, channel: u32, frame: &mut [u8]) -> u32;

@@ -6,7 +6,10 @@ use host::generate::{self as make, Press, Step};
 use host::paper::checks::frame_check;
 use host::paper::entries::Paper;
 use host::paper::faults::Faults;
-use host::paper::frames::{arrived_votes, frame, header_of, heartbeat, vote_frame, HEARTBEAT_BYTES, VOTES_BYTES, VOTE_BYTES, VOTE_FRAME_BYTES};
+use host::paper::frames::{
+    arrived_votes, frame, heartbeat, heartbeat_header, parts_of, vote_frame, vote_header, vote_payload, Header, DRIVE_BYTES, HEARTBEAT_BYTES,
+    VOTES_BYTES, VOTE_BYTES, VOTE_FRAME_BYTES,
+};
 use host::paper::registers::{block_of, raised, read_block, written, Flags, Machine, BLOCK_BYTES, COMMAND, ENABLES, FLAGS, PENDING};
 use host::paper::rules::{fits, rule3, Heard, Vote};
 use host::paper::run::FRAMES_BYTES;
@@ -55,6 +58,23 @@ const FILLED_MASKS: [u64; 2] = [96, 97];
 /// for the result of a register read, no byte of it being 0
 const FILLED_VALUE: u32 = 0x9192_9394;
 
+/// for drive bytes that are read: no byte of it is 0, and none is as its neighbours are
+const FILLED: [u8; 300] = pattern();
+const FILLED_DRIVE: &[u8] = FILLED.split_at(DRIVE_BYTES).0;
+/// for the results of a heartbeat read or received
+const FILLED_READ: [u32; 2] = [0x8182_8384, 0x8586_8788];
+/// the words of heartbeats of which each byte is changed
+const WORDS: [usize; 4] = [1, 2, 64, 127];
+
+const fn pattern<const LEN: usize>() -> [u8; LEN] {
+    let (mut bytes, mut k) = ([0; LEN], 0);
+    while k < LEN {
+        bytes[k] = ((7 * k + 13) % 251 + 1) as u8;
+        k += 1;
+    }
+    bytes
+}
+
 /// a buffer to be lent, at any address, with bytes around it that nobody may write
 #[derive(Clone, PartialEq)]
 struct Lent {
@@ -87,6 +107,30 @@ struct Outcome {
     status: u32,
     results: Vec<u64>,
     buffers: Vec<Lent>,
+}
+
+/// what a heartbeat read or received left: status, join or heard and the number of drive bytes, and the lent buffer
+struct Received {
+    status: u32,
+    results: Vec<u64>,
+    drive: Vec<u8>,
+}
+
+impl Received {
+    /// this join or heard, just these drive bytes, and behind them what was there
+    fn is(&self, first: u64, drive: &[u8]) -> bool {
+        let left = [drive, &FILLED_DRIVE[drive.len()..]].concat();
+        self.status == 0 && self.results == [first, drive.len() as u64] && self.drive == left
+    }
+}
+
+/// how many drive bytes a heartbeat has, as a report tells it
+fn drive_text(number: usize) -> &'static str {
+    match number {
+        0 => "no drive bytes",
+        DRIVE_BYTES => "252 drive bytes",
+        _ => "2 to 250 drive bytes",
+    }
 }
 
 struct Compare {
@@ -145,7 +189,8 @@ impl Compare {
         (paper.status, paper.results, last)
     }
 
-    /// counts what an accepted call gave: kinds of states before and after a decision, what was heard, whether a frame was sent or a vote arrived
+    /// counts what an accepted call gave: kinds of states before and after a decision, what was heard and how many drive bytes, whether a frame was sent or a
+    /// vote arrived
     fn note(&mut self, entry: &str, before: &[u8], results: &[u64], results_before: &[u64], after: &[u8]) {
         let kind = |state: &[u8]| ["out", "joining", "member"][usize::from(state[0])];
         let text = match entry {
@@ -156,7 +201,10 @@ impl Compare {
                 ("member", _) => "member with the next G".to_string(),
                 (before, after) => format!("{before} to {after}"),
             },
-            "receive_heartbeat" => ["missed", "join 0", "join 1"][results[0] as usize].to_string(),
+            "write_heartbeat" => drive_text(after.len() - HEARTBEAT_BYTES).to_string(),
+            "read_heartbeat" => drive_text(results[1] as usize).to_string(),
+            "receive_heartbeat" if results[0] == 0 => "missed".to_string(),
+            "receive_heartbeat" => format!("join {}, {}", results[0] - 1, drive_text(results[1] as usize)),
             "state" => ["out", "joining", "member"][results[0] as usize].to_string(),
             "send_heartbeat" | "send_vote" => ["nothing sent", "sent"][results[0] as usize].to_string(),
             "receive_vote" if before != after => "arrived".to_string(),
@@ -195,42 +243,57 @@ impl Compare {
         });
     }
 
-    fn write_heartbeat(&mut self, [n, node, join, sync, startup, cycle, channel]: [u32; 7], frame: &[u8]) {
+    fn write_heartbeat(&mut self, [n, node, join, sync, startup, cycle, channel]: [u32; 7], drive: &[u8], frame: &[u8]) -> Vec<u8> {
         let numbers = [n, node, join, sync, startup, cycle, channel].map(u64::from);
-        self.both("write_heartbeat", &numbers, &[], &[frame], |by, _, b| {
-            by.write_heartbeat(n, node, join, sync, startup, cycle, channel, b[0].lend())
+        let (_, _, written) = self.both("write_heartbeat", &numbers, &[], &[drive, frame], |by, _, b| {
+            let [drive, frame] = b else { unreachable!() };
+            by.write_heartbeat(n, node, join, sync, startup, cycle, channel, drive.get(), frame.lend())
         });
+        written
     }
 
-    fn send_heartbeat(&mut self, state: &[u8], [sync, startup, cycle, channel]: [u32; 4], frame: &[u8], sent: u32) {
+    fn send_heartbeat(&mut self, state: &[u8], [sync, startup, cycle, channel]: [u32; 4], drive: &[u8], frame: &[u8], sent: u32) {
         let numbers = [sync, startup, cycle, channel].map(u64::from);
-        self.both("send_heartbeat", &numbers, &[sent.into()], &[state, frame], |by, r, b| {
-            let [state, frame] = b else { unreachable!() };
+        self.both("send_heartbeat", &numbers, &[sent.into()], &[state, drive, frame], |by, r, b| {
+            let [state, drive, frame] = b else { unreachable!() };
             let mut sent = r[0] as u32;
-            let status = by.send_heartbeat(state.get(), sync, startup, cycle, channel, frame.lend(), &mut sent);
+            let status = by.send_heartbeat(state.get(), sync, startup, cycle, channel, drive.get(), frame.lend(), &mut sent);
             r[0] = sent.into();
             status
         });
     }
 
-    fn read_heartbeat(&mut self, [n, node, cycle, channel]: [u32; 4], frame: &[u8], join: u32) {
+    fn read_heartbeat(&mut self, [n, node, cycle, channel]: [u32; 4], frame: &[u8], drive: &[u8], before: [u32; 2]) -> Received {
         let numbers = [n, node, cycle, channel].map(u64::from);
-        self.both("read_heartbeat", &numbers, &[join.into()], &[frame], |by, r, b| {
-            let mut join = r[0] as u32;
-            let status = by.read_heartbeat(n, node, cycle, channel, b[0].get(), &mut join);
-            r[0] = join.into();
+        let (status, results, drive) = self.both("read_heartbeat", &numbers, &before.map(u64::from), &[frame, drive], |by, r, b| {
+            let [frame, drive] = b else { unreachable!() };
+            let [mut join, mut drive_bytes] = before;
+            let status = by.read_heartbeat(n, node, cycle, channel, frame.get(), drive.lend(), &mut join, &mut drive_bytes);
+            r.copy_from_slice(&[join, drive_bytes].map(u64::from));
             status
         });
+        Received { status, results, drive }
     }
 
-    fn receive_heartbeat(&mut self, [n, node, cycle]: [u32; 3], a: &[u8], b: &[u8], heard: u32) {
+    fn receive_heartbeat(&mut self, [n, node, cycle]: [u32; 3], a: &[u8], b: &[u8], drive: &[u8], before: [u32; 2]) -> Received {
         let numbers = [n, node, cycle].map(u64::from);
-        self.both("receive_heartbeat", &numbers, &[heard.into()], &[a, b], |by, r, b| {
-            let mut heard = r[0] as u32;
-            let status = by.receive_heartbeat(n, node, cycle, b[0].get(), b[1].get(), &mut heard);
-            r[0] = heard.into();
+        let (status, results, drive) = self.both("receive_heartbeat", &numbers, &before.map(u64::from), &[a, b, drive], |by, r, lent| {
+            let [a, b, drive] = lent else { unreachable!() };
+            let [mut heard, mut drive_bytes] = before;
+            let status = by.receive_heartbeat(n, node, cycle, a.get(), b.get(), drive.lend(), &mut heard, &mut drive_bytes);
+            r.copy_from_slice(&[heard, drive_bytes].map(u64::from));
             status
         });
+        Received { status, results, drive }
+    }
+
+    /// the filled buffer and results are lent
+    fn read_filled(&mut self, place: [u32; 4], frame: &[u8]) -> Received {
+        self.read_heartbeat(place, frame, FILLED_DRIVE, FILLED_READ)
+    }
+
+    fn receive_filled(&mut self, sender: [u32; 3], [a, b]: [&[u8]; 2]) -> Received {
+        self.receive_heartbeat(sender, a, b, FILLED_DRIVE, FILLED_READ)
     }
 
     fn view(&mut self, state: &[u8], heard: Heard, view: u64) {
@@ -367,6 +430,19 @@ fn lent_buffer(random: &mut Random, len: usize) -> Vec<u8> {
     random.bytes(len)
 }
 
+/// drive bytes to be written, now and then odd in number or too many
+fn lent_drive(random: &mut Random) -> Vec<u8> {
+    let drive = make::drive(random);
+    match random.below(24) {
+        0 => random.bytes(drive.len() + 1),
+        1 => {
+            let len = random.pick(&[253, 254, 255, 256, 258, 508]);
+            random.bytes(len)
+        }
+        _ => drive,
+    }
+}
+
 /// masks heard, often those that a press gives
 fn heard(random: &mut Random, given: Heard) -> Heard {
     match random.below(6) {
@@ -384,26 +460,26 @@ fn counts_and_numbers(compare: &mut Compare) {
     for x in wide {
         for node in [0, 1, 4, 63, 64, x.wrapping_sub(1), x, x.wrapping_add(1)] {
             compare.begin(x, node, 1, &[7; 24]);
-            compare.write_heartbeat([x, node, 0, 0, 0, 0, 0], &[7; 10]);
+            compare.write_heartbeat([x, node, 0, 0, 0, 0, 0], &[], &[7; 10]);
             let set = if node < 64 { only(node as usize) } else { 1 };
             let vote = Vote { group: Group { number: 1, set, base: set }, view: set };
             compare.write_vote([x, node, 0, 0], &vote, &[7; 36]);
-            let beat = heartbeat(node.min(63) as usize, true, false, false, 0, 0);
+            let beat = heartbeat(node.min(63) as usize, true, false, false, 0, 0, &[]);
             let sent = vote_frame(node.min(63) as usize, &vote, 0, 0);
-            compare.read_heartbeat([x, node, 0, 0], &beat, 9);
-            compare.receive_heartbeat([x, node, 0], &beat, &[], 9);
+            compare.read_filled([x, node, 0, 0], &beat);
+            compare.receive_filled([x, node, 0], [&beat, &[]]);
             compare.read_vote([x, node, 0, 0], &sent, &[7; 28]);
             compare.receive_vote([x, node, 0], &sent, &[], &[7; VOTES_BYTES], 0);
             compare.cycle(x, &row_image(&beginning_from(5, 0x1f, 0)), &write_cycle(&Faults::none()));
         }
         let five = image(&Unit { n: 5, node: 1, state: beginning_from(5, 0x1f, 3)[1] });
         for channel in [0, 1, 2, x] {
-            compare.write_heartbeat([5, 1, 0, 0, 0, x, channel], &[7; 10]);
-            compare.send_heartbeat(&five, [0, 0, x, channel], &[7; 10], 9);
+            compare.write_heartbeat([5, 1, 0, 0, 0, x, channel], &[], &[7; 10]);
+            compare.send_heartbeat(&five, [0, 0, x, channel], &[], &[7; 10], 9);
             compare.send_vote(&five, Heard { join0: 0x1f, join1: 0 }, [x, channel], &[7; 36], 9);
-            let beat = heartbeat(1, true, false, false, x & 63, channel & 1);
-            compare.read_heartbeat([5, 1, x, channel], &beat, 9);
-            compare.receive_heartbeat([5, 1, x], &beat, &beat, 9);
+            let beat = heartbeat(1, true, false, false, x & 63, channel & 1, &[]);
+            compare.read_filled([5, 1, x, channel], &beat);
+            compare.receive_filled([5, 1, x], [&beat, &beat]);
             let vote = Vote { group: Group { number: 1, set: 0x1f, base: 0x1f }, view: 3 };
             let sent = vote_frame(1, &vote, x & 63, channel & 1);
             compare.write_vote([5, 1, x, channel], &vote, &[7; 36]);
@@ -411,9 +487,9 @@ fn counts_and_numbers(compare: &mut Compare) {
             compare.receive_vote([5, 1, x], &sent, &sent, &[7; VOTES_BYTES], u64::MAX);
         }
         for (sync, startup) in [(0, 0), (0, 1), (1, 0), (1, 1), (x, 0), (x, 1), (1, x), (x, x), (0, x)] {
-            compare.write_heartbeat([5, 1, x, sync, startup, 0, 0], &[7; 10]);
-            compare.write_heartbeat([5, 1, 1, sync, startup, 0, 1], &[7; 10]);
-            compare.send_heartbeat(&five, [sync, startup, 63, 1], &[7; 10], 9);
+            compare.write_heartbeat([5, 1, x, sync, startup, 0, 0], &[], &[7; 10]);
+            compare.write_heartbeat([5, 1, 1, sync, startup, 0, 1], &[], &[7; 10]);
+            compare.send_heartbeat(&five, [sync, startup, 63, 1], &[], &[7; 10], 9);
         }
     }
 }
@@ -425,7 +501,7 @@ fn lengths(compare: &mut Compare) {
     let vote = Vote { group: Group { number: u32::MAX, set: 0x1f, base: 0x1f }, view: 0x1f };
     (0..5).for_each(|q| make::put_vote(&mut votes, q, &vote));
     let frame = vote_frame(1, &vote, 9, 0);
-    let beat = heartbeat(1, false, true, true, 9, 0);
+    let beat = heartbeat(1, false, true, true, 9, 0, &[]);
     for len in 0..=200 {
         let mut bytes = right.to_vec();
         bytes.resize(len, 0);
@@ -436,12 +512,12 @@ fn lengths(compare: &mut Compare) {
         compare.state(&bytes, FILLED_NUMBERS, FILLED_MASKS);
         compare.view(&bytes, everyone, 7);
         compare.decide(&bytes, everyone, &votes, 0x1f);
-        compare.send_heartbeat(&bytes, [1, 1, 5, 0], &[7; 10], 9);
-        compare.send_heartbeat(&right, [1, 1, 5, 0], &filled, 9);
-        compare.send_heartbeat(&bytes, [1, 1, 5, 0], &filled, 9);
+        compare.send_heartbeat(&bytes, [1, 1, 5, 0], &[], &[7; 10], 9);
+        compare.send_heartbeat(&right, [1, 1, 5, 0], &[], &filled, 9);
+        compare.send_heartbeat(&bytes, [1, 1, 5, 0], &[], &filled, 9);
         compare.send_vote(&bytes, everyone, [5, 0], &[7; 36], 9);
         compare.send_vote(&right, everyone, [5, 0], &filled, 9);
-        compare.write_heartbeat([5, 1, 0, 1, 1, 3, 0], &filled);
+        compare.write_heartbeat([5, 1, 0, 1, 1, 3, 0], &[], &filled);
         compare.write_vote([5, 1, 9, 0], &vote, &filled);
         compare.read_vote([5, 1, 9, 0], &frame, &filled);
         let mut long = frame.clone();
@@ -451,8 +527,8 @@ fn lengths(compare: &mut Compare) {
         compare.receive_vote([5, 1, 9], &frame, &long, &votes, 0);
         let mut long = beat.clone();
         long.resize(len, 0);
-        compare.read_heartbeat([5, 1, 9, 0], &long, 7);
-        compare.receive_heartbeat([5, 1, 9], &long, &beat, 7);
+        compare.read_filled([5, 1, 9, 0], &long);
+        compare.receive_filled([5, 1, 9], [&long, &beat]);
         compare.cycle(5, &filled, &write_cycle(&Faults::none()));
         compare.run(&filled, &write_first(5, 0x1f));
         compare.run_frames(&filled, &write_first(5, 0x1f), &FILLED_FRAMES);
@@ -505,7 +581,7 @@ fn every_bit_of_an_image(compare: &mut Compare) {
                 compare.start(&changed);
                 compare.state(&changed, FILLED_NUMBERS, FILLED_MASKS);
                 compare.view(&changed, press.heard[node], 7);
-                compare.send_heartbeat(&changed, [0, 0, 1, 1], &[7; 10], 7);
+                compare.send_heartbeat(&changed, [0, 0, 1, 1], &[], &[7; 10], 7);
                 compare.send_vote(&changed, press.heard[node], [1, 1], &[7; 36], 7);
                 compare.decide(&changed, press.heard[node], &slots, mask);
             }
@@ -529,7 +605,7 @@ fn every_bit_of_a_frame(compare: &mut Compare) {
         let n = make::count(&mut compare.random);
         let (node, cycle) = (compare.random.below(n), compare.random.below(64) as u32);
         for channel in [0, 1] {
-            let beat = make::good_heartbeat(&mut compare.random, node, cycle, channel);
+            let beat = make::good_heartbeat(&mut compare.random, node, cycle, channel, &[]);
             let vote = make::good_vote(&mut compare.random, n, node, cycle, channel);
             let place = [n as u32, node as u32, cycle, channel];
             let pair = [n as u32, node as u32, cycle];
@@ -537,24 +613,227 @@ fn every_bit_of_a_frame(compare: &mut Compare) {
                 for bit in 0..8 * good.len() {
                     let mut bad = good.clone();
                     bad[bit / 8] ^= 0x80 >> (bit % 8);
-                    // as it is, with both checks made again, and with the frame check made again
-                    let (header, _) = header_of(&bad);
-                    let payload = bad[5..bad.len() - 3].to_vec();
-                    let again = frame(&header, &payload, channel);
-                    let mut framed = bad.clone();
-                    let covered = framed.len() - 3;
-                    let check = frame_check(channel, &framed[..covered]).to_be_bytes();
-                    framed[covered..].copy_from_slice(&check[1..]);
-                    for bytes in [&bad, &again, &framed] {
-                        compare.read_heartbeat(place, bytes, 9);
+                    for bytes in &checks_made_again(bad, channel) {
+                        compare.read_filled(place, bytes);
                         compare.read_vote(place, bytes, &[7; 28]);
-                        compare.receive_heartbeat(pair, bytes, &good, 9);
-                        compare.receive_heartbeat(pair, &good, bytes, 9);
+                        compare.receive_filled(pair, [bytes, &good]);
+                        compare.receive_filled(pair, [&good, bytes]);
                         compare.receive_vote(pair, bytes, &[], &[7; VOTES_BYTES], u64::MAX);
                         compare.receive_vote(pair, &[], bytes, &[7; VOTES_BYTES], 0);
                     }
                 }
             }
+        }
+    }
+}
+
+/// a changed frame as it is, with both checks made again, and with the frame check made again
+fn checks_made_again(changed: Vec<u8>, channel: u32) -> [Vec<u8>; 3] {
+    let covered = changed.len() - 3;
+    let (header, payload) = parts_of(&changed);
+    let again = frame(&header, payload, channel);
+    let check = frame_check(channel, &changed[..covered]).to_be_bytes();
+    let framed = [&changed[..covered], &check[1..]].concat();
+    [changed, again, framed]
+}
+
+// heartbeats with drive bytes: of node 1 of 5, in cycle 9
+
+const SENDER: [u32; 3] = [5, 1, 9];
+
+/// where the copy of a channel is read
+fn place(channel: usize) -> [u32; 4] {
+    let [n, node, cycle] = SENDER;
+    [n, node, cycle, channel as u32]
+}
+
+/// the copies of a heartbeat with join 1, their indicators not the same
+fn two_copies(drive: &[u8]) -> [Vec<u8>; 2] {
+    [0, 1].map(|channel| heartbeat(1, true, channel == 1, false, 9, channel, drive))
+}
+
+/// the copies, one of them in the place of what was sent
+fn with_copy<'a>(copies: &'a [Vec<u8>; 2], channel: usize, bytes: &'a [u8]) -> [&'a [u8]; 2] {
+    let mut pair = [&copies[0][..], &copies[1][..]];
+    pair[channel] = bytes;
+    pair
+}
+
+/// every number of drive bytes to be written, odd ones and some above 252 too, in frame buffers that have room for them and that have not; those written are
+/// read as they were
+fn every_number_of_drive_bytes(compare: &mut Compare) {
+    for len in (0..=260).chain([507, 508, 512, (1 << 16) + 2]) {
+        let drive = compare.random.bytes(len);
+        let right = HEARTBEAT_BYTES + len;
+        for room in [right, right - 1, right + 1, right - 2, right + 2, 0, 8, 10, len, 262] {
+            drive_bytes_written(compare, &drive, &vec![7; room]);
+        }
+        if len % 2 == 0 && len <= DRIVE_BYTES {
+            drive_bytes_back(compare, &drive);
+        }
+    }
+}
+
+/// from numbers and from states of each kind, one that is not well formed and one that is cut; and with numbers that are refused before the lengths
+fn drive_bytes_written(compare: &mut Compare, drive: &[u8], frame: &[u8]) {
+    let [member, joining, out] =
+        [beginning_from(5, 0x1f, 3)[1], State::Joining, State::Out(Reason::NoQuorum)].map(|state| image(&Unit { n: 5, node: 1, state }));
+    let mut malformed = member;
+    malformed[0] = 3;
+    for channel in [0, 1] {
+        compare.write_heartbeat([5, 1, 1, 1, 0, 9, channel], drive, frame);
+        for state in [&member[..], &joining, &out, &malformed, &member[1..]] {
+            compare.send_heartbeat(state, [1, 1, 9, channel], drive, frame, 9);
+        }
+    }
+    for numbers in
+        [[1, 1, 0, 0, 0, 9, 0], [5, 5, 0, 0, 0, 9, 0], [5, 1, 2, 0, 0, 9, 0], [5, 1, 0, 0, 1, 9, 0], [5, 1, 0, 0, 0, 64, 0], [5, 1, 0, 0, 0, 9, 2]]
+    {
+        compare.write_heartbeat(numbers, drive, frame);
+    }
+    compare.send_heartbeat(&malformed, [0, 1, 9, 0], drive, frame, 9);
+}
+
+fn drive_bytes_back(compare: &mut Compare, drive: &[u8]) {
+    for (channel, join) in [(0, 0), (0, 1), (1, 0), (1, 1)] {
+        let [n, node, cycle] = SENDER;
+        let written = compare.write_heartbeat([n, node, join, join, 0, cycle, channel], drive, &vec![7; HEARTBEAT_BYTES + drive.len()]);
+        let read = compare.read_filled(place(channel as usize), &written);
+        assert!(read.is(join.into(), drive), "{} drive bytes are not read as they were written", drive.len());
+    }
+}
+
+/// a copy cut or lengthened to every length up to 300, alone and beside the other; a buffer of another length is refused before it
+fn every_length_of_a_heartbeat(compare: &mut Compare) {
+    for (words, len) in WORDS.into_iter().flat_map(|words| (0..=300).map(move |len| (words, len))) {
+        let copies = two_copies(&compare.random.bytes(2 * words - 2));
+        let resized = copies.clone().map(|mut copy| {
+            copy.resize(len, 0);
+            copy
+        });
+        for (channel, copy) in resized.iter().enumerate() {
+            compare.read_filled(place(channel), copy);
+            compare.read_heartbeat(place(channel), copy, &FILLED_DRIVE[1..], FILLED_READ);
+            compare.receive_filled(SENDER, with_copy(&copies, channel, copy));
+        }
+        compare.receive_filled(SENDER, [&resized[0], &resized[1]]);
+    }
+}
+
+/// every length field with right checks, over a payload of its length and of others, under several first words, in a null frame, and in a vote
+fn every_length_field(compare: &mut Compare) {
+    for (words, channel) in (0..=127).flat_map(|words| [(words, 0), (words, 1)]) {
+        let header = heartbeat_header(1, false, false, words, 9);
+        let drive = compare.random.bytes(2 * words as usize);
+        for first in [[0, 0], [0x80, 0], [0x40, 0], [0x81, 0], [0, 1], [0x80, 0x80]] {
+            let mut payload = [&first[..], &drive].concat();
+            payload.truncate(2 * words as usize);
+            for header in [header, Header { null_frame: false, ..header }] {
+                let copy = frame(&header, &payload, channel as u32);
+                compare.read_filled(place(channel), &copy);
+                compare.receive_filled(SENDER, with_copy(&[Vec::new(), Vec::new()], channel, &copy));
+            }
+        }
+        for other in [0, 1, 2, 14, 127] {
+            compare.read_filled(place(channel), &frame(&header, &vec![0; 2 * other], channel as u32));
+        }
+        let mut payload = vote_payload(&Vote { group: Group { number: 1, set: 2, base: 3 }, view: 2 }).to_vec();
+        payload.resize(2 * words as usize, 0);
+        let vote = frame(&Header { words, ..vote_header(1, 9) }, &payload, channel as u32);
+        compare.read_vote(place(channel), &vote, &[7; VOTE_BYTES]);
+    }
+}
+
+/// copies that are refused, by their numbers: none, cut, either check, a null frame, of another cycle and another node, with a bit that must be 0
+fn refused_copies(random: &mut Random, good: &[u8], channel: u32) -> [(u32, Vec<u8>); 8] {
+    let (header, payload) = parts_of(good);
+    let turned = |at: usize, bit: usize| {
+        let mut bytes = good.to_vec();
+        bytes[at] ^= 1 << bit;
+        bytes
+    };
+    let other_payload = [&[payload[0] | 1 << random.below(7), 0], &payload[2..]].concat();
+    let other_node = Header { frame_number: header.frame_number + 1, ..header };
+    [
+        (5, Vec::new()),
+        (5, good[..random.below(good.len())].to_vec()),
+        (6, turned(3, random.below(8))),
+        (7, turned(5 + random.below(good.len() - 5), random.below(8))),
+        (8, frame(&Header { null_frame: false, ..header }, payload, channel)),
+        (9, frame(&Header { cycle: header.cycle ^ 1 << random.below(6), ..header }, payload, channel)),
+        (9, frame(&other_node, payload, channel)),
+        (10, frame(&header, &other_payload, channel)),
+    ]
+}
+
+/// a drive buffer of every length up to 260 for 252, for a good copy and for some that are refused, and with numbers that are refused before it
+fn every_length_of_a_drive_buffer(compare: &mut Compare) {
+    let copies = two_copies(&compare.random.bytes(6));
+    let refused = refused_copies(&mut compare.random, &copies[0], 0);
+    for buffer in (0..=260).map(|len| &FILLED[..len]) {
+        for copy in refused.iter().map(|(_, copy)| copy).chain([&copies[0]]) {
+            compare.read_heartbeat(place(0), copy, buffer, FILLED_READ);
+            compare.receive_heartbeat(SENDER, copy, &copies[1], buffer, FILLED_READ);
+            compare.receive_heartbeat(SENDER, copy, &[], buffer, FILLED_READ);
+        }
+        for [n, node, cycle] in [[1, 1, 9], [65, 1, 9], [5, 5, 9], [5, 1, 64]] {
+            compare.read_heartbeat([n, node, cycle, 0], &copies[0], buffer, FILLED_READ);
+            compare.receive_heartbeat([n, node, cycle], &copies[0], &copies[1], buffer, FILLED_READ);
+        }
+        compare.read_heartbeat(place(2), &copies[0], buffer, FILLED_READ);
+    }
+}
+
+/// each byte of one copy changed, in every single bit, in all bits and in some: read, and received beside the other
+fn every_byte_of_a_copy(compare: &mut Compare) {
+    for (words, channel) in WORDS.into_iter().flat_map(|words| [(words, 0), (words, 1)]) {
+        let copies = two_copies(&compare.random.bytes(2 * words - 2));
+        for at in 0..copies[channel].len() {
+            let any = compare.random.bits() as u8;
+            for change in [1, 2, 4, 8, 16, 32, 64, 128, 255, any | 1] {
+                changed_copy(compare, &copies, channel, at, change);
+            }
+        }
+    }
+}
+
+/// two good copies that differ in a drive byte are a missed frame; where the changed copy is refused, the other counts
+fn changed_copy(compare: &mut Compare, copies: &[Vec<u8>; 2], channel: usize, at: usize, change: u8) {
+    let mut changed = copies[channel].clone();
+    changed[at] ^= change;
+    let end = changed.len() - 3;
+    let [as_it_is, again, framed] = checks_made_again(changed, channel as u32);
+    for bytes in [&as_it_is, &again, &framed] {
+        let (read, received) = (compare.read_filled(place(channel), bytes), compare.receive_filled(SENDER, with_copy(copies, channel, bytes)));
+        // the indicators are not compared, and a check that was changed and made again is as it was
+        let same_payload = at < 5 || at >= end;
+        let due = if read.status != 0 || same_payload { received.is(2, &copies[channel][7..end]) } else { received.is(0, &[]) };
+        assert!(due, "byte {at} of a copy of {} changed by {change}", end + 3);
+    }
+}
+
+/// copies of every two lengths, the shorter being the beginning of the longer, whose rest is 0 or anything: missed but where they are the same
+fn copies_of_every_two_lengths(compare: &mut Compare) {
+    for drive in [vec![0; DRIVE_BYTES], compare.random.bytes(DRIVE_BYTES)] {
+        let copies: Vec<[Vec<u8>; 2]> = (0..=DRIVE_BYTES / 2).map(|words| two_copies(&drive[..2 * words])).collect();
+        for ((a, [on_a, _]), (b, [_, on_b])) in copies.iter().enumerate().flat_map(|a| copies.iter().enumerate().map(move |b| (a, b))) {
+            let received = compare.receive_filled(SENDER, [on_a, on_b]);
+            let due = if a == b { received.is(2, &drive[..2 * a]) } else { received.is(0, &[]) };
+            assert!(due, "copies of {a} and {b} words of drive bytes");
+        }
+    }
+}
+
+/// heartbeats of every length, one copy being good and the other refused for each reason: the good one counts, on whichever channel it came
+fn one_good_copy_of_every_length(compare: &mut Compare) {
+    for (words, channel) in (0..=DRIVE_BYTES / 2).flat_map(|words| [(words, 0), (words, 1)]) {
+        let drive = compare.random.bytes(2 * words);
+        let copies = two_copies(&drive);
+        let refused = refused_copies(&mut compare.random, &copies[channel], channel as u32);
+        for (number, copy) in &refused {
+            assert_eq!(compare.read_filled(place(channel), copy).status, *number, "a copy that is refused");
+            let received = compare.receive_filled(SENDER, with_copy(&copies, channel, copy));
+            assert!(received.is(2, &drive), "one good copy of {words} words of drive bytes");
         }
     }
 }
@@ -826,6 +1105,7 @@ fn a_node(compare: &mut Compare, press: &Press) {
         flags[1] = 1;
     }
     let junk = random.bits();
+    let halves = [junk as u32, (junk >> 32) as u32];
     match random.below(21) {
         0 => {
             let founding = if random.once_in(4) { random.mask() } else { make::founding(random, n) };
@@ -835,12 +1115,14 @@ fn a_node(compare: &mut Compare, press: &Press) {
         1 => compare.stop(&state),
         2 => compare.start(&state),
         3 => {
-            let frame = lent_buffer(random, HEARTBEAT_BYTES);
-            compare.write_heartbeat([lent_n, lent_node, flags[0], flags[1], flags[2], cycle, channel], &frame);
+            let drive = lent_drive(random);
+            let frame = lent_buffer(random, HEARTBEAT_BYTES + drive.len());
+            compare.write_heartbeat([lent_n, lent_node, flags[0], flags[1], flags[2], cycle, channel], &drive, &frame);
         }
         4 => {
-            let frame = lent_buffer(random, HEARTBEAT_BYTES);
-            compare.send_heartbeat(&state, [flags[1], flags[2], cycle, channel], &frame, junk as u32);
+            let drive = lent_drive(random);
+            let frame = lent_buffer(random, HEARTBEAT_BYTES + drive.len());
+            compare.send_heartbeat(&state, [flags[1], flags[2], cycle, channel], &drive, &frame, junk as u32);
         }
         5 => compare.view(&state, heard, junk),
         6 => {
@@ -856,9 +1138,10 @@ fn a_node(compare: &mut Compare, press: &Press) {
             compare.send_vote(&state, heard, [cycle, channel], &frame, junk as u32);
         }
         8 | 9 => {
-            let good = make::good_heartbeat(random, node, cycle & 63, channel & 1);
-            let frame = make::any_frame(random, &good, channel & 1);
-            compare.read_heartbeat([lent_n, lent_node, cycle, channel], &frame, junk as u32);
+            let drive = make::drive(random);
+            let good = make::good_heartbeat(random, node, cycle & 63, channel & 1, &drive);
+            let (frame, buffer) = (make::any_frame(random, &good, channel & 1), lent_buffer(random, DRIVE_BYTES));
+            compare.read_heartbeat([lent_n, lent_node, cycle, channel], &frame, &buffer, halves);
         }
         10 | 11 => {
             let good = make::good_vote(random, n, node, cycle & 63, channel & 1);
@@ -867,11 +1150,10 @@ fn a_node(compare: &mut Compare, press: &Press) {
             compare.read_vote([lent_n, lent_node, cycle, channel], &frame, &vote);
         }
         12 => {
-            let [a, b] = [0, 1].map(|channel| {
-                let good = make::good_heartbeat(random, node, cycle & 63, channel);
-                make::any_frame(random, &good, channel)
-            });
-            compare.receive_heartbeat([lent_n, lent_node, cycle], &a, &b, junk as u32);
+            let copies = make::two_heartbeats(random, node, cycle & 63);
+            let [a, b] = [0, 1].map(|channel| make::any_frame(random, &copies[channel], channel as u32));
+            let buffer = lent_buffer(random, DRIVE_BYTES);
+            compare.receive_heartbeat([lent_n, lent_node, cycle], &a, &b, &buffer, halves);
         }
         13 => {
             let vote = make::vote(random, n, node);
@@ -1058,6 +1340,13 @@ fn in_turn(compare: &mut Compare) {
     lengths_of_frames(compare);
     every_bit_of_an_image(compare);
     every_bit_of_a_frame(compare);
+    every_number_of_drive_bytes(compare);
+    every_length_of_a_heartbeat(compare);
+    every_length_field(compare);
+    every_length_of_a_drive_buffer(compare);
+    every_byte_of_a_copy(compare);
+    copies_of_every_two_lengths(compare);
+    one_good_copy_of_every_length(compare);
     cut_at_each_byte(compare);
     every_bit_of_a_mask(compare);
     every_count_and_entry(compare);

@@ -1,10 +1,13 @@
 //! Whole presses by the node entries of the archive, each unit for itself, over a bus that damages copies. After each cycle all units hold what gm_cycle
-//! gives for the cycle's record, and after some the frames that they wrote are those that gm_run_frames shows. A host with a mistake must be noticed.
+//! gives for the cycle's record, and after some the frames that they wrote are those that gm_run_frames shows. Of a heartbeat heard, a unit gets the drive
+//! bytes that were sent, and of one missed none. A host with a mistake must be noticed.
 //! SEED (or the first argument) chooses the presses, PRESSES their number.
 use host::archive::Archive;
 use host::generate as make;
 use host::paper::faults::Faults;
-use host::paper::frames::{frame, header_of, heartbeat, vote_frame, vote_payload, HEARTBEAT_BYTES, VOTES_BYTES, VOTE_FRAME_BYTES};
+use host::paper::frames::{
+    frame, heartbeat, parts_of, vote_frame, vote_payload, DRIVE_BYTES, HEARTBEAT_BYTES, VOTES_BYTES, VOTE_BYTES, VOTE_FRAME_BYTES,
+};
 use host::paper::rules::Heard;
 use host::paper::run::{Sent, SentFrames, FRAMES_BYTES};
 use host::paper::sets::{all, has, only, those, Set};
@@ -31,9 +34,13 @@ enum Mistake {
     CountStands,
     /// a unit that lost its memory begins as a founder
     BeginsAsFounder,
+    /// a unit has other drive bytes for channel B, and no record says it
+    OtherDriveOnB,
+    /// the bus changes a drive byte in both copies alike, and their checks fit
+    DriveChangedAlike,
 }
 
-const MISTAKES: [Mistake; 7] = [
+const MISTAKES: [Mistake; 9] = [
     Mistake::DamageOnBothChannels,
     Mistake::SenderSkipped,
     Mistake::MasksKept,
@@ -41,6 +48,8 @@ const MISTAKES: [Mistake; 7] = [
     Mistake::ChannelAOnBoth,
     Mistake::CountStands,
     Mistake::BeginsAsFounder,
+    Mistake::OtherDriveOnB,
+    Mistake::DriveChangedAlike,
 ];
 
 #[derive(Clone, Copy)]
@@ -74,6 +83,12 @@ struct Counts {
     saved: u64,
     /// copies damaged on both channels, where the record says missed or nothing was sent
     both_damaged: u64,
+    /// two good heartbeats that say different things, in the same places
+    differing: u64,
+    /// heartbeats heard that had drive bytes, how many bytes these were, and heartbeats missed by a receive call
+    driven: u64,
+    drive_bytes: u64,
+    missed: u64,
     /// receive calls left out, cycles of a unit that was switched off, units that went off as they were stopped, and units that lost their memory
     left_out: u64,
     off: u64,
@@ -92,13 +107,16 @@ struct Unit {
     heard: Heard,
     votes: Vec<u8>,
     arrived: Set,
+    /// the drive bytes of its next heartbeat
+    drive: Vec<u8>,
     /// switched off in this cycle: it makes no calls
     off: bool,
 }
 
-/// the copies of one frame that come to a unit, and whether one of them was damaged
+/// the copies of one frame that come to a unit, whether one of them is as sent, and whether just one was damaged
 struct Come {
     copies: [Vec<u8>; 2],
+    as_sent: bool,
     one_damaged: bool,
 }
 
@@ -115,6 +133,8 @@ struct Press<'a> {
     style: usize,
     /// heartbeats with sync and startup, on each channel its own: gm_run_frames has none
     indicators: bool,
+    /// heartbeats have up to so many words of drive bytes: in gm_run_frames they have none
+    drive_words: usize,
     random: Random,
     mistake: Option<Mistake>,
     counts: &'a mut Counts,
@@ -127,15 +147,14 @@ fn must(status: u32, entry: &str) {
 /// a payload that would count for something else, were the frame taken for one of `node`
 fn other_payload(random: &mut Random, n: usize, node: usize, phase: Phase, payload: &[u8]) -> Vec<u8> {
     match phase {
-        Phase::Heartbeats => vec![payload[0] ^ 0x80, 0],
+        Phase::Heartbeats => [&[payload[0] ^ 0x80], &payload[1..]].concat(),
         Phase::Votes => vote_payload(&make::vote(random, n, node)).to_vec(),
     }
 }
 
 /// the copy of a frame of `node` after its way
 fn damaged(random: &mut Random, n: usize, node: usize, phase: Phase, copy: &[u8], channel: u32) -> Vec<u8> {
-    let (mut header, _) = header_of(copy);
-    let payload = &copy[5..copy.len() - 3];
+    let (mut header, payload) = parts_of(copy);
     match random.pick(&DAMAGES) {
         Damage::Lost => Vec::new(),
         Damage::Cut => copy[..1 + random.below(copy.len() - 1)].to_vec(),
@@ -160,15 +179,31 @@ fn damaged(random: &mut Random, n: usize, node: usize, phase: Phase, copy: &[u8]
     }
 }
 
+/// other drive bytes than these
+fn other_drive(drive: &[u8]) -> Vec<u8> {
+    match drive {
+        [] => vec![0; 2],
+        [before @ .., last] => [before, &[last ^ 1]].concat(),
+    }
+}
+
+/// a copy with another drive byte, if it has one
+fn with_other_drive(copy: &[u8], channel: u32) -> Vec<u8> {
+    match parts_of(copy) {
+        (_, [_, _]) => copy.to_vec(),
+        (header, payload) => frame(&header, &other_drive(payload), channel),
+    }
+}
+
 /// the frame that a unit writes for a channel, and whether it sends it
-fn write(unit: &Unit, phase: Phase, count: u32, channel: u32, [sync, startup]: [u32; 2]) -> (u32, Vec<u8>) {
+fn write(unit: &Unit, phase: Phase, count: u32, channel: u32, [sync, startup]: [u32; 2], drive: &[u8]) -> (u32, Vec<u8>) {
     let (mut sent, heard) = (9, unit.heard);
     let mut frame = match phase {
-        Phase::Heartbeats => vec![0xa5; HEARTBEAT_BYTES],
+        Phase::Heartbeats => vec![0xa5; HEARTBEAT_BYTES + drive.len()],
         Phase::Votes => vec![0xa5; VOTE_FRAME_BYTES],
     };
     match phase {
-        Phase::Heartbeats => must(Archive.send_heartbeat(&unit.state, sync, startup, count, channel, &mut frame, &mut sent), "send_heartbeat"),
+        Phase::Heartbeats => must(Archive.send_heartbeat(&unit.state, sync, startup, count, channel, drive, &mut frame, &mut sent), "send_heartbeat"),
         Phase::Votes => must(Archive.send_vote(&unit.state, heard.join0, heard.join1, count, channel, &mut frame, &mut sent), "send_vote"),
     }
     (sent, frame)
@@ -180,15 +215,29 @@ impl Press<'_> {
         let n = make::count(&mut random);
         let founding = make::founding(&mut random, n);
         let (damage_rate, style, indicators) = (random.pick(&[2, 4, 10, 100]), random.below(3), random.once_in(4));
+        let drive_words = random.pick(&[0, 0, 1, 4, 12, 126]);
         let begun = |node: usize| {
             let mut state = vec![0; IMAGE_BYTES];
             must(Archive.begin(n as u32, node as u32, founding, &mut state), "begin");
-            Unit { state, heard: Heard::default(), votes: vec![0; VOTES_BYTES], arrived: 0, off: false }
+            Unit { state, heard: Heard::default(), votes: vec![0; VOTES_BYTES], arrived: 0, drive: Vec::new(), off: false }
         };
         let units: Vec<Unit> = (0..n).map(begun).collect();
         let row = units.iter().flat_map(|unit| unit.state.clone()).collect();
         counts.presses += 1;
-        Press { n, units, row, table: write_first(n as u8, founding), cycles: 0, damage_rate, style, indicators, random, mistake, counts }
+        Press {
+            n,
+            units,
+            row,
+            table: write_first(n as u8, founding),
+            cycles: 0,
+            damage_rate,
+            style,
+            indicators,
+            drive_words,
+            random,
+            mistake,
+            counts,
+        }
     }
 
     fn mistaken(&self, mistake: Mistake) -> bool {
@@ -219,7 +268,8 @@ impl Press<'_> {
         [sync, sync & (self.cycles as u32 >> 1)]
     }
 
-    /// the masks are cleared, the vote buffer holds anything; then rule 1. A unit that is out then, and is not started, may be off: it makes no further call
+    /// the masks are cleared, the vote buffer holds anything, the drive has new bytes; then rule 1. A unit that is out then, and is not started, may be off:
+    /// it makes no further call
     fn begin_cycle(&mut self, q: usize, faults: &Faults) {
         let (stop, start) = (has(faults.stop, q), has(faults.start, q));
         let kept = self.mistaken(Mistake::MasksKept);
@@ -230,6 +280,8 @@ impl Press<'_> {
         if self.random.once_in(2) {
             unit.votes = self.random.bytes(VOTES_BYTES);
         }
+        let words = self.random.below(self.drive_words + 1);
+        unit.drive = self.random.bytes(2 * words);
         if stop && self.random.once_in(3) {
             self.forget(q);
         } else if stop {
@@ -265,39 +317,61 @@ impl Press<'_> {
             return None;
         }
         let b = if self.mistaken(Mistake::ChannelAOnBoth) { 0 } else { 1 };
-        let [(on_a, a), (on_b, b)] = [0, b].map(|channel| write(unit, phase, self.count(), channel, self.indicators(q, channel)));
+        let drive_b = if self.mistaken(Mistake::OtherDriveOnB) { other_drive(&unit.drive) } else { unit.drive.clone() };
+        let [(on_a, a), (on_b, b)] =
+            [(0, &unit.drive), (b, &drive_b)].map(|(channel, drive)| write(unit, phase, self.count(), channel, self.indicators(q, channel), drive));
         assert_eq!(on_a, on_b, "a unit sends on both channels or on none");
         (on_a == 1).then_some([a, b])
     }
 
+    /// the status of reading a copy of a frame of p
+    fn read(&self, phase: Phase, p: usize, copy: &[u8], channel: usize) -> u32 {
+        let (n, node, count, channel) = (self.n as u32, p as u32, self.count(), channel as u32);
+        match phase {
+            Phase::Heartbeats => Archive.read_heartbeat(n, node, count, channel, copy, &mut [0; DRIVE_BYTES], &mut 0, &mut 0),
+            Phase::Votes => Archive.read_vote(n, node, count, channel, copy, &mut [0; VOTE_BYTES]),
+        }
+    }
+
     /// a copy that is damaged; reading must refuse it, else it would be no damage
     fn damage(&mut self, phase: Phase, p: usize, copy: &[u8], channel: usize) -> Vec<u8> {
-        let (n, node, count) = (self.n as u32, p as u32, self.count());
         let bytes = damaged(&mut self.random, self.n, p, phase, copy, channel as u32);
-        let refusal = match phase {
-            Phase::Heartbeats => Archive.read_heartbeat(n, node, count, channel as u32, &bytes, &mut 0),
-            Phase::Votes => Archive.read_vote(n, node, count, channel as u32, &bytes, &mut [0; 28]),
-        };
+        let refusal = self.read(phase, p, &bytes, channel);
         assert_ne!(refusal, 0, "a damaged copy is read");
         *self.counts.refusals.entry(refusal).or_default() += 1;
         bytes
+    }
+
+    /// two heartbeats of p that say different things; reading must accept both, else the two-channel rule would not be tried
+    fn differing(&mut self, p: usize, copy: &[u8]) -> [Vec<u8>; 2] {
+        let (header, payload) = parts_of(copy);
+        let mut copies = [0, 1].map(|channel| frame(&header, payload, channel));
+        let channel = self.random.below(2);
+        copies[channel] = make::other_heartbeat(&mut self.random, &copies[channel], channel as u32);
+        let refusals = [0, 1].map(|channel| self.read(Phase::Heartbeats, p, &copies[channel], channel));
+        assert_eq!(refusals, [0, 0], "a good copy is not read");
+        self.counts.differing += 1;
+        copies
     }
 
     /// a frame that node p could send now
     fn due(&mut self, phase: Phase, p: usize) -> [Vec<u8>; 2] {
         let (count, join, vote) = (self.count(), self.random.once_in(2), make::vote(&mut self.random, self.n, p));
         [0, 1].map(|channel| match phase {
-            Phase::Heartbeats => heartbeat(p, join, false, false, count, channel),
+            Phase::Heartbeats => heartbeat(p, join, false, false, count, channel, &self.units[p].drive),
             Phase::Votes => vote_frame(p, &vote, count, channel),
         })
     }
 
-    /// what comes where the frame does not reach, or none was sent: nothing, or two damaged copies
+    /// what comes where the frame does not reach, or none was sent: nothing, two damaged copies, or two heartbeats that say different things
     fn nothing_good(&mut self, phase: Phase, p: usize, sent: &Sent) -> [Vec<u8>; 2] {
         if !self.random.once_in(4) {
             return [Vec::new(), Vec::new()];
         }
         let [a, b] = sent.clone().unwrap_or_else(|| self.due(phase, p));
+        if matches!(phase, Phase::Heartbeats) && self.random.once_in(2) {
+            return self.differing(p, &a);
+        }
         self.counts.both_damaged += 2;
         [self.damage(phase, p, &a, 0), self.damage(phase, p, &b, 1)]
     }
@@ -305,9 +379,12 @@ impl Press<'_> {
     /// the two copies of the frame of p that come to a unit: as sent where it reaches, but for damage to one of them
     fn carry(&mut self, phase: Phase, p: usize, sent: &Sent, reaches: bool) -> Come {
         let Some(sent) = sent.as_ref().filter(|_| reaches) else {
-            return Come { copies: self.nothing_good(phase, p, sent), one_damaged: false };
+            return Come { copies: self.nothing_good(phase, p, sent), as_sent: false, one_damaged: false };
         };
         let mut copies = sent.clone();
+        if self.mistaken(Mistake::DriveChangedAlike) && matches!(phase, Phase::Heartbeats) {
+            copies = [0, 1].map(|channel| with_other_drive(&sent[channel], channel as u32));
+        }
         let one_damaged = self.random.once_in(self.damage_rate);
         if one_damaged {
             let channel = self.random.below(2);
@@ -317,7 +394,7 @@ impl Press<'_> {
                 copies[1 - channel] = Vec::new();
             }
         }
-        Come { copies, one_damaged }
+        Come { copies, as_sent: true, one_damaged }
     }
 
     /// whether the receive call is left out: it may be where nothing came on either channel
@@ -328,45 +405,66 @@ impl Press<'_> {
     }
 
     /// unit q receives the frame of p; whether it got it
-    fn receive(&mut self, phase: Phase, q: usize, p: usize, [a, b]: &[Vec<u8>; 2]) -> bool {
-        let (n, node, count) = (self.n as u32, p as u32, self.count());
-        let unit = &mut self.units[q];
+    fn receive(&mut self, phase: Phase, q: usize, p: usize, copies: &[Vec<u8>; 2]) -> Result<bool, String> {
         match phase {
-            Phase::Heartbeats => {
-                let mut heard = 9;
-                must(Archive.receive_heartbeat(n, node, count, a, b, &mut heard), "receive_heartbeat");
-                unit.heard.join0 |= if heard == 1 { only(p) } else { 0 };
-                unit.heard.join1 |= if heard == 2 { only(p) } else { 0 };
-                heard != 0
-            }
+            Phase::Heartbeats => self.receive_heartbeat(q, p, copies),
             Phase::Votes => {
-                must(Archive.receive_vote(n, node, count, a, b, &mut unit.votes, &mut unit.arrived), "receive_vote");
-                has(unit.arrived, p)
+                let (n, node, count, unit) = (self.n as u32, p as u32, self.count(), &mut self.units[q]);
+                must(Archive.receive_vote(n, node, count, &copies[0], &copies[1], &mut unit.votes, &mut unit.arrived), "receive_vote");
+                Ok(has(unit.arrived, p))
             }
         }
     }
 
+    /// of a heartbeat heard come the drive bytes that p sent, and behind them stays what was there; of one missed none
+    fn receive_heartbeat(&mut self, q: usize, p: usize, [a, b]: &[Vec<u8>; 2]) -> Result<bool, String> {
+        let before = [self.random.bits() as u8; DRIVE_BYTES];
+        let (mut drive, mut heard, mut number) = (before, 9, 9);
+        must(Archive.receive_heartbeat(self.n as u32, p as u32, self.count(), a, b, &mut drive, &mut heard, &mut number), "receive_heartbeat");
+        let unit = &mut self.units[q];
+        unit.heard.join0 |= if heard == 1 { only(p) } else { 0 };
+        unit.heard.join1 |= if heard == 2 { only(p) } else { 0 };
+        let sent = if heard == 0 { &[] } else { &self.units[p].drive[..] };
+        let due = [sent, &before[sent.len()..]].concat();
+        if number as usize != sent.len() || drive[..] != due {
+            let at = drive.iter().zip(&due).position(|(held, due)| held != due);
+            let (n, cycle, len) = (self.n, self.cycles + 1, sent.len());
+            return Err(format!(
+                "N {n}, cycle {cycle}: unit {q} has {number} drive bytes of unit {p} for {len} sent, the first other byte at {at:?}"
+            ));
+        }
+        self.counts.driven += u64::from(number > 0);
+        self.counts.drive_bytes += u64::from(number);
+        self.counts.missed += u64::from(heard == 0);
+        Ok(heard != 0)
+    }
+
     /// unit q listens to all others, in any order
-    fn listen(&mut self, phase: Phase, q: usize, sent: &[Sent], faults: &Faults) {
+    fn listen(&mut self, phase: Phase, q: usize, sent: &[Sent], faults: &Faults) -> Result<(), String> {
         for p in make::shuffled(&mut self.random, self.n).into_iter().filter(|&p| p != q) {
             let reaches = match phase {
                 Phase::Heartbeats => faults.heartbeat_reaches(p, q),
                 Phase::Votes => faults.vote_reaches(p, q),
             };
             let come = self.carry(phase, p, &sent[p], reaches);
-            if !self.left_out(&come.copies) && self.receive(phase, q, p, &come.copies) {
-                self.counts.saved += u64::from(come.one_damaged);
+            if self.left_out(&come.copies) || !self.receive(phase, q, p, &come.copies)? {
+                continue;
             }
+            if !come.as_sent {
+                return Err(format!("N {}, cycle {}: unit {q} got a frame of unit {p} of which no copy counts", self.n, self.cycles + 1));
+            }
+            self.counts.saved += u64::from(come.one_damaged);
         }
+        Ok(())
     }
 
     /// all send, and then all that are switched on listen
-    fn exchange(&mut self, phase: Phase, faults: &Faults) -> Vec<Sent> {
+    fn exchange(&mut self, phase: Phase, faults: &Faults) -> Result<Vec<Sent>, String> {
         let sent: Vec<Sent> = (0..self.n).map(|q| self.send(phase, q)).collect();
         for q in (0..self.n).filter(|&q| !self.units[q].off).collect::<Vec<usize>>() {
-            self.listen(phase, q, &sent, faults);
+            self.listen(phase, q, &sent, faults)?;
         }
-        sent
+        Ok(sent)
     }
 
     fn decide(&mut self, q: usize) {
@@ -386,8 +484,8 @@ impl Press<'_> {
     fn cycle(&mut self) -> Result<SentFrames, String> {
         let faults = self.next_faults();
         (0..self.n).for_each(|q| self.begin_cycle(q, &faults));
-        let heartbeats = self.exchange(Phase::Heartbeats, &faults);
-        let votes = self.exchange(Phase::Votes, &faults);
+        let heartbeats = self.exchange(Phase::Heartbeats, &faults)?;
+        let votes = self.exchange(Phase::Votes, &faults)?;
         (0..self.n).for_each(|q| self.decide(q));
         let record = write_cycle(&faults);
         must(Archive.cycle(self.n as u32, &mut self.row, &record), "cycle");
@@ -409,7 +507,8 @@ impl Press<'_> {
         }
     }
 
-    /// gm_run_frames on the table so far gives the same row, and shows the frames that the units wrote in the last cycle; of heartbeats with indicators only the votes
+    /// gm_run_frames on the table so far gives the same row, and shows the frames that the units wrote in the last cycle; where heartbeats have indicators or
+    /// drive bytes only the votes
     fn same_frames(&mut self, written: &SentFrames) -> Result<(), String> {
         let (mut row, mut frames) = (self.random.bytes(self.row.len()), self.random.bytes(FRAMES_BYTES));
         must(Archive.run_frames(&mut row, &self.table, &mut frames), "run_frames");
@@ -418,7 +517,7 @@ impl Press<'_> {
             return Err(format!("N {}, cycle {}: gm_run_frames leaves another row", self.n, self.cycles));
         }
         let wrote = written.shown();
-        let heartbeats = if self.indicators { 128 } else { 0 };
+        let heartbeats = if self.indicators || self.drive_words > 0 { 128 } else { 0 };
         let mut slots = frames.chunks(VOTE_FRAME_BYTES).zip(wrote.chunks(VOTE_FRAME_BYTES)).enumerate().skip(heartbeats);
         match slots.find(|(_, (shown, wrote))| shown != wrote) {
             None => Ok(()),
@@ -453,13 +552,16 @@ fn presses(seed: u64, number: u64, mistake: Option<Mistake>) -> Result<Counts, S
 }
 
 fn print_counts(counts: &Counts) {
-    let Counts { presses, cycles, shown, damaged, saved, both_damaged, left_out, off, gone, forgotten, halted, entered, refusals } = counts;
+    let Counts { presses, cycles, shown, damaged, saved, both_damaged, differing, driven, drive_bytes, missed, .. } = counts;
+    let Counts { left_out, off, gone, forgotten, halted, entered, refusals, .. } = counts;
     let refusals: Vec<String> = refusals.iter().map(|(number, count)| format!("{number}: {count}")).collect();
     println!("press: {presses} presses of 2 to 64 units, {cycles} cycles: all units hold what gm_cycle gives; frames of {shown} cycles as gm_run_frames shows");
     println!(
         "press: {damaged} copies damaged on one channel, {saved} frames saved by the other; {both_damaged} copies damaged on both, where nothing comes"
     );
     println!("press: damaged copies by the number that refuses them: {}", refusals.join(", "));
+    println!("press: {driven} heartbeats heard with drive bytes, {drive_bytes} bytes, all as sent");
+    println!("press: {missed} heartbeats missed and no drive bytes given, {differing} of them with two good copies that differ");
     println!("press: {left_out} receive calls left out, {off} cycles of units switched off, {gone} that went off as they were stopped, {forgotten} that lost their memory");
     println!("press: {halted} units halted, {entered} entered a group");
 }

@@ -4,7 +4,7 @@ use host::archive::{Archive, Plain};
 use host::clock::processor_time;
 use host::paper::entries::Paper;
 use host::paper::frames::{
-    frame, heartbeat, vote_frame, vote_header, vote_payload, Header, HEARTBEAT_BYTES, VOTES_BYTES, VOTE_BYTES, VOTE_FRAME_BYTES,
+    frame, heartbeat, vote_frame, vote_header, vote_payload, Header, DRIVE_BYTES, HEARTBEAT_BYTES, VOTES_BYTES, VOTE_BYTES, VOTE_FRAME_BYTES,
 };
 use host::paper::registers::{block_of, Flags, Machine, BLOCK_BYTES, FLAGS, PENDING};
 use host::paper::rules::Vote;
@@ -25,6 +25,8 @@ const PROGRAM_SECONDS: f64 = 1.0;
 /// a turn has so many calls that it takes at least this long, in nanoseconds
 const TURN: f64 = 3e6;
 const COUNTS: [usize; 3] = [5, 16, 64];
+/// of heartbeats, without drive bytes and with them
+const WORDS: [usize; 4] = [1, 2, 16, 127];
 /// for the steps on a register block
 const ENDS: [usize; 2] = [5, 64];
 const FAULTS: [&str; 2] = ["clean", "mixed"];
@@ -60,6 +62,11 @@ fn row(name: &str, n: usize, shown: Shown, times: [f64; 3]) -> String {
     };
     let [ours, rust, c] = times;
     format!("{name:<42} {n:>3} {:>18} {:>18} {:>18} {:>8.2} {:>8.2}", cell(ours), cell(rust), cell(c), ours / rust, ours / c)
+}
+
+/// a row, and ours to another operation of ours
+fn beside(row: &str, times: [f64; 3], other: [f64; 3]) -> String {
+    format!("{row} {:>9.2}", times[0] / other[0])
 }
 
 /// all three answer as they should and leave the same bytes
@@ -127,22 +134,32 @@ fn checks() {
     call("frame check of 259 bytes (frame not due)", 64, 9, VOTE_BYTES, &|hand, left| hand.read_vote(64, 0, CYCLE, CHANNEL, &longest, left));
 }
 
-fn heartbeats() {
-    let [a, b] = [0, 1].map(|channel| heartbeat(9, false, true, false, CYCLE, channel));
-    let number = |value: u32, left: &mut [u8]| left.copy_from_slice(&value.to_ne_bytes());
-    call("write heartbeat", 64, 0, HEARTBEAT_BYTES, &|hand, left| hand.write_heartbeat(64, 9, 0, 1, 0, CYCLE, 1, left));
-    call("read heartbeat", 64, 0, 4, &|hand, left| {
-        let mut join = 2;
-        let status = hand.read_heartbeat(64, 9, CYCLE, 1, &b, &mut join);
-        number(join, left);
+/// a heartbeat of so many words written, read, and received on two channels
+fn heartbeats(words: usize) {
+    let drive: Vec<u8> = (0..2 * words - 2).map(|k| k as u8).collect();
+    let [a, b] = [0, 1].map(|channel| heartbeat(9, false, true, false, CYCLE, channel, &drive));
+    let write = |hand: &dyn NodeEnd, left: &mut [u8]| hand.write_heartbeat(64, 9, 0, 1, 0, CYCLE, 1, &drive, left);
+    let read = |hand: &dyn NodeEnd, left: &mut [u8]| {
+        let (numbers, buffer) = left.split_at_mut(8);
+        let [mut join, mut drive_bytes] = [2; 2];
+        let status = hand.read_heartbeat(64, 9, CYCLE, 1, &b, buffer, &mut join, &mut drive_bytes);
+        numbers.copy_from_slice(&(u64::from(join) << 32 | u64::from(drive_bytes)).to_be_bytes());
         status
-    });
-    call("receive heartbeat, two channels", 64, 0, 4, &|hand, left| {
-        let mut heard = 3;
-        let status = hand.receive_heartbeat(64, 9, CYCLE, &a, &b, &mut heard);
-        number(heard, left);
+    };
+    let receive = |hand: &dyn NodeEnd, left: &mut [u8]| {
+        let (numbers, buffer) = left.split_at_mut(8);
+        let [mut heard, mut drive_bytes] = [3; 2];
+        let status = hand.receive_heartbeat(64, 9, CYCLE, &a, &b, buffer, &mut heard, &mut drive_bytes);
+        numbers.copy_from_slice(&(u64::from(heard) << 32 | u64::from(drive_bytes)).to_be_bytes());
         status
-    });
+    };
+    let names = ["write heartbeat", "read heartbeat", "receive heartbeat, two channels"].map(|call| format!("{call}, words {words}"));
+    let on_drive = |name, call| Operation { name, n: 64, status: 0, len: 8 + DRIVE_BYTES, call };
+    let written = Operation { name: &names[0], n: 64, status: 0, len: b.len(), call: &write };
+    let [written, read, received] = times([&written, &on_drive(&names[1], &read), &on_drive(&names[2], &receive)]);
+    println!("{}", row(&names[0], 64, Shown::Nanoseconds, written));
+    println!("{}", row(&names[1], 64, Shown::Nanoseconds, read));
+    println!("{}", beside(&row(&names[2], 64, Shown::Nanoseconds, received), received, read));
 }
 
 fn states() {
@@ -268,7 +285,7 @@ fn register_cycles(decision: &Decision, n: usize) {
     let names = ["cycle", "write and cycle", "decide, in a block"].map(|step| format!("{step}: {}", decision.name));
     let [cycled, joint, decided] = times([&on_block(&names[0], &cycle), &on_block(&names[1], &write_cycle), &on_block(&names[2], &decide)]);
     for (name, times) in names.iter().zip([cycled, joint]) {
-        println!("{} {:>9.2}", row(name, n, Shown::Nanoseconds, times), times[0] / decided[0]);
+        println!("{}", beside(&row(name, n, Shown::Nanoseconds, times), times, decided));
     }
 }
 
@@ -288,17 +305,17 @@ impl UnitCycle {
         UnitCycle {
             n,
             state: image(&Unit { n, node: n - 1, state: State::Member(group(all(n))) }).to_vec(),
-            heartbeats: copies(&|q, channel| heartbeat(q, false, false, false, CYCLE, channel)),
+            heartbeats: copies(&|q, channel| heartbeat(q, false, false, false, CYCLE, channel, &[])),
             votes: copies(&|q, channel| vote_frame(q, &agreeing(n), CYCLE, channel)),
         }
     }
 
     /// the members heard
     fn heard(&self, hand: &dyn NodeEnd) -> Set {
-        let mut members = 0;
+        let (mut members, mut drive) = (0, [0; DRIVE_BYTES]);
         for (q, [a, b]) in self.heartbeats.iter().enumerate() {
             let mut heard = 0;
-            assert_eq!(hand.receive_heartbeat(self.n as u32, q as u32, CYCLE, a, b, &mut heard), 0);
+            assert_eq!(hand.receive_heartbeat(self.n as u32, q as u32, CYCLE, a, b, &mut drive, &mut heard, &mut 0), 0);
             members |= Set::from(heard == 1) << q;
         }
         members
@@ -321,8 +338,8 @@ impl UnitCycle {
         let mut sent = [0; 4];
         state.copy_from_slice(&self.state);
         let (a, b) = heartbeats.split_at_mut(HEARTBEAT_BYTES);
-        hand.send_heartbeat(state, 0, 0, CYCLE, 0, a, &mut sent[0]);
-        hand.send_heartbeat(state, 0, 0, CYCLE, 1, b, &mut sent[1]);
+        hand.send_heartbeat(state, 0, 0, CYCLE, 0, &[], a, &mut sent[0]);
+        hand.send_heartbeat(state, 0, 0, CYCLE, 1, &[], b, &mut sent[1]);
         let heard = self.heard(hand);
         let (a, b) = votes.split_at_mut(VOTE_FRAME_BYTES);
         hand.send_vote(state, heard, 0, CYCLE, 0, a, &mut sent[2]);
@@ -461,9 +478,9 @@ fn memory(places: &Places) {
 
 fn main() {
     let places = Places::of_arguments();
-    println!("{:<42} {:>3} {:>18} {:>18} {:>18} {:>8} {:>8} {:>9}", "operation", "N", "ours", "Rust", "C", "to Rust", "to C", "to decide");
+    println!("{:<42} {:>3} {:>18} {:>18} {:>18} {:>8} {:>8} {:>9}", "operation", "N", "ours", "Rust", "C", "to Rust", "to C", "to ours");
     checks();
-    heartbeats();
+    WORDS.into_iter().for_each(heartbeats);
     states();
     votes();
     for decision in &DECISIONS {

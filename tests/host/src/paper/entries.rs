@@ -2,8 +2,8 @@
 //! refusal returns only its number; states and buffers do not change."
 use super::faults::cycle;
 use super::frames::{
-    decide_on_slots, heartbeat, read_heartbeat, read_vote, receive_heartbeat, receive_vote, vote_frame, vote_is_sound, vote_payload, HEARTBEAT_BYTES,
-    VOTES_BYTES, VOTE_BYTES, VOTE_FRAME_BYTES,
+    decide_on_slots, heartbeat, read_heartbeat, read_vote, receive_heartbeat, receive_vote, vote_frame, vote_is_sound, vote_payload, DRIVE_BYTES,
+    HEARTBEAT_BYTES, VOTES_BYTES, VOTE_BYTES, VOTE_FRAME_BYTES,
 };
 use super::registers::{block_of, cycled, read_block, shown, written, Machine, BLOCK_BYTES};
 use super::rules::{rule1, rule2, rule3, rule4, Heard, Vote};
@@ -37,6 +37,17 @@ fn bad_place(cycle: u32, channel: u32) -> bool {
 /// 2: "to be written, join, sync or startup neither 0 nor 1, or startup without sync"
 fn bad_indicators(join: u32, sync: u32, startup: u32) -> bool {
     join > 1 || sync > 1 || startup > 1 || startup == 1 && sync == 0
+}
+
+/// 3, of request 2: "Drive bytes to be written, if odd in number or above 252"; and a frame buffer of another length than 10 bytes and theirs
+fn bad_drive(drive: &[u8], frame_len: usize) -> bool {
+    drive.len() % 2 == 1 || drive.len() > DRIVE_BYTES || frame_len != HEARTBEAT_BYTES + drive.len()
+}
+
+/// request 2: "the number of drive bytes, and these at the front of a lent buffer of 252 bytes; the rest of it .. stays as it came in"
+fn at_front(drive: &[u8], buffer: &mut [u8]) -> u32 {
+    buffer[..drive.len()].copy_from_slice(drive);
+    drive.len() as u32
 }
 
 /// a status from an answer, what is answered being stored only if nothing is refused
@@ -73,10 +84,10 @@ fn begin(n: u32, node: u32, founding: u64, len: usize) -> Answer<[u8; IMAGE_BYTE
     Ok(image(&Unit { n, node, state: beginning(n, founding)[node] }))
 }
 
-fn state_heartbeat(state: &[u8], sync: u32, startup: u32, cycle: u32, channel: u32, len: usize) -> Answer<Option<Vec<u8>>> {
-    refuse(&[(2, bad_indicators(0, sync, startup) || bad_place(cycle, channel)), (3, len != HEARTBEAT_BYTES)])?;
+fn state_heartbeat(state: &[u8], sync: u32, startup: u32, cycle: u32, channel: u32, drive: &[u8], len: usize) -> Answer<Option<Vec<u8>>> {
+    refuse(&[(2, bad_indicators(0, sync, startup) || bad_place(cycle, channel)), (3, bad_drive(drive, len))])?;
     let unit = read_image(state)?;
-    Ok(rule2(unit.state).map(|join| heartbeat(unit.node, join, sync == 1, startup == 1, cycle, channel)))
+    Ok(rule2(unit.state).map(|join| heartbeat(unit.node, join, sync == 1, startup == 1, cycle, channel, drive)))
 }
 
 fn numbers_vote(n: u32, node: u32, vote: &Vote, cycle: u32, channel: u32, len: usize) -> Answer<Vec<u8>> {
@@ -154,30 +165,52 @@ impl NodeEnd for Paper {
         })
     }
 
-    fn write_heartbeat(&self, n: u32, node: u32, join: u32, sync: u32, startup: u32, cycle: u32, channel: u32, frame: &mut [u8]) -> u32 {
+    fn write_heartbeat(
+        &self,
+        n: u32,
+        node: u32,
+        join: u32,
+        sync: u32,
+        startup: u32,
+        cycle: u32,
+        channel: u32,
+        drive: &[u8],
+        frame: &mut [u8],
+    ) -> u32 {
         let bad_number = node >= n || bad_indicators(join, sync, startup) || bad_place(cycle, channel);
-        let refusal = refuse(&[(1, bad_count(n)), (2, bad_number), (3, frame.len() != HEARTBEAT_BYTES)]);
-        status(refusal, |()| frame.copy_from_slice(&heartbeat(node as usize, join == 1, sync == 1, startup == 1, cycle, channel)))
+        let refusal = refuse(&[(1, bad_count(n)), (2, bad_number), (3, bad_drive(drive, frame.len()))]);
+        status(refusal, |()| frame.copy_from_slice(&heartbeat(node as usize, join == 1, sync == 1, startup == 1, cycle, channel, drive)))
     }
 
-    fn send_heartbeat(&self, state: &[u8], sync: u32, startup: u32, cycle: u32, channel: u32, frame: &mut [u8], sent: &mut u32) -> u32 {
-        send(state_heartbeat(state, sync, startup, cycle, channel, frame.len()), frame, sent)
+    fn send_heartbeat(&self, state: &[u8], sync: u32, startup: u32, cycle: u32, channel: u32, drive: &[u8], frame: &mut [u8], sent: &mut u32) -> u32 {
+        send(state_heartbeat(state, sync, startup, cycle, channel, drive, frame.len()), frame, sent)
     }
 
-    fn read_heartbeat(&self, n: u32, node: u32, cycle: u32, channel: u32, frame: &[u8], join: &mut u32) -> u32 {
-        let refusal = refuse(&[(1, bad_count(n)), (2, node >= n || bad_place(cycle, channel))]);
+    fn read_heartbeat(
+        &self,
+        n: u32,
+        node: u32,
+        cycle: u32,
+        channel: u32,
+        frame: &[u8],
+        drive: &mut [u8],
+        join: &mut u32,
+        drive_bytes: &mut u32,
+    ) -> u32 {
+        let refusal = refuse(&[(1, bad_count(n)), (2, node >= n || bad_place(cycle, channel)), (3, drive.len() != DRIVE_BYTES)]);
         let answer = refusal.and_then(|()| read_heartbeat(node as usize, cycle, channel, frame));
-        status(answer, |read| *join = u32::from(read))
+        status(answer, |read| {
+            *join = u32::from(read.join);
+            *drive_bytes = at_front(read.drive, drive);
+        })
     }
 
-    fn receive_heartbeat(&self, n: u32, node: u32, cycle: u32, a: &[u8], b: &[u8], heard: &mut u32) -> u32 {
-        let refusal = refuse(&[(1, bad_count(n)), (2, node >= n || bad_place(cycle, 0))]);
-        status(refusal, |()| {
-            *heard = match receive_heartbeat(node as usize, cycle, a, b) {
-                None => 0,
-                Some(false) => 1,
-                Some(true) => 2,
-            }
+    /// request 2: "or all if the frame is missed, stays as it came in"; that the number is then 0 is the reading of docs/DECISIONS.md
+    fn receive_heartbeat(&self, n: u32, node: u32, cycle: u32, a: &[u8], b: &[u8], drive: &mut [u8], heard: &mut u32, drive_bytes: &mut u32) -> u32 {
+        let refusal = refuse(&[(1, bad_count(n)), (2, node >= n || bad_place(cycle, 0)), (3, drive.len() != DRIVE_BYTES)]);
+        status(refusal, |()| match receive_heartbeat(node as usize, cycle, a, b) {
+            None => (*heard, *drive_bytes) = (0, 0),
+            Some(read) => (*heard, *drive_bytes) = (1 + u32::from(read.join), at_front(read.drive, drive)),
         })
     }
 

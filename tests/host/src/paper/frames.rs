@@ -5,7 +5,10 @@ use super::sets::{all, has, inside, number};
 use super::state::{Group, State, Unit};
 use super::Answer;
 
+/// of a heartbeat without drive bytes
 pub const HEARTBEAT_BYTES: usize = 10;
+/// request 2: "a lent buffer of 252 bytes"
+pub const DRIVE_BYTES: usize = 252;
 pub const VOTE_FRAME_BYTES: usize = 36;
 pub const VOTE_BYTES: usize = 28;
 pub const VOTES_BYTES: usize = 1792;
@@ -43,7 +46,7 @@ pub fn header_bytes(header: &Header, check: u32) -> [u8; 5] {
 }
 
 /// the header and the header check that five bytes hold
-pub fn header_of(bytes: &[u8]) -> (Header, u32) {
+fn header_of(bytes: &[u8]) -> (Header, u32) {
     let bits = number(&bytes[..5]);
     let field = |low: u32, width: u32| (bits >> low & ((1 << width) - 1)) as u32;
     let header = Header {
@@ -69,14 +72,21 @@ pub fn frame(header: &Header, payload: &[u8], channel: u32) -> Vec<u8> {
     bytes
 }
 
-/// "Heartbeat of node q: frame number q+1, one word"; "In both the reserved and preamble bits are 0 and the null frame bit is 1"
-pub fn heartbeat_header(node: usize, sync: bool, startup: bool, cycle: u32) -> Header {
-    Header { reserved: false, preamble: false, null_frame: true, sync, startup, frame_number: node as u32 + 1, words: 1, cycle }
+/// header and payload of a whole frame, its checks not looked at
+pub fn parts_of(bytes: &[u8]) -> (Header, &[u8]) {
+    (header_of(bytes).0, &bytes[5..bytes.len() - 3])
 }
 
-/// "bit 7 of the first byte is join, all else 0"
-pub fn heartbeat(node: usize, join: bool, sync: bool, startup: bool, cycle: u32, channel: u32) -> Vec<u8> {
-    frame(&heartbeat_header(node, sync, startup, cycle), &[if join { 0x80 } else { 0 }, 0], channel)
+/// "Heartbeat of node q: frame number q+1"; request 2: "A heartbeat may now have 1 to 127 words"; "In both the reserved and preamble bits are 0 and the
+/// null frame bit is 1"
+pub fn heartbeat_header(node: usize, sync: bool, startup: bool, words: u32, cycle: u32) -> Header {
+    Header { reserved: false, preamble: false, null_frame: true, sync, startup, frame_number: node as u32 + 1, words, cycle }
+}
+
+/// "bit 7 of the first byte is join, all else 0"; request 2: "the first is ours, the others belong to the drive"
+pub fn heartbeat(node: usize, join: bool, sync: bool, startup: bool, cycle: u32, channel: u32, drive: &[u8]) -> Vec<u8> {
+    let payload = [&[if join { 0x80 } else { 0 }, 0], drive].concat();
+    frame(&heartbeat_header(node, sync, startup, payload.len() as u32 / 2, cycle), &payload, channel)
 }
 
 /// "Vote: frame number q+65, 14 words ..; sync and startup 0."
@@ -135,17 +145,25 @@ fn opened(channel: u32, bytes: &[u8]) -> Answer<(Header, &[u8])> {
     Ok((header, &covered[5..]))
 }
 
-/// the join bit of a heartbeat of `node`, or 5 to 10
-pub fn read_heartbeat(node: usize, cycle: u32, channel: u32, bytes: &[u8]) -> Answer<bool> {
+/// what the payload of a heartbeat says
+#[derive(Clone, Copy, PartialEq, Eq)]
+pub struct Heartbeat<'a> {
+    pub join: bool,
+    pub drive: &'a [u8],
+}
+
+/// the heartbeat of `node`, or 5 to 10
+pub fn read_heartbeat(node: usize, cycle: u32, channel: u32, bytes: &[u8]) -> Answer<Heartbeat<'_>> {
     let (header, payload) = opened(channel, bytes)?;
-    // 9: "another frame number, cycle count, payload length, indicator or reserved bit than due"; "sync and startup free, but startup only with sync"
-    if header != heartbeat_header(node, header.sync, header.sync && header.startup, cycle) {
+    // 9: "another frame number, cycle count, payload length, indicator or reserved bit than due"; "sync and startup free, but startup only with sync";
+    // request 2: "Of a heartbeat's lengths refusal 9 now covers only 0"
+    if header != heartbeat_header(node, header.sync, header.sync && header.startup, header.words.max(1), cycle) {
         return Err(9);
     }
-    // 10: "heartbeat bits that must be 0"
+    // 10: "heartbeat bits that must be 0"; request 2: "10 looks at the first word alone"
     match payload {
-        [0x80, 0] => Ok(true),
-        [0, 0] => Ok(false),
+        [0x80, 0, drive @ ..] => Ok(Heartbeat { join: true, drive }),
+        [0, 0, drive @ ..] => Ok(Heartbeat { join: false, drive }),
         _ => Err(10),
     }
 }
@@ -164,7 +182,8 @@ pub fn read_vote(n: usize, node: usize, cycle: u32, channel: u32, bytes: &[u8]) 
     }
 }
 
-/// "A unit reads both channels. One good copy counts; two good copies count if their payloads are equal, else the frame is missed."
+/// "A unit reads both channels. One good copy counts; two good copies count if their payloads are equal, else the frame is missed."; request 2: "Two good
+/// copies with different drive data are still a missed frame."
 fn of_two<T: PartialEq>(a: Answer<T>, b: Answer<T>) -> Option<T> {
     match (a, b) {
         (Ok(a), Ok(b)) if a == b => Some(a),
@@ -175,7 +194,7 @@ fn of_two<T: PartialEq>(a: Answer<T>, b: Answer<T>) -> Option<T> {
     }
 }
 
-pub fn receive_heartbeat(node: usize, cycle: u32, a: &[u8], b: &[u8]) -> Option<bool> {
+pub fn receive_heartbeat<'a>(node: usize, cycle: u32, a: &'a [u8], b: &'a [u8]) -> Option<Heartbeat<'a>> {
     of_two(read_heartbeat(node, cycle, 0, a), read_heartbeat(node, cycle, 1, b))
 }
 

@@ -57,10 +57,10 @@ pub fn run_frames(n: usize, founding: Set, cycles: &[Faults]) -> (Vec<State>, Op
 fn frames_cycle(row: &[State], faults: &Faults, cycle_number: usize) -> (Vec<State>, SentFrames) {
     let n = row.len();
     let row = after_rule1(row, faults);
-    // "Cycle n of a run has cycle count n - 1 modulo 64, and its heartbeats have sync and startup 0."
+    // "Cycle n of a run has cycle count n - 1 modulo 64, and its heartbeats have sync and startup 0."; request 2: "A run's heartbeats keep one word."
     let count = ((cycle_number - 1) % 64) as u32;
     let heartbeats: Vec<Sent> =
-        (0..n).map(|q| rule2(row[q]).map(|join| [0, 1].map(|channel| heartbeat(q, join, false, false, count, channel)))).collect();
+        (0..n).map(|q| rule2(row[q]).map(|join| [0, 1].map(|channel| heartbeat(q, join, false, false, count, channel, &[])))).collect();
     let heard: Vec<Heard> = (0..n).map(|to| hear(&heartbeats, faults, to, count)).collect();
     let votes: Vec<Sent> =
         (0..n).map(|q| rule4(n, q, row[q], heard[q], None).map(|vote| [0, 1].map(|channel| vote_frame(q, &vote, count, channel)))).collect();
@@ -83,7 +83,7 @@ fn hear(heartbeats: &[Sent], faults: &Faults, to: usize, count: u32) -> Heard {
     let mut heard = Heard::default();
     for (from, frames) in heartbeats.iter().enumerate() {
         let [a, b] = copies(frames, faults.heartbeat_reaches(from, to));
-        match receive_heartbeat(from, count, a, b) {
+        match receive_heartbeat(from, count, a, b).map(|heartbeat| heartbeat.join) {
             Some(false) => heard.join0 |= only(from),
             Some(true) => heard.join1 |= only(from),
             None => {}
