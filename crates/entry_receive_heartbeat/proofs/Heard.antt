@@ -12,8 +12,10 @@ use Rattle.frames.specs.declared.Fault.the-variants.{Length, HeaderCheck, Frame
 use Rattle.frames.specs.declared.HeartbeatRead.{HeartbeatRead}
 use Rattle.frames.specs.declared.HeartbeatRead.the-variants.{Alive, Join, Refused}
 use Rattle.frames.specs.declared.HeartbeatCounted.{HeartbeatCounted}
-use Rattle.frames.specs.Read.{faultCode, driveOf, readHeartbeat, isGood, receiveHeartbeat, driveHeard}
-use Rattle.frames.proofs.TwoChannels.{good-length}
+use Rattle.frames.specs.declared.Copy.{Copy}
+use Rattle.frames.specs.declared.Copy.the-variants.{OnA, OnB}
+use Rattle.frames.specs.Read.{faultCode, driveOf, readHeartbeat, isGood, receiveHeartbeat, driveCounted}
+use Rattle.frames.proofs.TwoChannels.{good-length, a-counts, b-counts, drive-of-copy}
 use Rattle.refusal.proofs.Laws.{none, unless-done, unless-refused}
 use Rattle.entry_lent.specs.Refusals.{wrongCount, wrongNode, wrongCycle, wrongChannel, wrongLength}
 use Rattle.entry_receive_heartbeat.specs.Hearing.{readStatus, heartbeatRefusal, joinOf, readHeartbeatStatus, readHeartbeatJoin, readHeartbeatNumber, readHeartbeatDrive}
@@ -102,6 +104,9 @@ module _ (n q cycle : ℕ) (a b d : List ℕ) (heard number : ℕ) where
       × ((left ≡ receiveHeartbeatDrive n q cycle a b d)
       × ((code ≡ receiveHeartbeatHeard n q cycle a b d heard) × (bytes ≡ receiveHeartbeatNumber n q cycle a b d number)))
 
+  copy-is : (r : HeartbeatCounted) → r ≡ receiveHeartbeat q cycle a b → (copy : Copy) → r .copy ≡ copy → receiveHeartbeat q cycle a b .copy ≡ copy
+  copy-is r g copy k = ap (λ (x : HeartbeatCounted). x .copy) (sym g) ∙ k
+
   pub receive-refused : (k : ℕ) → k ≡ readStatus n q cycle 0 d → (k ≡ 0 → ⊥) → Receives k d heard number
   unfolding receiveHeartbeatHeard receiveHeartbeatDrive receiveHeartbeatNumber
   receive-refused k e h =
@@ -109,11 +114,19 @@ module _ (n q cycle : ℕ) (a b d : List ℕ) (heard number : ℕ) where
       let never : receiveHeartbeatStatus n q cycle d ≡ 0 → ⊥ = λ z. h (r ∙ z) in
       (r, (sym (unless-refused _ _ d never), (sym (unless-refused _ _ heard never), sym (unless-refused _ _ number never))))
 
-  pub receive-copies : (r : HeartbeatCounted) (drive : List ℕ) (left : List ℕ) (code bytes : ℕ) → readStatus n q cycle 0 d ≡ 0 → r ≡ receiveHeartbeat q cycle a b
-      → code ≡ heardCode (r .heard) → driveHeard q cycle a b ≡ drive → left ≡ atFront drive d → bytes ≡ length drive → Receives 0 left code bytes
+  -- what the copying of the drive bytes of the copy that counts requires
+  pub room-of-a : (r : HeartbeatCounted) → readStatus n q cycle 0 d ≡ 0 → r ≡ receiveHeartbeat q cycle a b → r .copy ≡ OnA → (10 ≤ length a) × ((length a ≤ 262) × (length d ≡ 252))
+  room-of-a r e g k = let l = a-counts q cycle a b (copy-is r g OnA k) in (l .0, (l .1, read-bounds n q cycle 0 d e .1))
+
+  pub room-of-b : (r : HeartbeatCounted) → readStatus n q cycle 0 d ≡ 0 → r ≡ receiveHeartbeat q cycle a b → r .copy ≡ OnB → (10 ≤ length b) × ((length b ≤ 262) × (length d ≡ 252))
+  room-of-b r e g k = let l = b-counts q cycle a b (copy-is r g OnB k) in (l .0, (l .1, read-bounds n q cycle 0 d e .1))
+
+  pub receive-copies : (r : HeartbeatCounted) (copy : Copy) (left : List ℕ) (code bytes : ℕ) → readStatus n q cycle 0 d ≡ 0 → r ≡ receiveHeartbeat q cycle a b
+      → code ≡ heardCode (r .heard) → r .copy ≡ copy → left ≡ atFront (driveCounted copy a b) d → bytes ≡ length (driveCounted copy a b) → Receives 0 left code bytes
   unfolding receiveHeartbeatHeard receiveHeartbeatDrive receiveHeartbeatNumber
-  receive-copies r drive left code bytes e g c h el eb =
-      let z = sym (receive-status n q cycle d) ∙ e in (
+  receive-copies r copy left code bytes e g c k el eb =
+      let z = sym (receive-status n q cycle d) ∙ e in
+      let h = drive-of-copy q cycle a b copy (copy-is r g copy k) in (
         sym z,
         (
           el ∙ ap (λ (x : List ℕ). atFront x d) (sym h) ∙ sym (unless-done _ _ d z),

@@ -3,10 +3,9 @@ ghost use mathlib.Core.Path.{_≡_};
 ghost use Prim.Native.Nat.{_+_, _≤_, _<_};
 ghost use lib.ListN.{length};
 ghost use Rattle.parts.specs.Parts.{atFront};
-ghost use Rattle.parts.specs.Compared.{sameBytes};
 ghost use Rattle.rules.specs.OneCycle.{sameVote};
 ghost use Rattle.frames.specs.Written.{formedVote};
-ghost use Rattle.frames.specs.Read.{faultCode, payloadOf, driveOf, readHeartbeat, isGood, countedOn, receiveHeartbeat, voteContent, readVote, receiveVote};
+ghost use Rattle.frames.specs.Read.{faultCode, driveOf, readHeartbeat, isGood, countedOn, samePayload, receiveHeartbeat, voteContent, readVote, receiveVote};
 ghost use Rattle.frames.specs.Looked.{heartbeatOf};
 use frames::Copy;
 use frames::Fault;
@@ -148,7 +147,7 @@ fn counted_on(copy: Copy, r: HeartbeatRead) -> HeartbeatCounted
 fn same_payload(a: &[u8], b: &[u8]) -> bool
     requires { ⌜ 8 ≤ length (now a) ⌝ }
     requires { ⌜ 8 ≤ length (now b) ⌝ }
-    ensures { λ r. ⌜ r ≡ sameBytes (payloadOf (now (a .entry))) (payloadOf (now (b .entry))) ⌝ }
+    ensures { λ r. ⌜ r ≡ samePayload (now (a .entry)) (now (b .entry)) ⌝ }
 {
     let end = a.len() - 3;
     let other = b.len() - 3;

@@ -7,7 +7,6 @@ use Prim.Native.Nat.{ℕ, _+_, _*_, _%_, _^_, _≤_, _<_}
 use native.Mathlib.Omega.{arith}
 use lib.Dec.{eqb, lit<}
 use lib.ListN.{length, getD, drop}
-use Rattle.parts.specs.Compared.{sameBytes}
 use Rattle.parts.proofs.Compared.{equal-same, same-equal}
 use Rattle.frames.specs.declared.Fault.{Fault}
 use Rattle.frames.specs.declared.HeartbeatRead.{HeartbeatRead}
@@ -18,7 +17,7 @@ use Rattle.frames.specs.declared.Copy.{Copy}
 use Rattle.frames.specs.declared.Copy.the-variants.{Neither, OnA, OnB}
 use Rattle.frames.specs.declared.HeartbeatCounted.{HeartbeatCounted}
 use Rattle.frames.specs.Written.{heartbeatFrame, wrongDrive}
-use Rattle.frames.specs.Read.{heartbeatWords, heartbeatIndicators, faultOf, payloadOf, driveOf, heartbeatUnless, readHeartbeat, isGood, countedOn, countedOf, receiveHeartbeat, driveCounted, driveHeard}
+use Rattle.frames.specs.Read.{heartbeatWords, heartbeatIndicators, faultOf, payloadOf, driveOf, heartbeatUnless, readHeartbeat, isGood, countedOn, countedOf, samePayload, receiveHeartbeat, driveCounted, driveHeard}
 use Rattle.frames.specs.Looked.{heartbeatOf}
 use Rattle.frames.proofs.Faults.{heartbeat-length}
 use Rattle.frames.proofs.Payloads.{byte, heartbeat-payload, heartbeat-drive}
@@ -80,7 +79,7 @@ module _ (q cycle : ℕ) (a b : List ℕ) where
   y = readHeartbeat q cycle 1 b
 
   abbrev equal : Bool
-  equal = sameBytes (payloadOf a) (payloadOf b)
+  equal = samePayload a b
 
   -- what was heard, and the drive bytes with it
   abbrev pub Gives : HeartbeatCounted → List ℕ → Type 0
@@ -99,18 +98,20 @@ module _ (q cycle : ℕ) (a b : List ℕ) where
   pub only-b-good : isGood x ≡ false → isGood y ≡ true → Gives (countedOn OnB y) (driveOf b)
   only-b-good gx gy = gives (countedOn OnB y) OnB (counted-b x y equal gx) (counted-copy OnB y gy)
 
-  pub equal-copies : isGood x ≡ true → isGood y ≡ true → payloadOf a ≡ payloadOf b → Gives (countedOn OnA x) (driveOf a)
-  equal-copies gx gy e =
-      gives (countedOn OnA x) OnA
-      (counted-both x y equal gx gy ∙ ap (λ (z : Bool). cond z (countedOn OnA x) missed) (equal-same (payloadOf a) (payloadOf b) e))
-      (counted-copy OnA x gx)
-
   pub other-copies : isGood x ≡ true → isGood y ≡ true → (payloadOf a ≡ payloadOf b → ⊥) → Gives missed []
+  unfolding samePayload
   other-copies gx gy o = gives missed Neither (counted-both x y equal gx gy ∙ go equal refl) refl
     where
       go : (z : Bool) → equal ≡ z → cond z (countedOn OnA x) missed ≡ missed
       go true e = absurd (o (same-equal (payloadOf a) (payloadOf b) e))
       go false e = refl
+
+  pub equal-copies : isGood x ≡ true → isGood y ≡ true → payloadOf a ≡ payloadOf b → Gives (countedOn OnA x) (driveOf a)
+  unfolding samePayload
+  equal-copies gx gy e =
+      gives (countedOn OnA x) OnA
+      (counted-both x y equal gx gy ∙ ap (λ (z : Bool). cond z (countedOn OnA x) missed) (equal-same (payloadOf a) (payloadOf b) e))
+      (counted-copy OnA x gx)
 
 -- a good copy: how long it is, and what is read in it, by its payload alone
 module _ (q cycle channel : ℕ) (s : List ℕ) (good : isGood (readHeartbeat q cycle channel s) ≡ true) where
@@ -172,6 +173,7 @@ drive-by s t e = ap (drop 2) e
 -- what two channels give depends on which copies are good and on their payloads alone
 pub channels-agree : (q cycle : ℕ) (a b c d : List ℕ) → Alike q cycle 0 a c → Alike q cycle 1 b d
     → (receiveHeartbeat q cycle a b ≡ receiveHeartbeat q cycle c d) × (driveHeard q cycle a b ≡ driveHeard q cycle c d)
+unfolding samePayload
 channels-agree q cycle a b c d on-a on-b = go (isGood (x q cycle a b)) (isGood (y q cycle a b)) refl refl
   where
     with : {l m : HeartbeatCounted} {s t : List ℕ} → Gives q cycle a b l s → Gives q cycle c d m t → l ≡ m → s ≡ t

@@ -22,6 +22,7 @@
 --     isGood: whether a copy was read and not refused
 --     countedOn: what a copy gives that is the only one, or equal to the other
 --     countedOf: what two copies give, by what was read in each and whether their payloads are equal
+--     samePayload: whether two copies have equal payloads
 --     receiveHeartbeat, receiveVote: what two copies give
 --     driveCounted: the drive bytes of the copy that counts
 --     driveHeard: those of two copies
@@ -193,9 +194,12 @@ abbrev pub countedOf : HeartbeatRead → HeartbeatRead → Bool → HeartbeatCou
 countedOf a b equal =
     cond (isGood a) (cond (isGood b && not equal) (record { heard = beats.Missed; copy = Neither }) (countedOn OnA a)) (countedOn OnB b)
 
+unfoldable pub samePayload : List ℕ → List ℕ → Bool
+samePayload a b = sameBytes (payloadOf a) (payloadOf b)
+
 -- what comes of the copies a on channel A and b on channel B of a heartbeat of node q
 unfoldable pub receiveHeartbeat : ℕ → ℕ → List ℕ → List ℕ → HeartbeatCounted
-receiveHeartbeat q cycle a b = countedOf (readHeartbeat q cycle 0 a) (readHeartbeat q cycle 1 b) (sameBytes (payloadOf a) (payloadOf b))
+receiveHeartbeat q cycle a b = countedOf (readHeartbeat q cycle 0 a) (readHeartbeat q cycle 1 b) (samePayload a b)
 
 -- the drive bytes with it, none where it is missed
 abbrev pub driveCounted : Copy → List ℕ → List ℕ → List ℕ

@@ -11,11 +11,12 @@ slice-aggregate-write-heartbeat c = search needs
 slice-aggregate-write-heartbeat-2 : tie.Need-slice-aggregate-write-heartbeat-2
 slice-aggregate-write-heartbeat-2 c = search needs
 
-write-heartbeat-requires : tie.Need-write-heartbeat-requires
-write-heartbeat-requires c κs = (omega arith, (omega arith, (omega arith, (omega arith, (omega arith, (none-wrong, refl))))))
-
+-- above what the call asks: a heartbeat of other drive bytes is wrong here too
 returns : tie.Need-returns
 returns c = search needs
+
+write-heartbeat-requires : tie.Need-write-heartbeat-requires
+write-heartbeat-requires c κs = (omega arith, (omega arith, (omega arith, (omega arith, (omega arith, (none-wrong, refl))))))
 
 pub run-heartbeat-spec : {M : Type 1} → statement M
 run-heartbeat-spec =

@@ -1,6 +1,5 @@
 use mathlib.Core.Path.{_≡_, refl, sym, _∙_}
 use denote.Ref.{now}
-use Rattle.frames.specs.Read.{readHeartbeat}
 use Rattle.frames.specs.declared.HeartbeatRead.the-variants.{Alive, Join}
 use Rattle.entry_receive_heartbeat.specs.Hearing.{readStatus}
 use Rattle.entry_receive_heartbeat.proofs.Heard.{read-bounds, room, read-refused, read-faulty, read-good}
@@ -29,6 +28,30 @@ read-heartbeat-requires c κs = read-bounds _ _ _ _ _ (fine c) .0
 enum-told : tie.Need-enum-told
 enum-told c = search needs
 
+-- above what the copying asks: what is read on another channel is wrong here too
+returns-2 : tie.Need-returns-2
+returns-2 c =
+    let p = c .before .before in
+    let t = p .before .before in
+    let r = t .before .before in
+    let a = r .before .before .before .before .before .before .args in
+    read-good (a .n) (a .node) (a .cycle) (a .channel) (now (a .drive)) (now (a .frame)) (now (a .join)) (now (a .number)) (fine (r .before)) Alive _ _ (sym (r .read-heartbeat .ensures) ∙ t .enum-told .given .1) refl (p .put-drive .ensures .1) (p .put-drive .ensures .0)
+
+returns-3 : tie.Need-returns-3
+returns-3 c =
+    let p = c .before .before in
+    let t = p .before .before in
+    let r = t .before .before in
+    let a = r .before .before .before .before .before .before .args in
+    read-good (a .n) (a .node) (a .cycle) (a .channel) (now (a .drive)) (now (a .frame)) (now (a .join)) (now (a .number)) (fine (r .before)) Join _ _ (sym (r .read-heartbeat .ensures) ∙ t .enum-told2 .given .1) refl (p .put-drive2 .ensures .1) (p .put-drive2 .ensures .0)
+
+returns-4 : tie.Need-returns-4
+returns-4 c =
+    let f = c .before .before in
+    let r = f .before .before in
+    let a = r .before .before .before .before .before .before .args in
+    read-faulty (a .n) (a .node) (a .cycle) (a .channel) (now (a .drive)) (now (a .frame)) (now (a .join)) (now (a .number)) (fine (r .before)) _ _ (sym (r .read-heartbeat .ensures) ∙ f .f .given .1) (c .fault-code .ensures)
+
 put-drive-requires : tie.Need-put-drive-requires
 put-drive-requires c κs =
     let t = c .before in
@@ -53,34 +76,11 @@ fault-code-requires c κs = search needs
 same-length-2 : tie.Need-same-length-2
 same-length-2 c = search needs
 
-returns-2 : tie.Need-returns-2
-returns-2 c =
-    let p = c .before .before in
-    let t = p .before .before in
-    let r = t .before .before in
-    let a = r .before .before .before .before .before .before .args in
-    read-good (a .n) (a .node) (a .cycle) (a .channel) (now (a .drive)) (now (a .frame)) (now (a .join)) (now (a .number)) (fine (r .before)) Alive _ _ (sym (r .read-heartbeat .ensures) ∙ t .enum-told .given .1) refl (p .put-drive .ensures .1) (p .put-drive .ensures .0)
-
 same-length-3 : tie.Need-same-length-3
 same-length-3 c = search needs
 
-returns-3 : tie.Need-returns-3
-returns-3 c =
-    let p = c .before .before in
-    let t = p .before .before in
-    let r = t .before .before in
-    let a = r .before .before .before .before .before .before .args in
-    read-good (a .n) (a .node) (a .cycle) (a .channel) (now (a .drive)) (now (a .frame)) (now (a .join)) (now (a .number)) (fine (r .before)) Join _ _ (sym (r .read-heartbeat .ensures) ∙ t .enum-told2 .given .1) refl (p .put-drive2 .ensures .1) (p .put-drive2 .ensures .0)
-
 same-length-4 : tie.Need-same-length-4
 same-length-4 c = search needs
-
-returns-4 : tie.Need-returns-4
-returns-4 c =
-    let f = c .before .before in
-    let r = f .before .before in
-    let a = r .before .before .before .before .before .before .args in
-    read-faulty (a .n) (a .node) (a .cycle) (a .channel) (now (a .drive)) (now (a .frame)) (now (a .join)) (now (a .number)) (fine (r .before)) _ _ (sym (r .read-heartbeat .ensures) ∙ f .f .given .1) (c .fault-code .ensures)
 
 pub read-spec : {M : Type 1} → statement M
 read-spec =

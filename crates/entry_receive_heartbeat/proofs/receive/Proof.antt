@@ -1,15 +1,8 @@
-use mathlib.Core.Path.{_≡_, refl, sym, ap, _∙_}
-use mathlib.Core.List.{[]}
-use Prim.Native.Nat.{_≤_}
-use lib.ListN.{length}
+use mathlib.Core.Path.{_≡_, refl, sym, _∙_}
 use denote.Ref.{now}
-use Rattle.frames.specs.declared.Copy.{Copy}
 use Rattle.frames.specs.declared.Copy.the-variants.{Neither, OnA, OnB}
-use Rattle.frames.specs.declared.HeartbeatCounted.{HeartbeatCounted}
-use Rattle.frames.specs.Read.{driveOf, receiveHeartbeat}
-use Rattle.frames.proofs.TwoChannels.{a-counts, b-counts, drive-of-copy}
 use Rattle.entry_receive_heartbeat.specs.Hearing.{readStatus}
-use Rattle.entry_receive_heartbeat.proofs.Heard.{read-bounds, receive-refused, receive-copies}
+use Rattle.entry_receive_heartbeat.proofs.Heard.{read-bounds, room-of-a, room-of-b, receive-refused, receive-copies}
 use borrow.Author.Needs.{needs}
 use Rattle.entry_receive_heartbeat.proofs.receive.Statement.{statement}
 use Rattle.entry_receive_heartbeat.proofs.receive.Tie as tie
@@ -17,11 +10,6 @@ use Rattle.entry_receive_heartbeat.proofs.receive.Tie as tie
 -- nothing was refused
 fine : (c : tie.Else1) → let a = c .before .before .before .before .before .before .args in readStatus (a .n) (a .node) (a .cycle) 0 (now (a .drive)) ≡ 0
 fine c = sym (c .before .read-refusal .ensures) ∙ c .if1 .left
-
--- the copy that counts
-counts : (c : tie.After-receive-heartbeat) (copy : Copy) → c .receive-heartbeat .result .copy ≡ copy
-    → let a = c .before .before .before .before .before .before .before .args in receiveHeartbeat (a .node) (a .cycle) (now (a .a)) (now (a .b)) .copy ≡ copy
-counts c copy e = ap (λ (x : HeartbeatCounted). x .copy) (sym (c .receive-heartbeat .ensures)) ∙ e
 
 read-refusal-requires : tie.Need-read-refusal-requires
 read-refusal-requires c κs = search needs
@@ -46,35 +34,13 @@ enum-told c = search needs
 enum-told-2 : tie.Need-enum-told-2
 enum-told-2 c = search needs
 
-put-drive-requires : tie.Need-put-drive-requires
-put-drive-requires c κs =
-    let t = c .before in
-    let r = t .before .before .before in
-    let l = a-counts _ _ _ _ (counts r OnA (t .enum-told2 .given .1)) in
-    (l .0, (l .1, read-bounds _ _ _ _ _ (fine (r .before)) .1))
-
-enum-told-3 : tie.Need-enum-told-3
-enum-told-3 c = search needs
-
-put-drive-requires-2 : tie.Need-put-drive-requires-2
-put-drive-requires-2 c κs =
-    let t = c .before in
-    let r = t .before .before .before in
-    let l = b-counts _ _ _ _ (counts r OnB (t .enum-told3 .given .1)) in
-    (l .0, (l .1, read-bounds _ _ _ _ _ (fine (r .before)) .1))
-
-same-length-2 : tie.Need-same-length-2
-same-length-2 c = search needs
-
+-- above what the copying asks: the drive bytes of another copy are wrong here too
 returns-2 : tie.Need-returns-2
 returns-2 c =
     let h = c .before .before in
     let r = h .before in
     let a = r .before .before .before .before .before .before .before .args in
-    receive-copies (a .n) (a .node) (a .cycle) (now (a .a)) (now (a .b)) (now (a .drive)) (now (a .heard)) (now (a .number)) _ [] _ _ _ (fine (r .before)) (r .receive-heartbeat .ensures) (h .heard-code .ensures) (drive-of-copy _ _ _ _ Neither (counts r Neither (c .enum-told .given .1))) refl refl
-
-same-length-3 : tie.Need-same-length-3
-same-length-3 c = search needs
+    receive-copies (a .n) (a .node) (a .cycle) (now (a .a)) (now (a .b)) (now (a .drive)) (now (a .heard)) (now (a .number)) _ Neither _ _ _ (fine (r .before)) (r .receive-heartbeat .ensures) (h .heard-code .ensures) (c .enum-told .given .1) refl refl
 
 returns-3 : tie.Need-returns-3
 returns-3 c =
@@ -83,11 +49,8 @@ returns-3 c =
     let h = t .before .before in
     let r = h .before in
     let a = r .before .before .before .before .before .before .before .args in
-    receive-copies (a .n) (a .node) (a .cycle) (now (a .a)) (now (a .b)) (now (a .drive)) (now (a .heard)) (now (a .number)) _ (driveOf (now (a .a))) _ _ _ (fine (r .before)) (r .receive-heartbeat .ensures) (h .heard-code .ensures) (drive-of-copy _ _ _ _ OnA (counts r OnA (t .enum-told2 .given .1)))
+    receive-copies (a .n) (a .node) (a .cycle) (now (a .a)) (now (a .b)) (now (a .drive)) (now (a .heard)) (now (a .number)) _ OnA _ _ _ (fine (r .before)) (r .receive-heartbeat .ensures) (h .heard-code .ensures) (t .enum-told2 .given .1)
     (p .put-drive .ensures .1) (p .put-drive .ensures .0)
-
-same-length-4 : tie.Need-same-length-4
-same-length-4 c = search needs
 
 returns-4 : tie.Need-returns-4
 returns-4 c =
@@ -96,8 +59,32 @@ returns-4 c =
     let h = t .before .before in
     let r = h .before in
     let a = r .before .before .before .before .before .before .before .args in
-    receive-copies (a .n) (a .node) (a .cycle) (now (a .a)) (now (a .b)) (now (a .drive)) (now (a .heard)) (now (a .number)) _ (driveOf (now (a .b))) _ _ _ (fine (r .before)) (r .receive-heartbeat .ensures) (h .heard-code .ensures) (drive-of-copy _ _ _ _ OnB (counts r OnB (t .enum-told3 .given .1)))
+    receive-copies (a .n) (a .node) (a .cycle) (now (a .a)) (now (a .b)) (now (a .drive)) (now (a .heard)) (now (a .number)) _ OnB _ _ _ (fine (r .before)) (r .receive-heartbeat .ensures) (h .heard-code .ensures) (t .enum-told3 .given .1)
     (p .put-drive2 .ensures .1) (p .put-drive2 .ensures .0)
+
+put-drive-requires : tie.Need-put-drive-requires
+put-drive-requires c κs =
+    let t = c .before in
+    let r = t .before .before .before in
+    room-of-a _ _ _ _ _ _ 0 0 _ (fine (r .before)) (r .receive-heartbeat .ensures) (t .enum-told2 .given .1)
+
+enum-told-3 : tie.Need-enum-told-3
+enum-told-3 c = search needs
+
+put-drive-requires-2 : tie.Need-put-drive-requires-2
+put-drive-requires-2 c κs =
+    let t = c .before in
+    let r = t .before .before .before in
+    room-of-b _ _ _ _ _ _ 0 0 _ (fine (r .before)) (r .receive-heartbeat .ensures) (t .enum-told3 .given .1)
+
+same-length-2 : tie.Need-same-length-2
+same-length-2 c = search needs
+
+same-length-3 : tie.Need-same-length-3
+same-length-3 c = search needs
+
+same-length-4 : tie.Need-same-length-4
+same-length-4 c = search needs
 
 pub receive-spec : {M : Type 1} → statement M
 receive-spec =

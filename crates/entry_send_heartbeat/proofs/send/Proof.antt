@@ -11,7 +11,6 @@ use Rattle.state.specs.declared.Node.{Node}
 use Rattle.state.specs.declared.Decoded.{Decoded}
 use Rattle.frames.specs.Written.{wrongDrive}
 use Rattle.frames.proofs.Payloads.{drive-bounds}
-use Rattle.entry_lent.specs.declared.Lent.{Lent}
 use Rattle.entry_lent.specs.declared.Lent.the-variants.{Holds}
 use Rattle.entry_lent.specs.Found.{lentNode}
 use Rattle.entry_lent.proofs.Bounds.{sending-bounds}
@@ -40,12 +39,6 @@ fine c = sym (c .before .wrong-sending .ensures) ∙ c .if1 .left
 even : (c : tie.Else2) → wrongDrive (now (c .before .before .before .before .before .before .before .args .drive)) ≡ false
 even c = sym (c .before .wrong-drive .ensures) ∙ c .if2 .left
 
--- what was found
-looked : (c : tie.After-lent-node) (r : Lent) → c .lent-node .result ≡ r
-    → let a = c .before .before .before .before .before .before .before .before .args in
-    lentNode false (now (a .state)) (length (now (a .frame))) (10 + length (now (a .drive))) ≡ r
-looked c r e = sym (c .lent-node .ensures) ∙ e
-
 wrong-sending-requires : tie.Need-wrong-sending-requires
 wrong-sending-requires c κs = search needs
 
@@ -67,21 +60,7 @@ lent-node-requires c κs = search needs
 enum-known-n : tie.Need-enum-known-n
 enum-known-n c = search needs
 
-send-of-requires : tie.Need-send-of-requires
-send-of-requires c κs =
-    let k = c .before .before .before in
-    let l = k .before .before in
-    let e = l .before in
-    let s = e .before .before .before .before .before .before in
-    let a = s .before .args in
-    bounds (now (a .state)) (a .sync) (a .startup) (a .cycle) (a .channel) (now (a .drive)) (now (a .frame)) _ (λ i. s .shared-slice-known .given i .fits) (fine (e .before .before)) (even e) (looked l _ (k .n .given .1))
-
-enum-known-k : tie.Need-enum-known-k
-enum-known-k c = search needs
-
-same-length : tie.Need-same-length
-same-length c = search needs
-
+-- above what sending asks: a buffer of another length is wrong here too
 returns-3 : tie.Need-returns-3
 returns-3 c =
     let m = c .before .before in
@@ -91,7 +70,7 @@ returns-3 c =
     let a = e .before .before .before .before .before .before .before .args in
     by-state _ _ _ _ _ (now (a .drive)) (now (a .frame)) (now (a .sent)) (fine (e .before .before)) (even e) 0 _ _
     (sends false (now (a .state)) (10 + length (now (a .drive))) (now (a .frame)) (λ (x : Decoded). heartbeatFrom x (a .sync) (a .startup) (a .cycle) (a .channel) (now (a .drive)) (now (a .frame))) sentOf (now (a .sent)) _ _ _
-    (looked l _ (k .n .given .1)) (m .send-of .ensures .0) (m .send-of .ensures .1))
+    (sym (l .lent-node .ensures) ∙ k .n .given .1) (m .send-of .ensures .0) (m .send-of .ensures .1))
 
 returns-4 : tie.Need-returns-4
 returns-4 c =
@@ -101,7 +80,22 @@ returns-4 c =
     let a = e .before .before .before .before .before .before .before .args in
     by-state _ _ _ _ _ (now (a .drive)) (now (a .frame)) (now (a .sent)) (fine (e .before .before)) (even e) _ _ _
     (sends-none false (now (a .state)) (10 + length (now (a .drive))) (now (a .frame)) (λ (x : Decoded). heartbeatFrom x (a .sync) (a .startup) (a .cycle) (a .channel) (now (a .drive)) (now (a .frame))) sentOf (now (a .sent)) _
-    (looked l _ (k .k .given .1)))
+    (sym (l .lent-node .ensures) ∙ k .k .given .1))
+
+send-of-requires : tie.Need-send-of-requires
+send-of-requires c κs =
+    let k = c .before .before .before in
+    let l = k .before .before in
+    let e = l .before in
+    let s = e .before .before .before .before .before .before in
+    let a = s .before .args in
+    bounds (now (a .state)) (a .sync) (a .startup) (a .cycle) (a .channel) (now (a .drive)) (now (a .frame)) _ (λ i. s .shared-slice-known .given i .fits) (fine (e .before .before)) (even e) (sym (l .lent-node .ensures) ∙ k .n .given .1)
+
+enum-known-k : tie.Need-enum-known-k
+enum-known-k c = search needs
+
+same-length : tie.Need-same-length
+same-length c = search needs
 
 pub send-spec : {M : Type 1} → statement M
 send-spec =

@@ -19,6 +19,14 @@ part-copy-start c = search needs
 part-copy-end : tie.Need-part-copy-end
 part-copy-end c = search needs
 
+-- above what the call asks: bytes from another place are wrong here too
+returns : tie.Need-returns
+returns c =
+    let k = c .before .before in
+    let a = k .before .before .before .before .before .args in
+    let e = drive-part (a .s .now) in
+    (k .copy .ensures .0 ∙ ap length e, at-front _ _ _ _ e (k .copy .ensures .1))
+
 copy-requires : tie.Need-copy-requires
 copy-requires c κs = search needs
 
@@ -27,13 +35,6 @@ cast-result c = search needs
 
 same-length : tie.Need-same-length
 same-length c = search needs
-
-returns : tie.Need-returns
-returns c =
-    let k = c .before .before in
-    let a = k .before .before .before .before .before .args in
-    let e = drive-part (a .s .now) in
-    (k .copy .ensures .0 ∙ ap length e, at-front _ _ _ _ e (k .copy .ensures .1))
 
 pub put-drive-spec : {M : Type 1} → statement M
 put-drive-spec =

@@ -5,11 +5,10 @@ use mathlib.Core.List.{List}
 use Prim.Native.Nat.{ℕ}
 use native.Mathlib.Omega.{arith}
 use borrow.Author.Tests.{not-true, not-false}
-use Rattle.parts.specs.Compared.{sameBytes}
 use Rattle.frames.specs.declared.HeartbeatRead.{HeartbeatRead}
 use Rattle.frames.specs.declared.HeartbeatCounted.{HeartbeatCounted}
 use Rattle.frames.specs.declared.Copy.the-variants.{OnA, OnB}
-use Rattle.frames.specs.Read.{payloadOf, readHeartbeat, isGood, countedOn, countedOf, receiveHeartbeat}
+use Rattle.frames.specs.Read.{readHeartbeat, isGood, countedOn, countedOf, samePayload, receiveHeartbeat}
 use Rattle.frames.proofs.TwoChannels.{missed, counted-a, counted-b, counted-both, good-length}
 use borrow.Author.Needs.{needs}
 use Rattle.frame_reading.proofs.receive_heartbeat.Statement.{statement}
@@ -18,7 +17,7 @@ use Rattle.frame_reading.proofs.receive_heartbeat.Tie as tie
 -- what two copies give, by what was read in them
 module _ (q cycle : ℕ) (a b : List ℕ) {x y : HeartbeatRead} (ex : x ≡ readHeartbeat q cycle 0 a) (ey : y ≡ readHeartbeat q cycle 1 b) where
   abbrev equal : Bool
-  equal = sameBytes (payloadOf a) (payloadOf b)
+  equal = samePayload a b
 
   received : {r : HeartbeatCounted} → r ≡ countedOf x y equal → r ≡ receiveHeartbeat q cycle a b
   unfolding receiveHeartbeat

@@ -1,6 +1,7 @@
 -- `frame_reading::same_payload` meets its contract. Assumes nothing.
 use mathlib.Core.Path.{ap₂, _∙_}
 use Rattle.parts.specs.Compared.{sameBytes}
+use Rattle.frames.specs.Read.{samePayload}
 use Rattle.frames.proofs.Payloads.{payload-part}
 use borrow.Author.Needs.{needs}
 use Rattle.frame_reading.proofs.same_payload.Statement.{statement}
@@ -34,6 +35,7 @@ same-bytes-requires : tie.Need-same-bytes-requires
 same-bytes-requires c κs = search needs
 
 returns : tie.Need-returns
+unfolding samePayload
 returns c = c .same-bytes .ensures ∙ ap₂ sameBytes (payload-part _) (payload-part _)
 
 pub same-payload-spec : {M : Type 1} → statement M

@@ -33,6 +33,23 @@ whole q join sync startup cycle channel drive h c f₀ f₁ f₂ f₃ f₄ start
     framed start (7 + length drive) check h (join * 128 ∷ 0 ∷ drive) c f₀ f₁ f₃ f₄ lh (omega arith) (omega arith) ph pp ek ec pc
     ∙ ap₂ frame es (ap (λ (x : List ℕ). x ++ (join * 128 ∷ 0 ∷ drive)) eh)
 
+-- above all else: what is wrong in a frame is wrong here
+returns : tie.Need-returns
+returns c =
+    let p₄ = c .before .before in
+    let w = p₄ .before .before in
+    let k = w .before .before in
+    let n = k .before .before in
+    let p₃ = n .before .before .before in
+    let p₂ = p₃ .before .before .before .before in
+    let p₁ = p₂ .before .before .before .before .before in
+    let h = p₁ .before .before in
+    let s = h .before .before .before .before in
+    let a = s .args in
+    whole (a .q) (a .join) (a .sync) (a .startup) (a .cycle) (a .channel) (a .drive .now) _ _ (a .frame .now) (p₁ .put .last .0) (p₂ .put2 .last .0) (p₃ .put3 .last .0) (p₄ .put4 .last .0) _ _
+    (s .pre .1 .1 .1 .1 .1 .1) (h .header-bytes .ensures) (n .channel-start .ensures .0) (k .frame-check .ensures .0) (w .write3 .ensures)
+    (p₁ .put .ensures) (p₂ .put2 .ensures) (p₃ .put3 .ensures) (p₄ .put4 .ensures)
+
 few : (s : tie.Start) → length (s .args .drive .now) ≤ 252
 few s = drive-bounds (s .args .drive .now) (s .pre .1 .1 .1 .1 .1 .0) .1
 
@@ -104,22 +121,6 @@ put-requires-4 c κs =
 
 same-length : tie.Need-same-length
 same-length c = search needs
-
-returns : tie.Need-returns
-returns c =
-    let p₄ = c .before .before in
-    let w = p₄ .before .before in
-    let k = w .before .before in
-    let n = k .before .before in
-    let p₃ = n .before .before .before in
-    let p₂ = p₃ .before .before .before .before in
-    let p₁ = p₂ .before .before .before .before .before in
-    let h = p₁ .before .before in
-    let s = h .before .before .before .before in
-    let a = s .args in
-    whole (a .q) (a .join) (a .sync) (a .startup) (a .cycle) (a .channel) (a .drive .now) _ _ (a .frame .now) (p₁ .put .last .0) (p₂ .put2 .last .0) (p₃ .put3 .last .0) (p₄ .put4 .last .0) _ _
-    (s .pre .1 .1 .1 .1 .1 .1) (h .header-bytes .ensures) (n .channel-start .ensures .0) (k .frame-check .ensures .0) (w .write3 .ensures)
-    (p₁ .put .ensures) (p₂ .put2 .ensures) (p₃ .put3 .ensures) (p₄ .put4 .ensures)
 
 pub write-heartbeat-spec : {M : Type 1} → statement M
 write-heartbeat-spec =

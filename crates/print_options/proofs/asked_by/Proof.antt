@@ -14,24 +14,24 @@ returns c = let a = c .before .before .args in sym (none-given (a .count) (now (
 returns-2 : tie.Need-returns-2
 returns-2 c = let a = c .before .before .before .args in sym (several-given (a .count) (now (a .first)) (omega arith) (omega arith))
 
-slice-aggregate-same-text : tie.Need-slice-aggregate-same-text
-slice-aggregate-same-text c = search needs
+slice-aggregate-same-bytes : tie.Need-slice-aggregate-same-bytes
+slice-aggregate-same-bytes c = search needs
 
-same-text-requires : tie.Need-same-text-requires
-same-text-requires c κs = search needs
+same-bytes-requires : tie.Need-same-bytes-requires
+same-bytes-requires c κs = search needs
 
 returns-3 : tie.Need-returns-3
 unfolding ascii
 returns-3 c =
     let h = c .before in
     let a = h .before .before .before .before .before .args in
-    sym (one-given (a .count) (now (a .first)) (omega arith) (omega arith) ∙ help-given (now (a .first)) (sym (h .same-text .ensures) ∙ c .if3 .taken))
+    sym (one-given (a .count) (now (a .first)) (omega arith) (omega arith) ∙ help-given (now (a .first)) (sym (h .same-bytes .ensures) ∙ c .if3 .taken))
 
-slice-aggregate-same-text-2 : tie.Need-slice-aggregate-same-text-2
-slice-aggregate-same-text-2 c = search needs
+slice-aggregate-same-bytes-2 : tie.Need-slice-aggregate-same-bytes-2
+slice-aggregate-same-bytes-2 c = search needs
 
-same-text-requires-2 : tie.Need-same-text-requires-2
-same-text-requires-2 c κs = search needs
+same-bytes-requires-2 : tie.Need-same-bytes-requires-2
+same-bytes-requires-2 c κs = search needs
 
 returns-4 : tie.Need-returns-4
 unfolding ascii
@@ -41,7 +41,7 @@ returns-4 c =
     let h = e .before in
     let a = h .before .before .before .before .before .args in
     sym (one-given (a .count) (now (a .first)) (omega arith) (omega arith)
-    ∙ version-given (now (a .first)) (sym (h .same-text .ensures) ∙ e .if3 .left) (sym (v .same-text2 .ensures) ∙ c .if4 .taken))
+    ∙ version-given (now (a .first)) (sym (h .same-bytes .ensures) ∙ e .if3 .left) (sym (v .same-bytes2 .ensures) ∙ c .if4 .taken))
 
 returns-5 : tie.Need-returns-5
 unfolding ascii
@@ -51,7 +51,7 @@ returns-5 c =
     let h = e .before in
     let a = h .before .before .before .before .before .args in
     sym (one-given (a .count) (now (a .first)) (omega arith) (omega arith)
-    ∙ other-given (now (a .first)) (sym (h .same-text .ensures) ∙ e .if3 .left) (sym (v .same-text2 .ensures) ∙ c .if4 .left))
+    ∙ other-given (now (a .first)) (sym (h .same-bytes .ensures) ∙ e .if3 .left) (sym (v .same-bytes2 .ensures) ∙ c .if4 .left))
 
 pub asked-by-spec : {M : Type 1} → statement M
 asked-by-spec =
@@ -59,10 +59,10 @@ asked-by-spec =
     (tie.spec
     returns
     returns-2
-    slice-aggregate-same-text
-    same-text-requires
+    slice-aggregate-same-bytes
+    same-bytes-requires
     returns-3
-    slice-aggregate-same-text-2
-    same-text-requires-2
+    slice-aggregate-same-bytes-2
+    same-bytes-requires-2
     returns-4
     returns-5)
