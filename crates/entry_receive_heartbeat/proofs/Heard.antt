@@ -13,9 +13,9 @@ use Rattle.frames.specs.declared.HeartbeatRead.{HeartbeatRead}
 use Rattle.frames.specs.declared.HeartbeatRead.the-variants.{Alive, Join, Refused}
 use Rattle.frames.specs.declared.HeartbeatCounted.{HeartbeatCounted}
 use Rattle.frames.specs.declared.Copy.{Copy}
-use Rattle.frames.specs.declared.Copy.the-variants.{OnA, OnB}
-use Rattle.frames.specs.Read.{faultCode, driveOf, readHeartbeat, isGood, receiveHeartbeat, driveCounted}
-use Rattle.frames.proofs.TwoChannels.{good-length, a-counts, b-counts, drive-of-copy}
+use Rattle.frames.specs.declared.Copy.the-variants.{Neither, OnA, OnB}
+use Rattle.frames.specs.Read.{faultCode, payloadOf, driveOf, readHeartbeat, isGood, receiveHeartbeat, driveCounted}
+use Rattle.frames.proofs.TwoChannels.{missed, good-length, other-copies, a-counts, b-counts, drive-of-copy}
 use Rattle.refusal.proofs.Laws.{none, unless-done, unless-refused}
 use Rattle.entry_lent.specs.Refusals.{wrongCount, wrongNode, wrongCycle, wrongChannel, wrongLength}
 use Rattle.entry_receive_heartbeat.specs.Hearing.{readStatus, heartbeatRefusal, joinOf, readHeartbeatStatus, readHeartbeatJoin, readHeartbeatNumber, readHeartbeatDrive}
@@ -133,3 +133,12 @@ module _ (n q cycle : ℕ) (a b d : List ℕ) (heard number : ℕ) where
           (c ∙ ap (λ (x : HeartbeatCounted). heardCode (x .heard)) g ∙ sym (unless-done _ _ heard z), eb ∙ ap length (sym h) ∙ sym (unless-done _ _ number z)),
         ),
       )
+
+  -- a missed frame is no refusal: nothing is heard, there are no drive bytes, and the buffer is as it came in
+  pub missed-untouched : receiveHeartbeatStatus n q cycle d ≡ 0 → receiveHeartbeat q cycle a b ≡ missed → Receives 0 d 0 0
+  missed-untouched e m = receive-copies missed Neither d 0 0 (receive-status n q cycle d ∙ e) (sym m) refl refl refl refl
+
+  -- so are two good copies that differ in any byte of their payloads
+  pub differing-missed : receiveHeartbeatStatus n q cycle d ≡ 0 → isGood (readHeartbeat q cycle 0 a) ≡ true → isGood (readHeartbeat q cycle 1 b) ≡ true
+      → (payloadOf a ≡ payloadOf b → ⊥) → Receives 0 d 0 0
+  differing-missed e ga gb o = missed-untouched e (other-copies q cycle a b ga gb o .0)

@@ -285,10 +285,10 @@ begin-made E had n q F two few l some-founder founders =
     let good = begin-good n q F two few l some-founder founders in
     had .begin n q F _ (lift (replicate 24 0, good, sym (unless-done (beginStatus n q F (replicate 24 0)) (imageIn n q (initial 0 F q)) (replicate 24 0) (sym good))))
 
--- for every founding set, list of fault records and drive bytes of each unit there is such a press
-pub press-there : (E : Entries) → Within byDefinition E → (n F : ℕ) (cs : List Faults) (drive : ℕ → List ℕ) → 2 ≤ n → n ≤ 64 → eqb F 0 ≡ false → below n F ≡ F
-    → ((q : ℕ) → wrongDrive (drive q) ≡ false)
-    → (x : ℕ → List ℕ) × (z : ℕ → List ℕ) × Begins E n F x × (k : Pressed E n cs x z) × Lift {0, 1} (Driven drive k)
+-- for every founding set, list of fault records and choice of drive bytes there is such a press
+pub press-there : (E : Entries) → Within byDefinition E → (n F : ℕ) (cs : List Faults) (drive : (k q : ℕ) → List ℕ) → 2 ≤ n → n ≤ 64 → eqb F 0 ≡ false → below n F ≡ F
+    → ((k q : ℕ) → wrongDrive (drive k q) ≡ false)
+    → (x : ℕ → List ℕ) × (z : ℕ → List ℕ) × Begins E n F x × (k : Pressed E n cs x z) × Lift {0, 1} (Driven drive 1 k)
 unfolding founding
 press-there E had n F cs drive two few some-founder founders even =
     let run = cycles cs 1 (founding n 0 F) (founding-formed n 0 F (lit< tt) founders) in
@@ -299,14 +299,14 @@ press-there E had n F cs drive two few some-founder founders even =
         subst (λ (y : List ℕ). E .begin n q F y) (ap (imageIn n q) (sym (get-tabulate n q (initial 0 F) stopped l))) (begin-made E had n q F two few l some-founder founders)
 
     cycles : (cs : List Faults) (k : ℕ) (row : Row) → FormedRow n row
-        → (z : ℕ → List ℕ) × (p : Pressed E n cs (λ q. imageIn n q (at row q)) z) × Lift {0, 1} (Driven drive p)
+        → (z : ℕ → List ℕ) × (p : Pressed E n cs (λ q. imageIn n q (at row q)) z) × Lift {0, 1} (Driven drive k p)
     cycles [] k row w = ((λ q. imageIn n q (at row q)), no-cycle, lift tt)
     cycles (c ∷ cs) k row w =
         let rest = cycles cs (suc k) (cycle (ofNodes n) c row) (cycle-formed (ofNodes n) c row w) in
         let counted : cycleCount k < 64 = mod-lt (k - 1) (lit< tt) in
         let empty = length-replicate {A = ℕ} 1792 0 in
-        let done = cycle-there drive even n (cycleCount k) two few counted c row w (replicate 1792 0) empty 0 E had in
-        (rest .0, next (cycleCount k) (busWith drive (ofNodes n) (cycleCount k) c row) (done .0) (rest .1), lift (done .1 .lower, rest .2 .lower))
+        let done = cycle-there (drive k) (even k) n (cycleCount k) two few counted c row w (replicate 1792 0) empty 0 E had in
+        (rest .0, next (cycleCount k) (busWith (drive k) (ofNodes n) (cycleCount k) c row) (done .0) (rest .1), lift (done .1 .lower, rest .2 .lower))
 
 -- ---- each other way that a part may go can be gone
 

@@ -4,7 +4,7 @@ use mathlib.Core.Path.{_≡_}
 use mathlib.Core.Logic.{_⊎_}
 use mathlib.Core.Bool.{Bool, true, false, _&&_}
 use mathlib.Core.List.{List, [], _∷_}
-use Prim.Native.Nat.{ℕ, _<_}
+use Prim.Native.Nat.{ℕ, suc, _<_}
 use lib.Dec.{eqb}
 use lib.ListN.{getD}
 use Rattle.sets.specs.Sets.{has}
@@ -133,10 +133,10 @@ pub data Pressed (E : Entries) (n : ℕ) : List Faults → (ℕ → List ℕ) �
   next : {c : Faults} {cs : List Faults} {x y z : ℕ → List ℕ} (count : ℕ) (bus : Bus) → CycleDone E n count c bus x y → Pressed E n cs y z
       → Pressed E n (c ∷ cs) x z
 
--- every unit gives these drive bytes in every cycle
-abbrev pub Driven : {E : Entries} {n : ℕ} {cs : List Faults} {x z : ℕ → List ℕ} → (ℕ → List ℕ) → Pressed E n cs x z → Type 0
-Driven drive none = Unit {0}
-Driven {n = n} drive (next count bus d rest) = ((q : ℕ) (l : q < n) → driveIn (d .parts q l) ≡ drive q) × Driven drive rest
+-- in each cycle, the first of which is cycle k, every unit gives the drive bytes that are chosen for it
+abbrev pub Driven : {E : Entries} {n : ℕ} {cs : List Faults} {x z : ℕ → List ℕ} → (drive : (k q : ℕ) → List ℕ) → (k : ℕ) → Pressed E n cs x z → Type 0
+Driven drive k none = Unit {0}
+Driven {n = n} drive k (next count bus d rest) = ((q : ℕ) (l : q < n) → driveIn (d .parts q l) ≡ drive k q) × Driven drive (suc k) rest
 
 -- ---- cycles where nobody knows the records
 

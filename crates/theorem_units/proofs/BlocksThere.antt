@@ -112,6 +112,6 @@ had =
       decide = λ x heard0 heard1 votes arrived y k. decide-had x heard0 heard1 votes arrived y (k .lower .0) (k .lower .1);
     }
 
-pub blocks-there : (n F : ℕ) (cs : List Faults) (drive : ℕ → List ℕ) → 2 ≤ n → n ≤ 64 → eqb F 0 ≡ false → below n F ≡ F → ((q : ℕ) → wrongDrive (drive q) ≡ false)
-    → (x : ℕ → List ℕ) × (z : ℕ → List ℕ) × Begins inBlocks n F x × (k : Pressed inBlocks n cs x z) × Lift {0, 1} (Driven drive k)
+pub blocks-there : (n F : ℕ) (cs : List Faults) (drive : (k q : ℕ) → List ℕ) → 2 ≤ n → n ≤ 64 → eqb F 0 ≡ false → below n F ≡ F → ((k q : ℕ) → wrongDrive (drive k q) ≡ false)
+    → (x : ℕ → List ℕ) × (z : ℕ → List ℕ) × Begins inBlocks n F x × (k : Pressed inBlocks n cs x z) × Lift {0, 1} (Driven drive 1 k)
 blocks-there = press-there inBlocks had

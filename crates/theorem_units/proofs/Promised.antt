@@ -23,14 +23,14 @@ compiled-units = over-units compiled told
 pub compiled-any-bus : OverAnyBus compiled
 compiled-any-bus = over-any-bus compiled told
 
--- the premises can be met: for every founding set, list of fault records and drive bytes of each unit there is such a press
-pub compiled-there : (n F : ℕ) (cs : List Faults) (drive : ℕ → List ℕ) → 2 ≤ n → n ≤ 64 → eqb F 0 ≡ false → below n F ≡ F → ((q : ℕ) → wrongDrive (drive q) ≡ false)
-    → (x : ℕ → List ℕ) × (z : ℕ → List ℕ) × Begins compiled n F x × (k : Pressed compiled n cs x z) × Lift {0, 1} (Driven drive k)
+-- the premises can be met: for every founding set, list of fault records and choice of drive bytes there is such a press
+pub compiled-there : (n F : ℕ) (cs : List Faults) (drive : (k q : ℕ) → List ℕ) → 2 ≤ n → n ≤ 64 → eqb F 0 ≡ false → below n F ≡ F → ((k q : ℕ) → wrongDrive (drive k q) ≡ false)
+    → (x : ℕ → List ℕ) × (z : ℕ → List ℕ) × Begins compiled n F x × (k : Pressed compiled n cs x z) × Lift {0, 1} (Driven drive 1 k)
 compiled-there = press-there compiled had
 
 -- and where nobody knows the records: the same press, cycle by cycle with the same units stopped and started, under the records of what came
-pub compiled-sound-there : (n F : ℕ) (cs : List Faults) (drive : ℕ → List ℕ) → 2 ≤ n → n ≤ 64 → eqb F 0 ≡ false → below n F ≡ F → ((q : ℕ) → wrongDrive (drive q) ≡ false)
-    → (x : ℕ → List ℕ) × (z : ℕ → List ℕ) × Begins compiled n F x × ((k : Pressed compiled n cs x z) × Lift {0, 1} (Driven drive k))
+pub compiled-sound-there : (n F : ℕ) (cs : List Faults) (drive : (k q : ℕ) → List ℕ) → 2 ≤ n → n ≤ 64 → eqb F 0 ≡ false → below n F ≡ F → ((k q : ℕ) → wrongDrive (drive k q) ≡ false)
+    → (x : ℕ → List ℕ) × (z : ℕ → List ℕ) × Begins compiled n F x × ((k : Pressed compiled n cs x z) × Lift {0, 1} (Driven drive 1 k))
     × (ds : List Faults) × SameRuleOne cs ds × SoundPressed compiled n (founding n 0 F) ds x z
 compiled-sound-there n F cs drive two few some-founder founders even =
     let press = compiled-there n F cs drive two few some-founder founders even in
