@@ -76,9 +76,9 @@ module _ (n count : ℕ) (w : Roles) (few : n ≤ 64) (counted : count < 64) whe
           ap (λ (b : Bool). isGood (readHeartbeat p count channel (take (cond b 10 0) (drop (36 * p) (channelOf n (heartbeatPut w count channel)))))) e
           ∙ ap isGood (no-heartbeat p count channel)
 
-      sent : (join : ℕ) (bit : join < 2) → has p reach ≡ true → (channel : ℕ) → heartbeatPut w count channel p ≡ some (heartbeatFrame p join 0 0 count channel [])
-          → SentOn p join count [] small bit counted none-wrong channel (copy channel)
-      sent join bit r channel e = (
+      sent : (join : ℕ) → has p reach ≡ true → (channel : ℕ) → heartbeatPut w count channel p ≡ some (heartbeatFrame p join 0 0 count channel [])
+          → SentOn p join count [] channel (copy channel)
+      sent join r channel e = (
         0,
         0,
         lit< tt,
@@ -89,10 +89,10 @@ module _ (n count : ℕ) (w : Roles) (few : n ≤ 64) (counted : count < 64) whe
       heard-as : (join : ℕ) (bit : join < 2) → has p reach ≡ true → ((channel : ℕ) → heartbeatPut w count channel p ≡ some (heartbeatFrame p join 0 0 count channel []))
           → receiveHeartbeat p count (copy 0) (copy 1) .heard ≡ heardWith join
       heard-as join bit r e =
-          let one = sent join bit r 0 (e 0) in
-          let other = sent join bit r 1 (e 1) in
+          let one = sent join r 0 (e 0) in
+          let other = sent join r 1 (e 1) in
           sent-on-a p join count [] small bit counted none-wrong (copy 0) (copy 1) one
-          (λ g. sent-payload p join count [] small bit counted none-wrong 0 (copy 0) one ∙ sym (sent-payload p join count [] small bit counted none-wrong 1 (copy 1) other))
+          (λ g. sent-payload p join count [] 0 (copy 0) one ∙ sym (sent-payload p join count [] 1 (copy 1) other))
           .0
 
       go : (r m j : Bool) → has p reach ≡ r → has p (w .members) ≡ m → has p (w .joining) ≡ j → (r ≡ true → (m || j) ≡ true)

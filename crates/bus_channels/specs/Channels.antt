@@ -1,7 +1,7 @@
 -- Paper 01, "Run through frames": what stands on the two channels in each half of a cycle, and what a unit makes of what it reads there.
 -- Assumes nothing.
 use mathlib.Core.Bool.{Bool, true, false, cond}
-use mathlib.Core.List.{List, []}
+use mathlib.Core.List.{List}
 use mathlib.Core.Option.{Option, none, some}
 use Prim.Native.Nat.{ℕ, zero, suc, _*_}
 use lib.Dec.{ltb}
@@ -16,7 +16,7 @@ use Rattle.rules.specs.Ballots.{voteAt}
 use Rattle.frames.specs.declared.HeartbeatReceived.{HeartbeatReceived}
 use Rattle.frames.specs.declared.VoteReceived.{VoteReceived}
 use Rattle.frames.specs.declared.VoteReceived.the-variants as votes
-use Rattle.frames.specs.Written.{heartbeatFrame, voteFrame}
+use Rattle.frames.specs.Written.{heartbeatFrame, runDrive, voteFrame}
 use Rattle.frames.specs.Read.{readVote, receiveHeartbeat, receiveVote}
 use Rattle.bus_units.specs.Units.{isAlive, isJoin, received}
 use Rattle.cluster_states.specs.declared.Roles.{Roles}
@@ -38,12 +38,11 @@ channelOf (suc n) sent = withSent n (sent n) (channelOf n sent)
 
 -- ---- what each node sends
 
--- "Heartbeat: a member sends one with join 0, a joining node with join 1, an out node nothing." "its heartbeats have sync and startup 0" Request 2: "A run's
--- heartbeats keep one word."
+-- "Heartbeat: a member sends one with join 0, a joining node with join 1, an out node nothing." "its heartbeats have sync and startup 0"
 abbrev pub heartbeatPut : Roles → ℕ → ℕ → ℕ → Option (List ℕ)
 heartbeatPut w count channel q =
-    cond (has q (w .members)) (some (heartbeatFrame q 0 0 0 count channel []))
-    (cond (has q (w .joining)) (some (heartbeatFrame q 1 0 0 count channel [])) none)
+    cond (has q (w .members)) (some (heartbeatFrame q 0 0 0 count channel runDrive))
+    (cond (has q (w .joining)) (some (heartbeatFrame q 1 0 0 count channel runDrive)) none)
 
 -- "A member's vote is G, M, B and V. Joining nodes do not vote."
 abbrev pub votePut : List ℕ → List ℕ → List ℕ → List ℕ → ℕ → ℕ → ℕ → ℕ → Option (List ℕ)

@@ -1,11 +1,10 @@
 // The two channels, and the heartbeats of a cycle run through them: what a unit hears is what it reads there.
 ghost use mathlib.Core.Path.{_≡_};
 ghost use mathlib.Core.Bool.{true, false, cond};
-ghost use mathlib.Core.List.{[]};
 ghost use Prim.Native.Nat.{ℕ, _<_, _≤_};
 ghost use lib.ListN.{length, getD};
 ghost use Rattle.sets.specs.Sets.{has, _∖_};
-ghost use Rattle.frames.specs.Written.{heartbeatFrame};
+ghost use Rattle.frames.specs.Written.{heartbeatFrame, runDrive};
 ghost use Rattle.bus_units.specs.Units.{isAlive, isJoin};
 ghost use Rattle.bus_units.specs.Run.{framesLength};
 ghost use Rattle.parts.specs.Parts.{withPart};
@@ -33,7 +32,7 @@ pub fn put(channel: [u8; 2304], q: usize, x: &[u8]) -> [u8; 2304]
 // A heartbeat of a run: sync and startup 0, and no drive bytes.
 fn run_heartbeat(q: u32, join: u32, count: u32, channel: u32) -> [u8; 10]
     requires { ⌜ (q < 64) × ((join < 2) × (count < 64)) ⌝ }
-    ensures { λ r. ⌜ r ≡ heartbeatFrame q join 0 0 count channel [] ⌝ }
+    ensures { λ r. ⌜ r ≡ heartbeatFrame q join 0 0 count channel runDrive ⌝ }
 {
     let none = [0u8; 0];
     let mut f = [0u8; 10];

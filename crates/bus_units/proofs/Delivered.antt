@@ -21,7 +21,6 @@ use Rattle.rules.specs.Faults.{Row, at, ruleOne, heartbeatReaches, voteReaches,
 use Rattle.rules.proofs.States.{some-inj}
 use Rattle.rules.proofs.Votes.{view-own, view-below, vote-self}
 use Rattle.theorem_formed.proofs.Formed.{FormedRow, rule-one-formed}
-use Rattle.frames.specs.declared.Fault.{Fault}
 use Rattle.frames.specs.declared.Fault.the-variants.{Length}
 use Rattle.frames.specs.declared.HeartbeatReceived.{HeartbeatReceived}
 use Rattle.frames.specs.declared.HeartbeatReceived.the-variants as beats
@@ -78,7 +77,7 @@ module _ (C : Config) (count : ℕ) (few : C .nodes ≤ 64) (counted : count < 6
   abbrev pub N : ℕ
   N = C .nodes
 
-  module _ (p q : ℕ) (few-p : p < N) (drive : List ℕ) where
+  module _ (p q : ℕ) (low-p : p < N) (drive : List ℕ) where
     abbrev a : List ℕ
     a = bus .heartbeats p q 0
 
@@ -106,7 +105,7 @@ module _ (C : Config) (count : ℕ) (few : C .nodes ≤ 64) (counted : count < 6
       low : p < 64
       low = omega arith
 
-      on : (channel : ℕ) (x : List ℕ) → (k : Frame channel x) → SentOn p join count drive low bit counted (k .4) channel x
+      on : (channel : ℕ) (x : List ℕ) → Frame channel x → SentOn p join count drive channel x
       on channel x k = (k .0, k .1, k .2, k .3, sym (some-inj (k .5)))
 
       a-beat : Frame 0 a → (isGood (readHeartbeat p count 1 b) ≡ true → payloadOf a ≡ payloadOf b) → Beat (heardWith join) true
@@ -117,7 +116,7 @@ module _ (C : Config) (count : ℕ) (few : C .nodes ≤ 64) (counted : count < 6
 
       beat-of : (t : Bool) → Came Frame (HeartbeatRefused count p) a b t → Beat (heardWith join) t
       beat-of = came Frame (HeartbeatRefused count p) a b (Beat (heardWith join)) (no-beat (heardWith join))
-          (λ k l. a-beat k (λ g. sent-payload p join count drive low bit counted (k .4) 0 a (on 0 a k) ∙ sym (sent-payload p join count drive low bit counted (l .4) 1 b (on 1 b l))))
+          (λ k l. a-beat k (λ g. sent-payload p join count drive 0 a (on 0 a k) ∙ sym (sent-payload p join count drive 1 b (on 1 b l))))
           (λ k f. a-beat k (λ g. absurd (true≢false (sym g ∙ refused-copy 1 b f)))) b-beat
 
     -- heard is what was sent, with exactly the drive bytes of its sender
@@ -201,7 +200,7 @@ empty-vote N count p channel = (Length, no-vote N p count channel)
 driven-delivers : (drive : ℕ → List ℕ) → ((p : ℕ) → wrongDrive (drive p) ≡ false) → (C : Config) (count : ℕ) (c : Faults) (row : Row)
     → Delivers C count (busWith drive C count c row) c (ruleOne (C .nodes) c row)
 unfolding busWith heartbeatsOf votesOf
-driven-delivers drive even C count c row =
+driven-delivers drive writable C count c row =
     record { drive = λ p l. drive p; beats = λ p q lp lq o. beat p (at r p) (heartbeatReaches c p q); ballots = λ p q lp lq o. ballot p (at r p) (voteReaches c p q) }
   where
     r : Row
@@ -214,9 +213,9 @@ driven-delivers drive even C count c row =
         → Came (HeartbeatSent count p (drive p) s) (HeartbeatRefused count p) (copyIf t (heartbeatSent 0 0 (drive p) count p s 0)) (copyIf t (heartbeatSent 0 0 (drive p) count p s 1)) (sendsHeartbeat s && t)
     beat p (Out z) t = made-none (HeartbeatSent count p (drive p) (Out z)) (HeartbeatRefused count p) (empty-heartbeat count p) t
     beat p Joining t =
-        made (HeartbeatSent count p (drive p) Joining) (HeartbeatRefused count p) (empty-heartbeat count p) (λ channel. heartbeatFrame p 1 0 0 count channel (drive p)) t (λ channel. (0, 0, lit< tt, lit≤ tt, even p, refl))
+        made (HeartbeatSent count p (drive p) Joining) (HeartbeatRefused count p) (empty-heartbeat count p) (λ channel. heartbeatFrame p 1 0 0 count channel (drive p)) t (λ channel. (0, 0, lit< tt, lit≤ tt, writable p, refl))
     beat p (Member g) t =
-        made (HeartbeatSent count p (drive p) (Member g)) (HeartbeatRefused count p) (empty-heartbeat count p) (λ channel. heartbeatFrame p 0 0 0 count channel (drive p)) t (λ channel. (0, 0, lit< tt, lit≤ tt, even p, refl))
+        made (HeartbeatSent count p (drive p) (Member g)) (HeartbeatRefused count p) (empty-heartbeat count p) (λ channel. heartbeatFrame p 0 0 0 count channel (drive p)) t (λ channel. (0, 0, lit< tt, lit≤ tt, writable p, refl))
 
     N : ℕ
     N = C .nodes

@@ -2,7 +2,7 @@
 use mathlib.Core.Path.{_≡_, refl, sym, ap, ap₂, _∙_, subst}
 use mathlib.Core.Logic.{_⊎_, inl, inr}
 use mathlib.Core.Bool.{Bool, true, false, not, _&&_, _||_, cond, false≢true}
-use mathlib.Core.List.{List}
+use mathlib.Core.List.{List, []}
 use mathlib.Core.Option.{Option}
 use Prim.Native.Nat.{ℕ, _≤_, _<_}
 use lib.Dec.{eqb, ltb, lit<}
@@ -23,7 +23,7 @@ use Rattle.rules.specs.declared.Vote.{Vote}
 use Rattle.theorem_formed.proofs.Formed.{FormedRow, rule-one-formed}
 use Rattle.frames.specs.declared.HeartbeatReceived.{HeartbeatReceived}
 use Rattle.frames.specs.declared.HeartbeatReceived.the-variants as beats
-use Rattle.bus_units.specs.Units.{Bus, Copies, heartbeatGot, voteCast, voteGot, received, unitsCycle}
+use Rattle.bus_units.specs.Units.{Bus, Copies, heartbeatGot, driveGot, voteCast, voteGot, received, unitsCycle}
 use Rattle.bus_units.specs.Carried.{Came, on-both, on-a, on-b, on-none, HeartbeatSent, VoteSent, sendsHeartbeat, heartbeatKind, Carries}
 use Rattle.bus_units.specs.Recorded.{Sound, lostOf, missedOf, isHeard, isSome, beatHeard, voteTaken, ruledAt, recordOf, Served, Untouched}
 use Rattle.bus_units.proofs.Follow.{units-follow}
@@ -183,6 +183,24 @@ module _ (C : Config) (count : ℕ) (few : C .nodes ≤ 64) (counted : count < 6
           go false (Out z) = refl
           go false Joining = refl
           go false (Member g) = refl
+
+  -- a unit that hears another finds exactly the drive bytes that the other has, and none of one that it does not hear
+  pub drives-recorded : (sound : Sound C count bus r) (p q : ℕ) (l : p < N) → q < N → eqb p q ≡ false
+      → driveGot count (bus .heartbeats) q p ≡ cond (beatHeard count bus q p) (sound .drive p l) []
+  drives-recorded sound p q lp lq o =
+      let x = sound .beats p q 0 lp lq o (lit< tt) in
+      let y = sound .beats p q 1 lp lq o (lit< tt) in
+      let k = if-sent (sendsHeartbeat (at r p)) (left x || left y) (λ channel z h. beat-speaks count p (sound .drive p lp) channel z (at r p) h) (of-copies x y) in
+      let g = beat-came C count few counted bus c p q lp (sound .drive p lp) (at r p) (left x || left y) k in
+      g .1 ∙ ap (λ (b : Bool). cond b (sound .drive p lp) []) (sym (ap isHeard (g .0) ∙ go (left x || left y) (at r p)))
+    where
+      go : (t : Bool) (s : State) → isHeard (cond t (heartbeatKind s) beats.Missed) ≡ (sendsHeartbeat s && t)
+      go true (Out z) = refl
+      go true Joining = refl
+      go true (Member g) = refl
+      go false (Out z) = refl
+      go false Joining = refl
+      go false (Member g) = refl
 
 -- so that on every such bus the units' cycle is the rules' cycle under that record
 pub units-recorded : (C : Config) (count : ℕ) (bus : Bus) (stop start : ℕ) (row : Row) → C .nodes ≤ 64 → count < 64 → FormedRow (C .nodes) row

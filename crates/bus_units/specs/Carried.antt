@@ -21,7 +21,7 @@ use Rattle.frames.specs.Written.{wrongDrive}
 use Rattle.frames.specs.Read.{readHeartbeat, readVote}
 use Rattle.bus_units.specs.Units.{Copies, Bus, heartbeatSent, heartbeatGot, voteCast, voteSent, voteGot, received}
 
--- ---- a bus that carries a record: what a unit makes of the two copies of another's frame is what was sent if it reaches, and missed if not. r is the row after rule 1
+-- ---- a bus that carries a record, drive bytes left out: what a unit makes of the two copies of another's frame is what was sent if it reaches, and missed if not. r is the row after rule 1
 
 abbrev pub heartbeatKind : State → HeartbeatReceived
 heartbeatKind (Out r) = Missed

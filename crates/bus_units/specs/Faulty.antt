@@ -7,6 +7,7 @@ use Prim.Native.Nat.{ℕ}
 use Rattle.rules.specs.declared.Faults.{Faults}
 use Rattle.rules.specs.declared.Config.{Config}
 use Rattle.rules.specs.Faults.{Row, at, ruleOne, heartbeatReaches, voteReaches}
+use Rattle.frames.specs.Written.{runDrive}
 use Rattle.bus_units.specs.Units.{Copies, Bus, heartbeatSent, voteSent, unitsCycle}
 
 -- the bytes of a frame; none where nothing is sent
@@ -33,9 +34,9 @@ busWith drive C count c row =
     let h = heartbeatsOf drive count c r in
     record { heartbeats = h; votes = votesOf (C .nodes) count c r h }
 
--- Request 2: "A run's heartbeats keep one word."
+-- that of a run
 unfoldable pub busOf : Config → (count : ℕ) → Faults → Row → Bus
-busOf = busWith (λ p. [])
+busOf = busWith (λ p. runDrive)
 
 unfoldable pub framedCycle : Config → (count : ℕ) → Faults → Row → Row
 framedCycle C count c row = unitsCycle C count (busOf C count c row) c row

@@ -7,6 +7,7 @@ use lib.ListN.{length, replicate}
 use Rattle.rules.specs.declared.Faults.{Faults}
 use Rattle.rules.specs.declared.Config.{Config}
 use Rattle.rules.specs.Faults.{Row, at, ruleOne, cycle}
+use Rattle.frames.specs.Written.{runDrive}
 use Rattle.bus_units.specs.Units.{heartbeatSent, voteSent}
 use Rattle.bus_units.specs.Faulty.{present, busOf, framedCycle}
 
@@ -38,7 +39,7 @@ inSlots zero sent = []
 inSlots (suc n) sent = inSlots n sent ++ padded (sent n)
 
 unfoldable pub heartbeatsShown : Config → (count : ℕ) → Faults → Row → (channel : ℕ) → List ℕ
-heartbeatsShown C count c row channel = inSlots 64 (λ q. heartbeatSent 0 0 [] count q (at (ruleOne (C .nodes) c row) q) channel)
+heartbeatsShown C count c row channel = inSlots 64 (λ q. heartbeatSent 0 0 runDrive count q (at (ruleOne (C .nodes) c row) q) channel)
 
 unfoldable pub votesShown : Config → (count : ℕ) → Faults → Row → (channel : ℕ) → List ℕ
 votesShown C count c row channel =

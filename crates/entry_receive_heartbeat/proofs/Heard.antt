@@ -15,7 +15,7 @@ use Rattle.frames.specs.declared.HeartbeatCounted.{HeartbeatCounted}
 use Rattle.frames.specs.declared.Copy.{Copy}
 use Rattle.frames.specs.declared.Copy.the-variants.{Neither, OnA, OnB}
 use Rattle.frames.specs.Read.{faultCode, payloadOf, driveOf, readHeartbeat, isGood, receiveHeartbeat, driveCounted}
-use Rattle.frames.proofs.TwoChannels.{missed, good-length, other-copies, a-counts, b-counts, drive-of-copy}
+use Rattle.frames.proofs.TwoChannels.{missed, Heard, heardWith, good-length, other-copies, a-counts, b-counts, drive-of-copy}
 use Rattle.refusal.proofs.Laws.{none, unless-done, unless-refused}
 use Rattle.entry_lent.specs.Refusals.{wrongCount, wrongNode, wrongCycle, wrongChannel, wrongLength}
 use Rattle.entry_receive_heartbeat.specs.Hearing.{readStatus, heartbeatRefusal, joinOf, readHeartbeatStatus, readHeartbeatJoin, readHeartbeatNumber, readHeartbeatDrive}
@@ -142,3 +142,15 @@ module _ (n q cycle : ℕ) (a b d : List ℕ) (heard number : ℕ) where
   pub differing-missed : receiveHeartbeatStatus n q cycle d ≡ 0 → isGood (readHeartbeat q cycle 0 a) ≡ true → isGood (readHeartbeat q cycle 1 b) ≡ true
       → (payloadOf a ≡ payloadOf b → ⊥) → Receives 0 d 0 0
   differing-missed e ga gb o = missed-untouched e (other-copies q cycle a b ga gb o .0)
+
+  -- a heartbeat that is heard with its drive bytes (as sent on one channel, and on the other refused or with the same payload): these stand at the front, their number is given, and the rest stays
+  pub heard-given : (join : ℕ) (drive : List ℕ) → receiveHeartbeatStatus n q cycle d ≡ 0 → Heard q join cycle drive a b
+      → Receives 0 (atFront drive d) (heardCode (heardWith join)) (length drive)
+  unfolding receiveHeartbeatHeard receiveHeartbeatDrive receiveHeartbeatNumber
+  heard-given join drive z h = (
+    sym z,
+    (
+      ap (λ (x : List ℕ). atFront x d) (sym (h .1)) ∙ sym (unless-done _ _ d z),
+      (ap heardCode (sym (h .0)) ∙ sym (unless-done _ _ heard z), ap length (sym (h .1)) ∙ sym (unless-done _ _ number z)),
+    ),
+  )

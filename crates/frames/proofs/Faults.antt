@@ -141,7 +141,7 @@ module _ (q cycle channel : ℕ) (s : List ℕ) where
   unfolding readVote wordsDue indicatorsOf
   vote-read n o e = ap (λ (x : Option Fault). voteUnless x n q s) e
 
--- no bytes
+-- a copy that is not there is refused with 5
 pub no-heartbeat : (q cycle channel : ℕ) → readHeartbeat q cycle channel [] ≡ beat.Refused Length
 unfolding wrongLength
 no-heartbeat q cycle channel = heartbeat-read q cycle channel [] (some Length) (by-length (q + 1) cycle (wordsDue true []) (indicatorsOf true []) channel [] refl)
@@ -150,7 +150,7 @@ pub no-vote : (n q cycle channel : ℕ) → readVote n q cycle channel [] ≡ vo
 unfolding wrongLength
 no-vote n q cycle channel = vote-read q cycle channel [] n (some Length) (by-length (q + 65) cycle (wordsDue false []) (indicatorsOf false []) channel [] refl)
 
--- how long a frame with none of them is: a vote 36 bytes, a heartbeat 10 at least and an even number
+-- how long a frame with none of them is: a vote 36 bytes, a heartbeat 10 to 262 and an even number
 module _ (number cycle : ℕ) (indicators : Bool) (channel : ℕ) (s : List ℕ) where
   pub vote-length : faultOf number cycle (voteWords s) indicators channel s ≡ none → length s ≡ 36
   vote-length e =

@@ -1,7 +1,7 @@
 -- The payload of a frame, and the drive's part of a heartbeat's. Assumes nothing.
 use mathlib.Core.Path.{_≡_, refl, sym, ap, ap₂, _∙_}
 use mathlib.Core.List.{List, [], _∷_, _++_, append-assoc}
-use mathlib.Core.Bool.{false, _||_}
+use mathlib.Core.Bool.{false}
 use Prim.Native.Nat.{ℕ, zero, suc, _+_, _-_, _*_, _/_, _%_, _^_, _≤_, _<_}
 use native.Mathlib.Omega.{arith}
 use lib.Dec.{eqb, ltb}
@@ -13,7 +13,7 @@ use Rattle.bigendian.specs.BigEndian.{bytesOf}
 use Rattle.crc.specs.Crc.{frameCheck, channelStart}
 use Rattle.frames.specs.Written.{header, frame, heartbeatFrame, wrongDrive}
 use Rattle.frames.specs.Read.{payloadOf, driveOf}
-use Rattle.frames.proofs.Lengths.{length-header, length-frame, length-heartbeat}
+use Rattle.frames.proofs.Lengths.{length-header, length-frame}
 
 -- ---- drive bytes to be written
 
@@ -33,7 +33,7 @@ none-wrong = refl
 
 -- ---- a frame that is written
 
-pub payload-written : (start : ℕ) (h p : List ℕ) → length h ≡ 5 → payloadOf (frame start (h ++ p)) ≡ p
+payload-written : (start : ℕ) (h p : List ℕ) → length h ≡ 5 → payloadOf (frame start (h ++ p)) ≡ p
 unfolding payloadOf frame
 payload-written start h p l =
     let t = bytesOf 3 (frameCheck start (h ++ p)) in
@@ -57,7 +57,7 @@ module _ (s : List ℕ) (l : 10 ≤ length s) where
   room : length s - 8 ≤ length (drop 5 s)
   room = let d = length-drop 5 s in omega arith
 
-  pub length-payload-of : length (payloadOf s) ≡ length s - 8
+  length-payload-of : length (payloadOf s) ≡ length s - 8
   unfolding payloadOf
   length-payload-of = length-take-le (length s - 8) (drop 5 s) room
 

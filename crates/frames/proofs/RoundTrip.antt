@@ -11,7 +11,7 @@ use lib.Dec.{eqb, lit<}
 use lib.ListN.{length, take, drop, getD, length-append, drop-of-length-le}
 use lib.Pow.{pow-pos, pow-mono}
 use lib.Bits.{and-le-r}
-use lib.Seq.{take-at, getD-at, drop-cons}
+use lib.Seq.{take-at, getD-at}
 use borrow.Author.Tests.{eq-eqb, ne-eqb, eqb-false, le-leb, leb-true}
 use Rattle.sets.specs.Sets.{has, subset, below, _∩_}
 use Rattle.sets.proofs.Booleans.{and-l, and-r, eqb-true}
@@ -27,7 +27,7 @@ use Rattle.frames.specs.declared.Fault.{Fault}
 use Rattle.frames.specs.declared.Fault.the-variants.{Content}
 use Rattle.frames.specs.declared.HeartbeatRead.{HeartbeatRead}
 use Rattle.frames.specs.Written.{header, frame, heartbeatFrame, wrongDrive, votePayload, voteFrame, formedVote}
-use Rattle.frames.specs.Read.{syncOf, startupOf, wordsOf, heartbeatWords, voteWords, faultOf, heartbeatIndicators, voteIndicators, driveOf, heartbeatContent, heartbeatUnless, readHeartbeat, payloadVote, voteUnless, readVote}
+use Rattle.frames.specs.Read.{syncOf, startupOf, wordsOf, heartbeatWords, voteWords, faultOf, heartbeatIndicators, voteIndicators, driveOf, heartbeatOf, heartbeatContent, heartbeatUnless, readHeartbeat, payloadVote, voteUnless, readVote}
 use Rattle.frames.proofs.Faults.{Clean, clean, clean-none, vote-length, heartbeat-length, all-five}
 use Rattle.frames.proofs.Lengths.{length-header, length-frame, length-with, length-payload}
 use Rattle.frames.proofs.Payloads.{drive-bounds, drive-good, heartbeat-drive, length-drive, payload-split, payload-rest}
@@ -164,6 +164,7 @@ module _ (start : ℕ) (h : List ℕ) (a : ℕ) (drive : List ℕ) (l : length h
       ap (λ (s : List ℕ). getD s 6 0) e ∙ getD-at (h ++ (a ∷ [])) 0 (drive ++ check) 0 6 (simp (length-append, l))
 
 content-back : (join : ℕ) (s : List ℕ) → join < 2 → getD s 5 0 ≡ join * 2 ^ 7 → getD s 6 0 ≡ 0 → heartbeatContent s ≡ joinAnswer join
+unfolding heartbeatOf
 content-back join s l a b = go (bit2 join l)
   where
     go : (join ≡ 0) ⊎ (join ≡ 1) → heartbeatContent s ≡ joinAnswer join
@@ -225,9 +226,10 @@ join-byte x join lx lj r e = go (bit2 join lj)
     go (inl j) = let z : x ≡ 0 = eqb-true (e ∙ eq-eqb join 0 j) in omega arith
     go (inr j) = let z : x ≡ 0 → ⊥ = eqb-false x 0 (e ∙ ap (λ (y : ℕ). eqb y 0) j) in omega arith
 
--- a heartbeat that is taken: no fault, and the two payload bytes
+-- a heartbeat that is taken: no fault, and the two bytes of the first word
 taken-content : (o : Option Fault) (join : ℕ) (s : List ℕ) → join < 2 → Bytes s → heartbeatUnless o s ≡ joinAnswer join
     → (o ≡ none) × (getD s 5 0 ≡ join * 2 ^ 7) × (getD s 6 0 ≡ 0)
+unfolding heartbeatOf
 taken-content (some f) join s l b e = absurd (not-refused f (eqb join 0) e)
 taken-content none join s l b e =
     let p = picked (eqb (getD s 5 0 % 2 ^ 7) 0) (eqb (getD s 6 0) 0) (eqb (getD s 5 0) 0) (eqb join 0) e in
@@ -260,13 +262,19 @@ heartbeat-only q join cycle channel s l b e =
       taken-frame (q + 1) cycle (heartbeatWords s) (heartbeatIndicators s) channel s b c (h ++ m) v (ap (λ (x : ℕ). (h ++ m) ++ drop x s) k ∙ o),
     )
 
--- with no drive bytes the frame is that of paper 01, one word with the join bit and nothing else; and a frame of one word is read as there, where any other length was refused
+-- with no drive bytes the frame is that of paper 01, one word with the join bit and nothing else; a frame of one word is read as there, where any other length was refused;
+-- and there are then no drive bytes in it
 pub no-drive : (q join sync startup cycle channel : ℕ)
     → (heartbeatFrame q join sync startup cycle channel [] ≡ frame (channelStart channel) (header sync startup (q + 1) 1 cycle ++ (join * 2 ^ 7 ∷ 0 ∷ [])))
     × ((s : List ℕ) → wordsOf s ≡ 1
     → readHeartbeat q cycle channel s ≡ heartbeatUnless (faultOf (q + 1) cycle (eqb (wordsOf s) 1) (heartbeatIndicators s) channel s) s)
+    × ((s : List ℕ) → length s ≡ 10 → driveOf s ≡ [])
 unfolding heartbeatFrame readHeartbeat
-no-drive q join sync startup cycle channel = (refl, λ s e. rw e)
+no-drive q join sync startup cycle channel = (refl, (λ s e. rw e), λ s e. nothing (driveOf s) (let l = length-drive s (omega arith) in omega arith))
+  where
+    nothing : (l : List ℕ) → length l ≡ 0 → l ≡ []
+    nothing [] e = refl
+    nothing (x ∷ xs) e = absurd (omega (arith, e))
 
 -- ---- votes
 

@@ -1,6 +1,6 @@
 -- The two-channel rule of heartbeats: what counts is which copies are good and what payload they have. Assumes nothing.
 use mathlib.Core.Path.{_≡_, refl, sym, ap, ap₂, _∙_}
-use mathlib.Core.Bool.{Bool, true, false, not, _&&_, cond, true≢false}
+use mathlib.Core.Bool.{Bool, true, false, not, cond, true≢false}
 use mathlib.Core.List.{List, [], _∷_}
 use mathlib.Core.Option.{Option, none, some}
 use Prim.Native.Nat.{ℕ, _+_, _*_, _%_, _^_, _≤_, _<_}
@@ -17,8 +17,7 @@ use Rattle.frames.specs.declared.Copy.{Copy}
 use Rattle.frames.specs.declared.Copy.the-variants.{Neither, OnA, OnB}
 use Rattle.frames.specs.declared.HeartbeatCounted.{HeartbeatCounted}
 use Rattle.frames.specs.Written.{heartbeatFrame, wrongDrive}
-use Rattle.frames.specs.Read.{heartbeatWords, heartbeatIndicators, faultOf, payloadOf, driveOf, heartbeatUnless, readHeartbeat, isGood, countedOn, countedOf, samePayload, receiveHeartbeat, driveCounted, driveHeard}
-use Rattle.frames.specs.Looked.{heartbeatOf}
+use Rattle.frames.specs.Read.{heartbeatWords, heartbeatIndicators, faultOf, payloadOf, driveOf, heartbeatOf, heartbeatUnless, readHeartbeat, isGood, countedOn, countedOf, samePayload, receiveHeartbeat, driveCounted, driveHeard}
 use Rattle.frames.proofs.Faults.{heartbeat-length}
 use Rattle.frames.proofs.Payloads.{byte, heartbeat-payload, heartbeat-drive}
 use Rattle.frames.proofs.RoundTrip.{joinAnswer, heartbeat-back}
@@ -29,7 +28,7 @@ missed = record { heard = heard.Missed; copy = Neither }
 
 -- ---- by what was read in the copies, and whether their payloads are equal
 
-pub counted-none : (copy : Copy) (x : HeartbeatRead) → isGood x ≡ false → countedOn copy x ≡ missed
+counted-none : (copy : Copy) (x : HeartbeatRead) → isGood x ≡ false → countedOn copy x ≡ missed
 counted-none copy Alive e = absurd (true≢false e)
 counted-none copy Join e = absurd (true≢false e)
 counted-none copy (Refused f) e = refl
@@ -211,55 +210,56 @@ channels-agree q cycle a b c d on-a on-b = go (isGood (x q cycle a b)) (isGood (
 abbrev pub heardWith : ℕ → HeartbeatReceived
 heardWith join = cond (eqb join 0) heard.Alive heard.Join
 
-module _ (q join cycle : ℕ) (drive : List ℕ) (hq : q < 64) (hj : join < 2) (hc : cycle < 64) (hd : wrongDrive drive ≡ false) where
+module _ (q join cycle : ℕ) (drive : List ℕ) where
   -- the frame on a channel, with any indicators that are allowed
   abbrev pub SentOn : ℕ → List ℕ → Type 0
   SentOn channel s = (sync : ℕ) × (startup : ℕ) × (sync < 2) × (startup ≤ sync) × (s ≡ heartbeatFrame q join sync startup cycle channel drive)
 
-  module _ (channel : ℕ) (s : List ℕ) (k : SentOn channel s) where
-    sent-read : readHeartbeat q cycle channel s ≡ joinAnswer join
-    sent-read = ap (readHeartbeat q cycle channel) (k .4) ∙ heartbeat-back q join (k .0) (k .1) cycle channel drive hq hj (k .2) (k .3) hc hd .0
+  pub sent-payload : (channel : ℕ) (s : List ℕ) → SentOn channel s → payloadOf s ≡ join * 2 ^ 7 ∷ 0 ∷ drive
+  sent-payload channel s k = ap payloadOf (k .4) ∙ heartbeat-payload q join (k .0) (k .1) cycle channel drive
 
-    sent-good : isGood (readHeartbeat q cycle channel s) ≡ true
-    sent-good = ap isGood sent-read ∙ go (eqb join 0)
-      where
-        go : (b : Bool) → isGood (cond b Alive Join) ≡ true
-        go true = refl
-        go false = refl
-
-    pub sent-payload : payloadOf s ≡ join * 2 ^ 7 ∷ 0 ∷ drive
-    sent-payload = ap payloadOf (k .4) ∙ heartbeat-payload q join (k .0) (k .1) cycle channel drive
-
-    sent-drive : driveOf s ≡ drive
-    sent-drive = ap driveOf (k .4) ∙ heartbeat-drive q join (k .0) (k .1) cycle channel drive
+  sent-drive : (channel : ℕ) (s : List ℕ) → SentOn channel s → driveOf s ≡ drive
+  sent-drive channel s k = ap driveOf (k .4) ∙ heartbeat-drive q join (k .0) (k .1) cycle channel drive
 
   -- heard with its join bit, and with exactly its drive bytes
   abbrev pub Heard : (a b : List ℕ) → Type 0
   Heard a b = (receiveHeartbeat q cycle a b .heard ≡ heardWith join) × (driveHeard q cycle a b ≡ drive)
 
-  module _ (a b : List ℕ) where
-    by : (copy : Copy) (s : List ℕ) (x : HeartbeatRead) → x ≡ joinAnswer join → driveOf s ≡ drive → Gives q cycle a b (countedOn copy x) (driveOf s) → Heard a b
-    by copy s x e d g = (ap (λ (z : HeartbeatCounted). z .heard) (g .0) ∙ ap (λ (z : HeartbeatRead). countedOn copy z .heard) e ∙ go (eqb join 0), g .1 ∙ d)
+  by : (a b : List ℕ) (copy : Copy) (s : List ℕ) (x : HeartbeatRead) → x ≡ joinAnswer join → driveOf s ≡ drive → Gives q cycle a b (countedOn copy x) (driveOf s) → Heard a b
+  by a b copy s x e d g = (ap (λ (z : HeartbeatCounted). z .heard) (g .0) ∙ ap (λ (z : HeartbeatRead). countedOn copy z .heard) e ∙ go (eqb join 0), g .1 ∙ d)
+    where
+      go : (z : Bool) → countedOn copy (cond z Alive Join) .heard ≡ cond z heard.Alive heard.Join
+      go true = refl
+      go false = refl
+
+  -- of numbers and drive bytes that can be written
+  module _ (hq : q < 64) (hj : join < 2) (hc : cycle < 64) (hd : wrongDrive drive ≡ false) where
+    sent-read : (channel : ℕ) (s : List ℕ) → SentOn channel s → readHeartbeat q cycle channel s ≡ joinAnswer join
+    sent-read channel s k = ap (readHeartbeat q cycle channel) (k .4) ∙ heartbeat-back q join (k .0) (k .1) cycle channel drive hq hj (k .2) (k .3) hc hd .0
+
+    sent-good : (channel : ℕ) (s : List ℕ) → SentOn channel s → isGood (readHeartbeat q cycle channel s) ≡ true
+    sent-good channel s k = ap isGood (sent-read channel s k) ∙ go (eqb join 0)
       where
-        go : (z : Bool) → countedOn copy (cond z Alive Join) .heard ≡ cond z heard.Alive heard.Join
+        go : (b : Bool) → isGood (cond b Alive Join) ≡ true
         go true = refl
         go false = refl
 
-    -- as sent on one channel, and on the other refused, or good and with the same payload
-    pub sent-on-a : SentOn 0 a → (isGood (readHeartbeat q cycle 1 b) ≡ true → payloadOf a ≡ payloadOf b) → Heard a b
-    sent-on-a k e = by OnA a (readHeartbeat q cycle 0 a) (sent-read 0 a k) (sent-drive 0 a k) (go (isGood (readHeartbeat q cycle 1 b)) refl)
-      where
-        go : (g : Bool) → isGood (readHeartbeat q cycle 1 b) ≡ g → Gives q cycle a b (countedOn OnA (readHeartbeat q cycle 0 a)) (driveOf a)
-        go true g = equal-copies q cycle a b (sent-good 0 a k) g (e g)
-        go false g = only-a-good q cycle a b (sent-good 0 a k) g
+    module _ (a b : List ℕ) where
+      -- as sent on one channel, and on the other refused, or good and with the same payload
+      pub sent-on-a : SentOn 0 a → (isGood (readHeartbeat q cycle 1 b) ≡ true → payloadOf a ≡ payloadOf b) → Heard a b
+      sent-on-a k e = by a b OnA a (readHeartbeat q cycle 0 a) (sent-read 0 a k) (sent-drive 0 a k) (go (isGood (readHeartbeat q cycle 1 b)) refl)
+        where
+          go : (g : Bool) → isGood (readHeartbeat q cycle 1 b) ≡ g → Gives q cycle a b (countedOn OnA (readHeartbeat q cycle 0 a)) (driveOf a)
+          go true g = equal-copies q cycle a b (sent-good 0 a k) g (e g)
+          go false g = only-a-good q cycle a b (sent-good 0 a k) g
 
-    pub sent-on-b : SentOn 1 b → (isGood (readHeartbeat q cycle 0 a) ≡ true → payloadOf a ≡ payloadOf b) → Heard a b
-    sent-on-b k e = go (isGood (readHeartbeat q cycle 0 a)) refl
-      where
-        go : (g : Bool) → isGood (readHeartbeat q cycle 0 a) ≡ g → Heard a b
-        go true g =
-            let p = e g in
-            by OnA a (readHeartbeat q cycle 0 a)
-            (good-content q cycle 0 a g ∙ ap (λ (z : List ℕ). heartbeatOf (getD z 0 0) (getD z 1 0)) p ∙ sym (good-content q cycle 1 b (sent-good 1 b k)) ∙ sent-read 1 b k)
-            (drive-by a b p ∙ sent-drive 1 b k) (equal-copies q cycle a b g (sent-good 1 b k) p)
-        go false g = by OnB b (readHeartbeat q cycle 1 b) (sent-read 1 b k) (sent-drive 1 b k) (only-b-good q cycle a b g (sent-good 1 b k))
+      pub sent-on-b : SentOn 1 b → (isGood (readHeartbeat q cycle 0 a) ≡ true → payloadOf a ≡ payloadOf b) → Heard a b
+      sent-on-b k e = go (isGood (readHeartbeat q cycle 0 a)) refl
+        where
+          go : (g : Bool) → isGood (readHeartbeat q cycle 0 a) ≡ g → Heard a b
+          go true g =
+              let p = e g in
+              by a b OnA a (readHeartbeat q cycle 0 a)
+              (good-content q cycle 0 a g ∙ ap (λ (z : List ℕ). heartbeatOf (getD z 0 0) (getD z 1 0)) p ∙ sym (good-content q cycle 1 b (sent-good 1 b k)) ∙ sent-read 1 b k)
+              (drive-by a b p ∙ sent-drive 1 b k) (equal-copies q cycle a b g (sent-good 1 b k) p)
+          go false g = by a b OnB b (readHeartbeat q cycle 1 b) (sent-read 1 b k) (sent-drive 1 b k) (only-b-good q cycle a b g (sent-good 1 b k))

@@ -1,4 +1,4 @@
--- Paper 01, "Frames" and refusals 5 to 10: heartbeat and vote frames as they are read, and the two-channel rule.
+-- Paper 01, "Frames" and refusals 5 to 10, with request 2 of paper 02: heartbeat and vote frames as they are read, and the two-channel rule.
 -- Assumes nothing.
 --     faultCode: the number of a frame's refusal, 5 to 10
 --     field: k bits of the header
@@ -12,7 +12,8 @@
 --     faultOf: the first refusal of 5 to 9 that holds
 --     payloadOf: what stands between header and frame check
 --     driveOf: the drive's part of a heartbeat's payload
---     heartbeatContent: what the first word of a heartbeat says, or refusal 10
+--     heartbeatOf: what the first word of a heartbeat says, by its two bytes, or refusal 10
+--     heartbeatContent: the same of a frame
 --     heartbeatUnless: the same, unless the frame is refused
 --     readHeartbeat: the heartbeat of node q from one copy
 --     payloadVote: the vote in a payload
@@ -20,7 +21,7 @@
 --     voteUnless: the same, unless the frame is refused
 --     readVote: the vote of node q from one copy
 --     isGood: whether a copy was read and not refused
---     countedOn: what a copy gives that is the only one, or equal to the other
+--     countedOn: what a copy gives that is the only one, or equal to the other; missed where it is refused
 --     countedOf: what two copies give, by what was read in each and whether their payloads are equal
 --     samePayload: whether two copies have equal payloads
 --     receiveHeartbeat, receiveVote: what two copies give
@@ -43,7 +44,6 @@ use Rattle.frames.specs.declared.HeartbeatRead.{HeartbeatRead}
 use Rattle.frames.specs.declared.HeartbeatRead.the-variants as beat
 use Rattle.frames.specs.declared.VoteRead.{VoteRead}
 use Rattle.frames.specs.declared.VoteRead.the-variants as vote
-use Rattle.frames.specs.declared.HeartbeatReceived.{HeartbeatReceived}
 use Rattle.frames.specs.declared.HeartbeatReceived.the-variants as beats
 use Rattle.frames.specs.declared.Copy.{Copy}
 use Rattle.frames.specs.declared.Copy.the-variants.{Neither, OnA, OnB}
@@ -150,8 +150,11 @@ driveOf s = drop 2 (payloadOf s)
 
 -- ---- heartbeats: "bit 7 of the first byte is join, all else 0"; "10: heartbeat bits that must be 0". Request 2: "10 looks at the first word alone"
 
+unfoldable pub heartbeatOf : ℕ → ℕ → HeartbeatRead
+heartbeatOf a b = cond (eqb (a % 2 ^ 7) 0 && eqb b 0) (cond (eqb a 0) beat.Alive beat.Join) (beat.Refused Content)
+
 abbrev pub heartbeatContent : List ℕ → HeartbeatRead
-heartbeatContent s = cond (eqb (getD s 5 0 % 2 ^ 7) 0 && eqb (getD s 6 0) 0) (cond (eqb (getD s 5 0) 0) beat.Alive beat.Join) (beat.Refused Content)
+heartbeatContent s = heartbeatOf (getD s 5 0) (getD s 6 0)
 
 abbrev pub heartbeatUnless : Option Fault → List ℕ → HeartbeatRead
 heartbeatUnless none s = heartbeatContent s

@@ -1,7 +1,7 @@
 -- Paper 01, "Frames": heartbeat and vote frames as they are written.
 -- Assumes nothing.
 use mathlib.Core.Bool.{Bool, _&&_, _||_}
-use mathlib.Core.List.{List, _∷_, _++_}
+use mathlib.Core.List.{List, [], _∷_, _++_}
 use Prim.Native.Nat.{ℕ, _+_, _*_, _/_, _%_, _^_}
 use lib.Dec.{eqb, ltb}
 use lib.ListN.{length}
@@ -25,6 +25,10 @@ frame start s = s ++ bytesOf 3 (frameCheck start s)
 unfoldable pub heartbeatFrame : ℕ → ℕ → ℕ → ℕ → ℕ → ℕ → List ℕ → List ℕ
 heartbeatFrame q join sync startup cycle channel drive =
     frame (channelStart channel) (header sync startup (q + 1) (1 + length drive / 2) cycle ++ (join * 2 ^ 7 ∷ 0 ∷ drive))
+
+-- Request 2: "A run's heartbeats keep one word."
+abbrev pub runDrive : List ℕ
+runDrive = []
 
 -- Request 2: "Drive bytes to be written, if odd in number or above 252, give 3."
 unfoldable pub wrongDrive : List ℕ → Bool

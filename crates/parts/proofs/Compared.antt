@@ -10,7 +10,7 @@ use lib.Seq.{drop-cons}
 use borrow.Author.Tests.{eqb-true, eq-eqb, ne-eqb}
 use Rattle.parts.specs.Compared.{sameBytes}
 
--- the law by which the test is known: it finds equal texts, and no others
+-- the law by which the test is known: it finds equal lists, and no others
 pub equal-same : (t u : List ℕ) → t ≡ u → sameBytes t u ≡ true
 unfolding sameBytes
 equal-same t u e = ap (sameBytes t) (sym e) ∙ go t

@@ -1,4 +1,4 @@
--- What a copy of a whole list into another of its length leaves. Assumes nothing.
+-- What a copy of a whole list into another of its length leaves, or to the front of a longer one. Assumes nothing.
 use mathlib.Core.Path.{_≡_, refl, ap, _∙_}
 use mathlib.Core.List.{List, _++_, append-nil}
 use Prim.Native.Nat.{ℕ, _≤_}

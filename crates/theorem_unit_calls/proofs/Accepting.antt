@@ -57,10 +57,10 @@ module _ (n q : ℕ) (s : State) (place : formedPlace q n ≡ true) (w : formedS
   pub beat-good : (count channel : ℕ) (drive : List ℕ) → count < 64 → channel < 2 → wrongDrive drive ≡ false
       → 0 ≡ sendHeartbeatStatus (imageIn n q s) 0 0 count channel drive (replicate (10 + length drive) 0)
   unfolding sendHeartbeatStatus wrongIndicators first
-  beat-good count channel drive a b even =
+  beat-good count channel drive a b writable =
       let numbers = or-no (wrongIndicators 0 0 || wrongCycle count) (wrongChannel channel) (le-ltb 63 count (omega arith)) (le-ltb 1 channel (omega arith)) in
       let sized = not-long (10 + length drive) (replicate (10 + length drive) 0) (length-replicate {A = ℕ} (10 + length drive) 0) in
-      rw (numbers, even) (none-of-two _ _ 3 4 (or-no _ _ image-size sized) good-image)
+      rw (numbers, writable) (none-of-two _ _ 3 4 (or-no _ _ image-size sized) good-image)
 
   pub vote-good : (count channel : ℕ) → count < 64 → channel < 2 → 0 ≡ sendVoteStatus (imageIn n q s) count channel (replicate 36 0)
   unfolding sendVoteStatus

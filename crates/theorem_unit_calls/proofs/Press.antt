@@ -1,7 +1,7 @@
 -- All units of a press over cycles: their images are those that the rules give. Assumes nothing.
 use mathlib.Core.Path.{_≡_, refl, sym, ap, ap₂, _∙_, subst}
 use mathlib.Core.Logic.{_⊎_, inl, inr}
-use mathlib.Core.Bool.{Bool, true, false, not, _&&_}
+use mathlib.Core.Bool.{Bool, true, false, not, _&&_, cond}
 use mathlib.Core.List.{List, [], _∷_}
 use mathlib.Core.Option.{some}
 use Prim.Native.Nat.{ℕ, _^_, _≤_, _<_}
@@ -28,12 +28,12 @@ use Rattle.rules.proofs.States.{none-some, some-inj}
 use Rattle.theorem_agreement.proofs.Histories.{demand3}
 use Rattle.theorem_formed.proofs.Formed.{FormedRow, rule-one-formed, founding-formed, cycle-formed}
 use Rattle.frames.specs.declared.VoteReceived.the-variants.{Whole}
-use Rattle.bus_units.specs.Units.{Bus, voteCast, voteGot, received, unitDecides, unitsCycle}
+use Rattle.bus_units.specs.Units.{Bus, driveGot, voteCast, voteGot, received, unitDecides, unitsCycle}
 use Rattle.bus_units.specs.Carried.{Came, on-both, on-a, on-b, on-none, HeartbeatSent, HeartbeatRefused, VoteSent, VoteRefused, sendsHeartbeat, Carries, Delivers}
-use Rattle.bus_units.specs.Recorded.{Sound, recordOf}
+use Rattle.bus_units.specs.Recorded.{Sound, beatHeard, recordOf}
 use Rattle.bus_units.proofs.Follow.{units-follow}
 use Rattle.bus_units.proofs.Delivered.{unit-vote-formed, delivers-carries}
-use Rattle.bus_units.proofs.Recorded.{bus-recorded}
+use Rattle.bus_units.proofs.Recorded.{bus-recorded, drives-recorded}
 use Rattle.entry_lent.specs.Refusals.{wrongCount, wrongNode, wrongLength, wrongFounding}
 use Rattle.entry_lent.proofs.Bounds.{count-bounds}
 use Rattle.entry_begin.specs.Begin.{beginStatus}
@@ -188,21 +188,28 @@ module _ (E : Entries) (told : Within E byDefinition) (n : ℕ) (two : 2 ≤ n) 
             }
 
   -- the same under the record that says what came
-  sound-holds : (count stop start : ℕ) (bus : Bus) (x z : ℕ → List ℕ) (row : Row) → FormedRow n row → Holds x row → SoundDone E n count stop start bus x z
-      → Holds z (cycle C (recordOf n count bus stop start row) row)
-  unfolding recordOf
-  sound-holds count stop start bus x z row w e d = carried-holds count c bus x z row w e (bus-recorded C count few (d .counted) bus stop start row w sound) (d .parts)
-    where
-      c : Faults
-      c = recordOf n count bus stop start row
+  module _ (count stop start : ℕ) (bus : Bus) (x z : ℕ → List ℕ) (row : Row) (w : FormedRow n row) (e : Holds x row) (d : SoundDone E n count stop start bus x z) where
+    abbrev came-record : Faults
+    came-record = recordOf n count bus stop start row
 
-      sound : Sound C count bus (ruleOne n c row)
-      sound =
-          record {
-            drive = λ p lp. driveIn (d .parts p lp);
-            beats = λ p q channel lp lq o h. copy-as (part-beats count c bus x z row w e p lp (d .parts p lp) .0 channel h (bus .heartbeats p q channel)) (d .beats p q channel lp lq o h);
-            ballots = λ p q channel lp lq o h. copy-as (part-votes count c bus x z row w e p lp (d .parts p lp) .0 channel h (bus .votes p q channel)) (d .ballots p q channel lp lq o h);
-          }
+    sound-bus : Sound C count bus (ruleOne n came-record row)
+    unfolding recordOf
+    sound-bus =
+        record {
+          drive = λ p lp. driveIn (d .parts p lp);
+          beats = λ p q channel lp lq o h. copy-as (part-beats count came-record bus x z row w e p lp (d .parts p lp) .0 channel h (bus .heartbeats p q channel)) (d .beats p q channel lp lq o h);
+          ballots = λ p q channel lp lq o h. copy-as (part-votes count came-record bus x z row w e p lp (d .parts p lp) .0 channel h (bus .votes p q channel)) (d .ballots p q channel lp lq o h);
+        }
+
+    sound-holds : Holds z (cycle C came-record row)
+    unfolding recordOf
+    sound-holds = carried-holds count came-record bus x z row w e (bus-recorded C count few (d .counted) bus stop start row w sound-bus) (d .parts)
+
+    -- a unit that hears another finds exactly the drive bytes that the other gave with its calls, and none of one that it does not hear
+    pub drives-found : (p q : ℕ) (l : p < n) → q < n → eqb p q ≡ false
+        → driveGot count (bus .heartbeats) q p ≡ cond (beatHeard count bus q p) (driveIn (d .parts p l)) []
+    unfolding sound-bus
+    drives-found p q l lq o = drives-recorded C count few (d .counted) bus stop start row w sound-bus p q l lq o
 
   -- ---- cycles, one after the other
 

@@ -150,7 +150,7 @@ stands frames Refused sent speaks t empty given k = go (sent 0) (sent 1) t (give
     go none none false a b e = by-first false false (given-sends (frames 0) none a) (on-none (empty 0) (empty 1))
 
 -- with any drive bytes that can be written, into a vote buffer of any bytes, with any mask
-module _ (drive : ℕ → List ℕ) (even : (q : ℕ) → wrongDrive (drive q) ≡ false) (n count : ℕ) (two : 2 ≤ n) (few : n ≤ 64) (counted : count < 64) (c : Faults) (row : Row) (formed : FormedRow n row) (buffer : List ℕ)
+module _ (drive : ℕ → List ℕ) (writable : (q : ℕ) → wrongDrive (drive q) ≡ false) (n count : ℕ) (two : 2 ≤ n) (few : n ≤ 64) (counted : count < 64) (c : Faults) (row : Row) (formed : FormedRow n row) (buffer : List ℕ)
     (sized : length buffer ≡ 1792) (mask : ℕ) where
   abbrev C : Config
   C = ofNodes n
@@ -191,7 +191,7 @@ module _ (drive : ℕ → List ℕ) (even : (q : ℕ) → wrongDrive (drive q) �
   now-formed q l = stop-start-formed (has q (c .stop)) (has q (c .start)) n q (at row q) (formed q l)
 
   beat-made : (q : ℕ) → q < n → (channel : ℕ) → channel < 2 → byDefinition .send-heartbeat (imageIn n q (now q)) 0 0 count channel (drive q) (beatFrame q channel)
-  beat-made q l channel k = lift (replicate (10 + length (drive q)) 0, 0, beat-good n q (now q) (placed n q two few l) (now-formed q l) count channel (drive q) counted k (even q), refl, refl)
+  beat-made q l channel k = lift (replicate (10 + length (drive q)) 0, 0, beat-good n q (now q) (placed n q two few l) (now-formed q l) count channel (drive q) counted k (writable q), refl, refl)
 
   vote-made : (q : ℕ) → q < n → (channel : ℕ) → channel < 2 → byDefinition .send-vote (imageIn n q (now q)) (heard isAlive q) (heard isJoin q) count channel (voteFrames q channel)
   vote-made q l channel k = lift (replicate 36 0, 0, vote-good n q (now q) (placed n q two few l) (now-formed q l) count channel counted k, refl, refl)
@@ -290,7 +290,7 @@ pub press-there : (E : Entries) → Within byDefinition E → (n F : ℕ) (cs : 
     → ((k q : ℕ) → wrongDrive (drive k q) ≡ false)
     → (x : ℕ → List ℕ) × (z : ℕ → List ℕ) × Begins E n F x × (k : Pressed E n cs x z) × Lift {0, 1} (Driven drive 1 k)
 unfolding founding
-press-there E had n F cs drive two few some-founder founders even =
+press-there E had n F cs drive two few some-founder founders writable =
     let run = cycles cs 1 (founding n 0 F) (founding-formed n 0 F (lit< tt) founders) in
     ((λ q. imageIn n q (at (founding n 0 F) q)), run .0, began, run .1, run .2)
   where
@@ -305,7 +305,7 @@ press-there E had n F cs drive two few some-founder founders even =
         let rest = cycles cs (suc k) (cycle (ofNodes n) c row) (cycle-formed (ofNodes n) c row w) in
         let counted : cycleCount k < 64 = mod-lt (k - 1) (lit< tt) in
         let empty = length-replicate {A = ℕ} 1792 0 in
-        let done = cycle-there (drive k) (even k) n (cycleCount k) two few counted c row w (replicate 1792 0) empty 0 E had in
+        let done = cycle-there (drive k) (writable k) n (cycleCount k) two few counted c row w (replicate 1792 0) empty 0 E had in
         (rest .0, next (cycleCount k) (busWith (drive k) (ofNodes n) (cycleCount k) c row) (done .0) (rest .1), lift (done .1 .lower, rest .2 .lower))
 
 -- ---- each other way that a part may go can be gone

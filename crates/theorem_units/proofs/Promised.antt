@@ -32,7 +32,7 @@ compiled-there = press-there compiled had
 pub compiled-sound-there : (n F : ℕ) (cs : List Faults) (drive : (k q : ℕ) → List ℕ) → 2 ≤ n → n ≤ 64 → eqb F 0 ≡ false → below n F ≡ F → ((k q : ℕ) → wrongDrive (drive k q) ≡ false)
     → (x : ℕ → List ℕ) × (z : ℕ → List ℕ) × Begins compiled n F x × ((k : Pressed compiled n cs x z) × Lift {0, 1} (Driven drive 1 k))
     × (ds : List Faults) × SameRuleOne cs ds × SoundPressed compiled n (founding n 0 F) ds x z
-compiled-sound-there n F cs drive two few some-founder founders even =
-    let press = compiled-there n F cs drive two few some-founder founders even in
+compiled-sound-there n F cs drive two few some-founder founders writable =
+    let press = compiled-there n F cs drive two few some-founder founders writable in
     let sound = pressed-sound compiled n (founding n 0 F) cs (press .0) (press .1) (press .3) in
     (press .0, press .1, press .2, (press .3, press .4), sound .0, sound .1, sound .2)

@@ -36,8 +36,8 @@ bounds s sync startup cycle channel d f n b w o h =
 fine : (c : tie.Else1) → let a = c .before .before .before .before .before .args in numbersWrong (a .sync) (a .startup) (a .cycle) (a .channel) ≡ false
 fine c = sym (c .before .wrong-sending .ensures) ∙ c .if1 .left
 
-even : (c : tie.Else2) → wrongDrive (now (c .before .before .before .before .before .before .before .args .drive)) ≡ false
-even c = sym (c .before .wrong-drive .ensures) ∙ c .if2 .left
+writable : (c : tie.Else2) → wrongDrive (now (c .before .before .before .before .before .before .before .args .drive)) ≡ false
+writable c = sym (c .before .wrong-drive .ensures) ∙ c .if2 .left
 
 wrong-sending-requires : tie.Need-wrong-sending-requires
 wrong-sending-requires c κs = search needs
@@ -52,7 +52,7 @@ returns-2 : tie.Need-returns-2
 returns-2 c = drive-refused _ _ _ _ _ _ _ _ (fine (c .before .before)) (sym (c .before .wrong-drive .ensures) ∙ c .if2 .taken)
 
 add-lent-node : tie.Need-add-lent-node
-add-lent-node c = let few = drive-bounds _ (even c) .1 in omega arith
+add-lent-node c = let few = drive-bounds _ (writable c) .1 in omega arith
 
 lent-node-requires : tie.Need-lent-node-requires
 lent-node-requires c κs = search needs
@@ -68,7 +68,7 @@ returns-3 c =
     let l = k .before .before in
     let e = l .before in
     let a = e .before .before .before .before .before .before .before .args in
-    by-state _ _ _ _ _ (now (a .drive)) (now (a .frame)) (now (a .sent)) (fine (e .before .before)) (even e) 0 _ _
+    by-state _ _ _ _ _ (now (a .drive)) (now (a .frame)) (now (a .sent)) (fine (e .before .before)) (writable e) 0 _ _
     (sends false (now (a .state)) (10 + length (now (a .drive))) (now (a .frame)) (λ (x : Decoded). heartbeatFrom x (a .sync) (a .startup) (a .cycle) (a .channel) (now (a .drive)) (now (a .frame))) sentOf (now (a .sent)) _ _ _
     (sym (l .lent-node .ensures) ∙ k .n .given .1) (m .send-of .ensures .0) (m .send-of .ensures .1))
 
@@ -78,7 +78,7 @@ returns-4 c =
     let l = k .before .before in
     let e = l .before in
     let a = e .before .before .before .before .before .before .before .args in
-    by-state _ _ _ _ _ (now (a .drive)) (now (a .frame)) (now (a .sent)) (fine (e .before .before)) (even e) _ _ _
+    by-state _ _ _ _ _ (now (a .drive)) (now (a .frame)) (now (a .sent)) (fine (e .before .before)) (writable e) _ _ _
     (sends-none false (now (a .state)) (10 + length (now (a .drive))) (now (a .frame)) (λ (x : Decoded). heartbeatFrom x (a .sync) (a .startup) (a .cycle) (a .channel) (now (a .drive)) (now (a .frame))) sentOf (now (a .sent)) _
     (sym (l .lent-node .ensures) ∙ k .k .given .1))
 
@@ -89,7 +89,7 @@ send-of-requires c κs =
     let e = l .before in
     let s = e .before .before .before .before .before .before in
     let a = s .before .args in
-    bounds (now (a .state)) (a .sync) (a .startup) (a .cycle) (a .channel) (now (a .drive)) (now (a .frame)) _ (λ i. s .shared-slice-known .given i .fits) (fine (e .before .before)) (even e) (sym (l .lent-node .ensures) ∙ k .n .given .1)
+    bounds (now (a .state)) (a .sync) (a .startup) (a .cycle) (a .channel) (now (a .drive)) (now (a .frame)) _ (λ i. s .shared-slice-known .given i .fits) (fine (e .before .before)) (writable e) (sym (l .lent-node .ensures) ∙ k .n .given .1)
 
 enum-known-k : tie.Need-enum-known-k
 enum-known-k c = search needs

@@ -1,6 +1,6 @@
 -- `frame_reading::heartbeat_of` meets its contract. Assumes nothing.
 use borrow.Author.Tests.{eq-eqb, ne-eqb}
-use Rattle.frames.specs.Looked.{heartbeatOf}
+use Rattle.frames.specs.Read.{heartbeatOf}
 use Rattle.frame_reading.proofs.heartbeat_of.Statement.{statement}
 use Rattle.frame_reading.proofs.heartbeat_of.Tie as tie
 

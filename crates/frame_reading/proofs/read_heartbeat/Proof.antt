@@ -12,8 +12,8 @@ use Rattle.frames.specs.declared.Fault.{Fault}
 use Rattle.frames.specs.declared.Looked.{Looked}
 use Rattle.frames.specs.declared.Looked.the-variants.{Due, Refused}
 use Rattle.frames.specs.declared.HeartbeatRead.{HeartbeatRead}
-use Rattle.frames.specs.Read.{readHeartbeat}
-use Rattle.frames.specs.Looked.{looked, wordsDue, indicatorsOf, heartbeatOf}
+use Rattle.frames.specs.Read.{heartbeatOf, readHeartbeat}
+use Rattle.frames.specs.Looked.{looked, wordsDue, indicatorsOf}
 use Rattle.frames.proofs.Faults.{looked-refused, looked-due, heartbeatFault, heartbeat-read, heartbeat-length}
 use Rattle.frame_reading.proofs.read_heartbeat.Statement.{statement}
 use Rattle.frame_reading.proofs.read_heartbeat.Tie as tie
@@ -23,7 +23,6 @@ module _ (q cycle channel : ℕ) (s : List ℕ) {l : Looked} (answer : l ≡ loo
   refused e = sym (heartbeat-read q cycle channel s _ (looked-refused (heartbeatFault q cycle channel s) answer e))
 
   due : {r : HeartbeatRead} → l ≡ Due → r ≡ heartbeatOf (getD s 5 0) (getD s 6 0) → r ≡ readHeartbeat q cycle channel s
-  unfolding heartbeatOf
   due e h = h ∙ sym (heartbeat-read q cycle channel s none (looked-due (heartbeatFault q cycle channel s) answer e))
 
   due-long : l ≡ Due → 8 ≤ length s

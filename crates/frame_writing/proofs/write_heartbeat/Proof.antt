@@ -1,8 +1,7 @@
 -- `frame_writing::write_heartbeat` meets its contract: header, first word and drive bytes are put one after the other, and the check over them last. Assumes nothing.
 use mathlib.Core.Path.{_≡_, sym, ap, ap₂, _∙_}
-use mathlib.Core.Bool.{false}
 use mathlib.Core.List.{List, [], _∷_, _++_}
-use Prim.Native.Nat.{ℕ, _+_, _*_, _/_, _^_, _≤_}
+use Prim.Native.Nat.{ℕ, _+_, _*_, _/_, _≤_}
 use native.Mathlib.Omega.{arith}
 use lib.ListN.{length, take}
 use lib.Seq.{length-take-le}
@@ -11,7 +10,7 @@ use Rattle.bigendian.proofs.Laws.{length-bytes}
 use Rattle.crc.specs.Crc.{frameCheck, channelStart}
 use Rattle.parts.specs.Parts.{withPart}
 use Rattle.parts.proofs.Laws.{part-length, part-next}
-use Rattle.frames.specs.Written.{header, frame, heartbeatFrame, wrongDrive}
+use Rattle.frames.specs.Written.{header, frame, heartbeatFrame}
 use Rattle.frames.proofs.Lengths.{length-header}
 use Rattle.frames.proofs.Payloads.{drive-bounds}
 use Rattle.frame_writing.proofs.Framed.{framed}

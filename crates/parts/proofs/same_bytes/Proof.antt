@@ -10,10 +10,10 @@ use Rattle.parts.proofs.same_bytes.Statement.{statement}
 use Rattle.parts.proofs.same_bytes.Tie as tie
 
 abbrev Inv-loop : tie.InvT-loop
-Inv-loop s word i₀ i = (i ≤ length s) × (sameBytes s word ≡ sameBytes (drop i s) (drop i word))
+Inv-loop s t i₀ i = (i ≤ length s) × (sameBytes s t ≡ sameBytes (drop i s) (drop i t))
 
 abbrev μ-loop : tie.MeasureT-loop
-μ-loop s word i₀ i = length s - i
+μ-loop s t i₀ i = length s - i
 
 returns : tie.Need-returns Inv-loop μ-loop
 returns c = let a = c .before .args in sym (other-length (now (a .s)) (now (a .t)) (λ e. omega (arith, e, c .if1 .taken)))
