@@ -9,11 +9,11 @@ use lib.ListN.{length, take, drop, getD, length-append, length-drop, take-append
 use lib.Seq.{length-take-le, take-at, drop-at, drop-cons, drop-drop, getD-take, getD-drop}
 use borrow.Author.Tests.{eqb-false, ne-eqb, ltb-false, le-ltb}
 use Rattle.sets.proofs.Booleans.{or-f-l, or-f-r}
-use Rattle.bigendian.specs.BigEndian.{bytesOf}
-use Rattle.crc.specs.Crc.{frameCheck, channelStart}
+use Rattle.bigendian.proofs.Laws.{length-bytes}
+use Rattle.crc.specs.Crc.{channelStart}
 use Rattle.frames.specs.Written.{header, frame, heartbeatFrame, wrongDrive}
 use Rattle.frames.specs.Read.{payloadOf, driveOf}
-use Rattle.frames.proofs.Lengths.{length-header, length-frame}
+use Rattle.frames.proofs.Lengths.{length-header}
 
 -- ---- drive bytes to be written
 
@@ -33,14 +33,18 @@ none-wrong = refl
 
 -- ---- a frame that is written
 
-payload-written : (start : ℕ) (h p : List ℕ) → length h ≡ 5 → payloadOf (frame start (h ++ p)) ≡ p
-unfolding payloadOf frame
-payload-written start h p l =
-    let t = bytesOf 3 (frameCheck start (h ++ p)) in
-    let w : length ((h ++ p) ++ t) ≡ length (h ++ p) + 3 = length-frame start (h ++ p) in
+-- between five bytes and three
+between : (h p t : List ℕ) → length h ≡ 5 → length t ≡ 3 → payloadOf ((h ++ p) ++ t) ≡ p
+unfolding payloadOf
+between h p t l m =
+    let w : length ((h ++ p) ++ t) ≡ length (h ++ p) + length t = length-append (h ++ p) t in
     let n : length (h ++ p) ≡ length h + length p = length-append h p in
     let k : length p ≡ length ((h ++ p) ++ t) - 8 = omega arith in
     ap (take (length ((h ++ p) ++ t) - 8)) (ap (drop 5) (append-assoc h p t) ∙ drop-at h (p ++ t) 5 l) ∙ take-at p t (length ((h ++ p) ++ t) - 8) k
+
+payload-written : (start : ℕ) (h p : List ℕ) → length h ≡ 5 → payloadOf (frame start (h ++ p)) ≡ p
+unfolding frame
+payload-written start h p l = between h p _ l (length-bytes 3 _)
 
 module _ (q join sync startup cycle channel : ℕ) (drive : List ℕ) where
   pub heartbeat-payload : payloadOf (heartbeatFrame q join sync startup cycle channel drive) ≡ join * 2 ^ 7 ∷ 0 ∷ drive

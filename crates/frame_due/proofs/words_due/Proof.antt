@@ -1,7 +1,7 @@
--- `frame_checks::words_due` meets its contract. Assumes nothing.
+-- `frame_due::words_due` meets its contract. Assumes nothing.
 use Rattle.frames.specs.Looked.{wordsDue}
-use Rattle.frame_checks.proofs.words_due.Statement.{statement}
-use Rattle.frame_checks.proofs.words_due.Tie as tie
+use Rattle.frame_due.proofs.words_due.Statement.{statement}
+use Rattle.frame_due.proofs.words_due.Tie as tie
 
 returns : tie.Need-returns
 unfolding wordsDue

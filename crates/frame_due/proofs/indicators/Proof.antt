@@ -1,8 +1,8 @@
--- `frame_checks::indicators` meets its contract. Assumes nothing.
+-- `frame_due::indicators` meets its contract. Assumes nothing.
 use borrow.Author.Tests.{eq-eqb, ne-eqb}
 use Rattle.frames.specs.Looked.{indicatorsOf}
-use Rattle.frame_checks.proofs.indicators.Statement.{statement}
-use Rattle.frame_checks.proofs.indicators.Tie as tie
+use Rattle.frame_due.proofs.indicators.Statement.{statement}
+use Rattle.frame_due.proofs.indicators.Tie as tie
 
 returns : tie.Need-returns
 unfolding indicatorsOf

@@ -1,11 +1,11 @@
--- `frame_checks::is_due` meets its contract: each test is one of `isDue`. Assumes nothing.
+-- `frame_due::is_due` meets its contract: each test is one of `isDue`. Assumes nothing.
 use mathlib.Core.Path.{sym, _∙_}
 use native.Mathlib.Nat.{div-one}
 use borrow.Author.Tests.{eq-eqb, ne-eqb, not-true, not-false}
 use borrow.Author.Needs.{needs}
 use Rattle.frames.specs.Read.{isDue}
-use Rattle.frame_checks.proofs.is_due.Statement.{statement}
-use Rattle.frame_checks.proofs.is_due.Tie as tie
+use Rattle.frame_due.proofs.is_due.Statement.{statement}
+use Rattle.frame_due.proofs.is_due.Tie as tie
 
 returns : tie.Need-returns
 unfolding isDue

@@ -1,4 +1,4 @@
--- `frame_checks::null_or_due` meets its contract. Assumes nothing.
+-- `frame_due::null_or_due` meets its contract. Assumes nothing.
 use mathlib.Core.Path.{_≡_, sym, _∙_}
 use mathlib.Core.Bool.{Bool, true, false, not}
 use Prim.Native.Nat.{_/_, _%_}
@@ -7,8 +7,8 @@ use borrow.Author.Tests.{not-true, not-false}
 use borrow.Author.Needs.{needs}
 use Rattle.frames.specs.Read.{isNull}
 use Rattle.frames.specs.Looked.{dueFault}
-use Rattle.frame_checks.proofs.null_or_due.Statement.{statement}
-use Rattle.frame_checks.proofs.null_or_due.Tie as tie
+use Rattle.frame_due.proofs.null_or_due.Statement.{statement}
+use Rattle.frame_due.proofs.null_or_due.Tie as tie
 
 twice : (b : Bool) {t : Bool} → not (not b) ≡ t → b ≡ t
 twice true e = e
