@@ -75,13 +75,13 @@ option = $(findstring $1,$(filter-out -%,$(firstword $(MAKEFLAGS))))
 # all tests, then everything proved from nothing and every wrong edit tried; the last line is 'N passed, 0 failed'
 test:
 	@$(if $(call option,i),$(error make test ends with the first test that fails: run it without -i))\
-	    $(call needs,rt cargo gcc g++ git script)echo "make test: 17 to 25 minutes on two idle cores" >&2
+	    $(call needs,rt cargo gcc g++ git script)echo "make test: 17 to 29 minutes on two idle cores" >&2
 	@tools/evidence.sh begin
 	@$(MAKE) --no-print-directory --silent $(FIRST_TESTS) archive
 	@$(MAKE) --no-print-directory -j2 --output-sync $(BUILT_TESTS)
 	@$(MAKE) --no-print-directory -j2 --output-sync $(LONG_TESTS) | $(if $(call option,n),cat,tee log/compared.log)
 	@tools/evidence.sh passed "$(FIRST_TESTS) $(BUILT_TESTS) $(LONG_TESTS)" $(ARCHIVE) $(HEADERS) $(PROGRAMS)
-	@tools/kit.sh gate "13 to 20 minutes on two idle cores" ci
+	@tools/kit.sh gate "13 to 23 minutes on two idle cores" ci
 
 # one text, evidence.txt, for the record of a delivery: kit, commit, sums, and what the last `make test` tested, proved, refused and compared
 evidence: $(if $(wildcard log/gate.log),$(ARCHIVE) $(PROGRAMS))
