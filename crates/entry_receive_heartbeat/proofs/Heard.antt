@@ -18,8 +18,8 @@ use Rattle.frames.specs.Read.{faultCode, payloadOf, driveOf, readHeartbeat, isG
 use Rattle.frames.proofs.TwoChannels.{missed, Heard, heardWith, good-length, other-copies, a-counts, b-counts, drive-of-copy}
 use Rattle.refusal.proofs.Laws.{none, unless-done, unless-refused}
 use Rattle.entry_lent.specs.Refusals.{wrongCount, wrongNode, wrongCycle, wrongChannel, wrongLength}
-use Rattle.entry_receive_heartbeat.specs.Hearing.{readStatus, heartbeatRefusal, joinOf, readHeartbeatStatus, readHeartbeatJoin, readHeartbeatNumber, readHeartbeatDrive}
-use Rattle.entry_receive_heartbeat.specs.Hearing.{heardCode, receiveHeartbeatStatus, receiveHeartbeatHeard, receiveHeartbeatNumber, receiveHeartbeatDrive}
+use Rattle.entry_receive_heartbeat.specs.Hearing.{readStatus, heartbeatRefusal, joinOf, readHeartbeatStatus, readHeartbeatJoin, readHeartbeatDriveBytes, readHeartbeatDrive}
+use Rattle.entry_receive_heartbeat.specs.Hearing.{heardCode, receiveHeartbeatStatus, receiveHeartbeatHeard, receiveHeartbeatDriveBytes, receiveHeartbeatDrive}
 use Rattle.entry_lent.proofs.Bounds.{count-bounds, slot-bounds, length-is}
 
 -- ---- read from one channel
@@ -54,10 +54,10 @@ module _ (n q cycle channel : ℕ) (d : List ℕ) where
     Reads r left bit bytes =
         (r ≡ readHeartbeatStatus n q cycle channel f d)
         × ((left ≡ readHeartbeatDrive n q cycle channel f d)
-        × ((bit ≡ readHeartbeatJoin n q cycle channel f d join) × (bytes ≡ readHeartbeatNumber n q cycle channel f d number)))
+        × ((bit ≡ readHeartbeatJoin n q cycle channel f d join) × (bytes ≡ readHeartbeatDriveBytes n q cycle channel f d number)))
 
     kept : (r : ℕ) → r ≡ readHeartbeatStatus n q cycle channel f d → (r ≡ 0 → ⊥) → Reads r d join number
-    unfolding readHeartbeatDrive readHeartbeatJoin readHeartbeatNumber
+    unfolding readHeartbeatDrive readHeartbeatJoin readHeartbeatDriveBytes
     kept r e h =
         let never : readHeartbeatStatus n q cycle channel f d ≡ 0 → ⊥ = λ z. h (e ∙ z) in
         (e, (sym (unless-refused _ _ d never), (sym (unless-refused _ _ join never), sym (unless-refused _ _ number never))))
@@ -77,7 +77,7 @@ module _ (n q cycle channel : ℕ) (d : List ℕ) where
 
       pub read-good : (x : HeartbeatRead) (left : List ℕ) (bytes : ℕ) → readHeartbeat q cycle channel f ≡ x → isGood x ≡ true → left ≡ atFront (driveOf f) d
           → bytes ≡ length (driveOf f) → Reads 0 left (joinOf x) bytes
-      unfolding readHeartbeatDrive readHeartbeatJoin readHeartbeatNumber
+      unfolding readHeartbeatDrive readHeartbeatJoin readHeartbeatDriveBytes
       read-good x left bytes g good el eb =
           let z : 0 ≡ readHeartbeatStatus n q cycle channel f d = done x good ∙ status x g in (
             z,
@@ -102,13 +102,13 @@ module _ (n q cycle : ℕ) (a b d : List ℕ) (heard number : ℕ) where
   Receives r left code bytes =
       (r ≡ receiveHeartbeatStatus n q cycle d)
       × ((left ≡ receiveHeartbeatDrive n q cycle a b d)
-      × ((code ≡ receiveHeartbeatHeard n q cycle a b d heard) × (bytes ≡ receiveHeartbeatNumber n q cycle a b d number)))
+      × ((code ≡ receiveHeartbeatHeard n q cycle a b d heard) × (bytes ≡ receiveHeartbeatDriveBytes n q cycle a b d number)))
 
   copy-is : (r : HeartbeatCounted) → r ≡ receiveHeartbeat q cycle a b → (copy : Copy) → r .copy ≡ copy → receiveHeartbeat q cycle a b .copy ≡ copy
   copy-is r g copy k = ap (λ (x : HeartbeatCounted). x .copy) (sym g) ∙ k
 
   pub receive-refused : (k : ℕ) → k ≡ readStatus n q cycle 0 d → (k ≡ 0 → ⊥) → Receives k d heard number
-  unfolding receiveHeartbeatHeard receiveHeartbeatDrive receiveHeartbeatNumber
+  unfolding receiveHeartbeatHeard receiveHeartbeatDrive receiveHeartbeatDriveBytes
   receive-refused k e h =
       let r = e ∙ receive-status n q cycle d in
       let never : receiveHeartbeatStatus n q cycle d ≡ 0 → ⊥ = λ z. h (r ∙ z) in
@@ -123,7 +123,7 @@ module _ (n q cycle : ℕ) (a b d : List ℕ) (heard number : ℕ) where
 
   pub receive-copies : (r : HeartbeatCounted) (copy : Copy) (left : List ℕ) (code bytes : ℕ) → readStatus n q cycle 0 d ≡ 0 → r ≡ receiveHeartbeat q cycle a b
       → code ≡ heardCode (r .heard) → r .copy ≡ copy → left ≡ atFront (driveCounted copy a b) d → bytes ≡ length (driveCounted copy a b) → Receives 0 left code bytes
-  unfolding receiveHeartbeatHeard receiveHeartbeatDrive receiveHeartbeatNumber
+  unfolding receiveHeartbeatHeard receiveHeartbeatDrive receiveHeartbeatDriveBytes
   receive-copies r copy left code bytes e g c k el eb =
       let z = sym (receive-status n q cycle d) ∙ e in
       let h = drive-of-copy q cycle a b copy (copy-is r g copy k) in (
@@ -146,7 +146,7 @@ module _ (n q cycle : ℕ) (a b d : List ℕ) (heard number : ℕ) where
   -- a heartbeat that is heard with its drive bytes (as sent on one channel, and on the other refused or with the same payload): these stand at the front, their number is given, and the rest stays
   pub heard-given : (join : ℕ) (drive : List ℕ) → receiveHeartbeatStatus n q cycle d ≡ 0 → Heard q join cycle drive a b
       → Receives 0 (atFront drive d) (heardCode (heardWith join)) (length drive)
-  unfolding receiveHeartbeatHeard receiveHeartbeatDrive receiveHeartbeatNumber
+  unfolding receiveHeartbeatHeard receiveHeartbeatDrive receiveHeartbeatDriveBytes
   heard-given join drive z h = (
     sym z,
     (

@@ -41,8 +41,8 @@ readHeartbeatStatus n q cycle channel f d =
 unfoldable pub readHeartbeatJoin : ℕ → ℕ → ℕ → ℕ → List ℕ → List ℕ → ℕ → ℕ
 readHeartbeatJoin n q cycle channel f d join = unless (readHeartbeatStatus n q cycle channel f d) (joinOf (readHeartbeat q cycle channel f)) join
 
-unfoldable pub readHeartbeatNumber : ℕ → ℕ → ℕ → ℕ → List ℕ → List ℕ → ℕ → ℕ
-readHeartbeatNumber n q cycle channel f d number = unless (readHeartbeatStatus n q cycle channel f d) (length (driveOf f)) number
+unfoldable pub readHeartbeatDriveBytes : ℕ → ℕ → ℕ → ℕ → List ℕ → List ℕ → ℕ → ℕ
+readHeartbeatDriveBytes n q cycle channel f d bytes = unless (readHeartbeatStatus n q cycle channel f d) (length (driveOf f)) bytes
 
 unfoldable pub readHeartbeatDrive : ℕ → ℕ → ℕ → ℕ → List ℕ → List ℕ → List ℕ
 readHeartbeatDrive n q cycle channel f d = unless (readHeartbeatStatus n q cycle channel f d) (atFront (driveOf f) d) d
@@ -60,8 +60,8 @@ receiveHeartbeatStatus n q cycle d = first (when (wrongCount n) 1 ∷ when (wron
 unfoldable pub receiveHeartbeatHeard : ℕ → ℕ → ℕ → List ℕ → List ℕ → List ℕ → ℕ → ℕ
 receiveHeartbeatHeard n q cycle a b d heard = unless (receiveHeartbeatStatus n q cycle d) (heardCode (receiveHeartbeat q cycle a b .heard)) heard
 
-unfoldable pub receiveHeartbeatNumber : ℕ → ℕ → ℕ → List ℕ → List ℕ → List ℕ → ℕ → ℕ
-receiveHeartbeatNumber n q cycle a b d number = unless (receiveHeartbeatStatus n q cycle d) (length (driveHeard q cycle a b)) number
+unfoldable pub receiveHeartbeatDriveBytes : ℕ → ℕ → ℕ → List ℕ → List ℕ → List ℕ → ℕ → ℕ
+receiveHeartbeatDriveBytes n q cycle a b d bytes = unless (receiveHeartbeatStatus n q cycle d) (length (driveHeard q cycle a b)) bytes
 
 unfoldable pub receiveHeartbeatDrive : ℕ → ℕ → ℕ → List ℕ → List ℕ → List ℕ → List ℕ
 receiveHeartbeatDrive n q cycle a b d = unless (receiveHeartbeatStatus n q cycle d) (atFront (driveHeard q cycle a b) d) d

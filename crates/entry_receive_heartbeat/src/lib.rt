@@ -1,7 +1,7 @@
 // Heartbeats that come in: read from one channel, received on both.
 ghost use mathlib.Core.Path.{_≡_};
-ghost use Rattle.entry_receive_heartbeat.specs.Hearing.{readStatus, readHeartbeatStatus, readHeartbeatJoin, readHeartbeatNumber, readHeartbeatDrive};
-ghost use Rattle.entry_receive_heartbeat.specs.Hearing.{heardCode, receiveHeartbeatStatus, receiveHeartbeatHeard, receiveHeartbeatNumber, receiveHeartbeatDrive};
+ghost use Rattle.entry_receive_heartbeat.specs.Hearing.{readStatus, readHeartbeatStatus, readHeartbeatJoin, readHeartbeatDriveBytes, readHeartbeatDrive};
+ghost use Rattle.entry_receive_heartbeat.specs.Hearing.{heardCode, receiveHeartbeatStatus, receiveHeartbeatHeard, receiveHeartbeatDriveBytes, receiveHeartbeatDrive};
 use entry_lent::wrong_count;
 use entry_lent::wrong_slot;
 use frames::Copy;
@@ -32,12 +32,12 @@ pub fn read(
     frame: &[u8],
     drive: &mut [u8],
     join: &mut u32,
-    number: &mut u32,
+    drive_bytes: &mut u32,
 ) -> u32
     ensures { λ r. ⌜ r ≡ readHeartbeatStatus n node cycle channel (now (frame .entry)) (now (drive .entry)) ⌝ }
     ensures { λ _. ⌜ now (drive .exit) ≡ readHeartbeatDrive n node cycle channel (now (frame .entry)) (now (drive .entry)) ⌝ }
     ensures { λ _. ⌜ now (join .exit) ≡ readHeartbeatJoin n node cycle channel (now (frame .entry)) (now (drive .entry)) (now (join .entry)) ⌝ }
-    ensures { λ _. ⌜ now (number .exit) ≡ readHeartbeatNumber n node cycle channel (now (frame .entry)) (now (drive .entry)) (now (number .entry)) ⌝ }
+    ensures { λ _. ⌜ now («drive_bytes» .exit) ≡ readHeartbeatDriveBytes n node cycle channel (now (frame .entry)) (now (drive .entry)) (now («drive_bytes» .entry)) ⌝ }
 {
     let status = read_refusal(n, node, cycle, channel, drive);
     if status != 0 {
@@ -46,12 +46,12 @@ pub fn read(
     match frame_reading::read_heartbeat(node, cycle, channel, frame) {
         HeartbeatRead::Alive => {
             *join = 0;
-            *number = frame_reading::put_drive(frame, drive);
+            *drive_bytes = frame_reading::put_drive(frame, drive);
             0
         }
         HeartbeatRead::Join => {
             *join = 1;
-            *number = frame_reading::put_drive(frame, drive);
+            *drive_bytes = frame_reading::put_drive(frame, drive);
             0
         }
         HeartbeatRead::Refused(f) => frame_reading::fault_code(f),
@@ -77,12 +77,12 @@ pub fn receive(
     b: &[u8],
     drive: &mut [u8],
     heard: &mut u32,
-    number: &mut u32,
+    drive_bytes: &mut u32,
 ) -> u32
     ensures { λ r. ⌜ r ≡ receiveHeartbeatStatus n node cycle (now (drive .entry)) ⌝ }
     ensures { λ _. ⌜ now (drive .exit) ≡ receiveHeartbeatDrive n node cycle (now (a .entry)) (now (b .entry)) (now (drive .entry)) ⌝ }
     ensures { λ _. ⌜ now (heard .exit) ≡ receiveHeartbeatHeard n node cycle (now (a .entry)) (now (b .entry)) (now (drive .entry)) (now (heard .entry)) ⌝ }
-    ensures { λ _. ⌜ now (number .exit) ≡ receiveHeartbeatNumber n node cycle (now (a .entry)) (now (b .entry)) (now (drive .entry)) (now (number .entry)) ⌝ }
+    ensures { λ _. ⌜ now («drive_bytes» .exit) ≡ receiveHeartbeatDriveBytes n node cycle (now (a .entry)) (now (b .entry)) (now (drive .entry)) (now («drive_bytes» .entry)) ⌝ }
 {
     let status = read_refusal(n, node, cycle, 0, drive);
     if status != 0 {
@@ -94,15 +94,15 @@ pub fn receive(
     let copy = counted.copy;
     match copy {
         Copy::Neither => {
-            *number = 0;
+            *drive_bytes = 0;
             0
         }
         Copy::OnA => {
-            *number = frame_reading::put_drive(a, drive);
+            *drive_bytes = frame_reading::put_drive(a, drive);
             0
         }
         Copy::OnB => {
-            *number = frame_reading::put_drive(b, drive);
+            *drive_bytes = frame_reading::put_drive(b, drive);
             0
         }
     }

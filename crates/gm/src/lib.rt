@@ -9,8 +9,8 @@ ghost use Rattle.entry_state.specs.Apart.{kindLeft, reasonLeft, nodeLeft, count
 ghost use Rattle.entry_begin.specs.Begin.{beginStatus, beginLeft};
 ghost use Rattle.entry_write_heartbeat.specs.Heartbeats.{writeHeartbeatStatus, writeHeartbeatLeft};
 ghost use Rattle.entry_send_heartbeat.specs.Beating.{sendHeartbeatStatus, sendHeartbeatLeft, sendHeartbeatSent};
-ghost use Rattle.entry_receive_heartbeat.specs.Hearing.{readHeartbeatStatus, readHeartbeatJoin, readHeartbeatNumber, readHeartbeatDrive};
-ghost use Rattle.entry_receive_heartbeat.specs.Hearing.{receiveHeartbeatStatus, receiveHeartbeatHeard, receiveHeartbeatNumber, receiveHeartbeatDrive};
+ghost use Rattle.entry_receive_heartbeat.specs.Hearing.{readHeartbeatStatus, readHeartbeatJoin, readHeartbeatDriveBytes, readHeartbeatDrive};
+ghost use Rattle.entry_receive_heartbeat.specs.Hearing.{receiveHeartbeatStatus, receiveHeartbeatHeard, receiveHeartbeatDriveBytes, receiveHeartbeatDrive};
 ghost use Rattle.entry_write_vote.specs.Votes.{voteOf, writeVoteStatus, writeVoteLeft};
 ghost use Rattle.entry_send_vote.specs.Voting.{viewFrom, sendVoteStatus, sendVoteLeft, sendVoteSent};
 ghost use Rattle.entry_receive_vote.specs.Arrivals.{readVoteStatus, readVoteLeft, receiveVoteStatus, receiveVoteLeft, receiveVoteArrived};
@@ -118,14 +118,14 @@ pub extern "C" fn gm_read_heartbeat(
     frame: &[u8],
     drive: &mut [u8],
     join: &mut u32,
-    number: &mut u32,
+    drive_bytes: &mut u32,
 ) -> u32
     ensures { λ r. ⌜ r ≡ readHeartbeatStatus n node cycle channel (now (frame .entry)) (now (drive .entry)) ⌝ }
     ensures { λ _. ⌜ now (drive .exit) ≡ readHeartbeatDrive n node cycle channel (now (frame .entry)) (now (drive .entry)) ⌝ }
     ensures { λ _. ⌜ now (join .exit) ≡ readHeartbeatJoin n node cycle channel (now (frame .entry)) (now (drive .entry)) (now (join .entry)) ⌝ }
-    ensures { λ _. ⌜ now (number .exit) ≡ readHeartbeatNumber n node cycle channel (now (frame .entry)) (now (drive .entry)) (now (number .entry)) ⌝ }
+    ensures { λ _. ⌜ now («drive_bytes» .exit) ≡ readHeartbeatDriveBytes n node cycle channel (now (frame .entry)) (now (drive .entry)) (now («drive_bytes» .entry)) ⌝ }
 {
-    entry_receive_heartbeat::read(n, node, cycle, channel, frame, drive, join, number)
+    entry_receive_heartbeat::read(n, node, cycle, channel, frame, drive, join, drive_bytes)
 }
 
 // Both copies of a node's heartbeat: missed, a member's or a joining node's, and its drive bytes.
@@ -138,14 +138,14 @@ pub extern "C" fn gm_receive_heartbeat(
     b: &[u8],
     drive: &mut [u8],
     heard: &mut u32,
-    number: &mut u32,
+    drive_bytes: &mut u32,
 ) -> u32
     ensures { λ r. ⌜ r ≡ receiveHeartbeatStatus n node cycle (now (drive .entry)) ⌝ }
     ensures { λ _. ⌜ now (drive .exit) ≡ receiveHeartbeatDrive n node cycle (now (a .entry)) (now (b .entry)) (now (drive .entry)) ⌝ }
     ensures { λ _. ⌜ now (heard .exit) ≡ receiveHeartbeatHeard n node cycle (now (a .entry)) (now (b .entry)) (now (drive .entry)) (now (heard .entry)) ⌝ }
-    ensures { λ _. ⌜ now (number .exit) ≡ receiveHeartbeatNumber n node cycle (now (a .entry)) (now (b .entry)) (now (drive .entry)) (now (number .entry)) ⌝ }
+    ensures { λ _. ⌜ now («drive_bytes» .exit) ≡ receiveHeartbeatDriveBytes n node cycle (now (a .entry)) (now (b .entry)) (now (drive .entry)) (now («drive_bytes» .entry)) ⌝ }
 {
-    entry_receive_heartbeat::receive(n, node, cycle, a, b, drive, heard, number)
+    entry_receive_heartbeat::receive(n, node, cycle, a, b, drive, heard, drive_bytes)
 }
 
 // Rule 3: the view of a node, 0 if it is no member.

@@ -11,7 +11,7 @@ use Rattle.entry_stop_start.proofs.Answers as ruled
 use Rattle.entry_state.proofs.Whole as apart
 use Rattle.entry_write_heartbeat.specs.Heartbeats.{writeHeartbeatLeft}
 use Rattle.entry_send_heartbeat.specs.Beating.{sendHeartbeatLeft, sendHeartbeatSent}
-use Rattle.entry_receive_heartbeat.specs.Hearing.{readHeartbeatDrive, readHeartbeatJoin, readHeartbeatNumber, receiveHeartbeatDrive, receiveHeartbeatHeard, receiveHeartbeatNumber}
+use Rattle.entry_receive_heartbeat.specs.Hearing.{readHeartbeatDrive, readHeartbeatJoin, readHeartbeatDriveBytes, receiveHeartbeatDrive, receiveHeartbeatHeard, receiveHeartbeatDriveBytes}
 use Rattle.entry_write_vote.specs.Votes.{writeVoteLeft}
 use Rattle.entry_send_vote.specs.Voting.{sendVoteLeft, sendVoteSent}
 use Rattle.entry_send_vote.proofs.Kept as viewed
@@ -60,7 +60,7 @@ told : {A : Type 0} {r k : ℕ} {after left before : A} → r ≡ k → after �
 told e l law h = l ∙ law (λ z. h (e ∙ z))
 
 pub refused-kept : RefusedKept
-unfolding beginLeft writeHeartbeatLeft sendHeartbeatLeft sendHeartbeatSent readHeartbeatDrive readHeartbeatJoin readHeartbeatNumber receiveHeartbeatDrive receiveHeartbeatHeard receiveHeartbeatNumber writeVoteLeft sendVoteLeft sendVoteSent receiveVoteLeft receiveVoteArrived decideLeft imagesStatus imagesLeft
+unfolding beginLeft writeHeartbeatLeft sendHeartbeatLeft sendHeartbeatSent readHeartbeatDrive readHeartbeatJoin readHeartbeatDriveBytes receiveHeartbeatDrive receiveHeartbeatHeard receiveHeartbeatDriveBytes writeVoteLeft sendVoteLeft sendVoteSent receiveVoteLeft receiveVoteArrived decideLeft imagesStatus imagesLeft
 refused-kept =
     record {
       begin = λ κs a r s l. told (l .0) (l .1) (unless-refused _ _ _);

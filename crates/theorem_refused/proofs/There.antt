@@ -17,8 +17,8 @@ use Rattle.entry_state.specs.Apart.{kindLeft, reasonLeft, nodeLeft, countLeft, 
 use Rattle.entry_write_heartbeat.specs.Heartbeats.{writeHeartbeatStatus, writeHeartbeatLeft}
 use Rattle.entry_send_heartbeat.specs.Beating.{sendHeartbeatStatus, sendHeartbeatLeft, sendHeartbeatSent}
 use Rattle.frames.specs.Written.{wrongDrive}
-use Rattle.entry_receive_heartbeat.specs.Hearing.{readStatus, readHeartbeatStatus, readHeartbeatDrive, readHeartbeatJoin, readHeartbeatNumber}
-use Rattle.entry_receive_heartbeat.specs.Hearing.{receiveHeartbeatStatus, receiveHeartbeatDrive, receiveHeartbeatHeard, receiveHeartbeatNumber}
+use Rattle.entry_receive_heartbeat.specs.Hearing.{readStatus, readHeartbeatStatus, readHeartbeatDrive, readHeartbeatJoin, readHeartbeatDriveBytes}
+use Rattle.entry_receive_heartbeat.specs.Hearing.{receiveHeartbeatStatus, receiveHeartbeatDrive, receiveHeartbeatHeard, receiveHeartbeatDriveBytes}
 use Rattle.entry_write_vote.specs.Votes.{writeVoteStatus, writeVoteLeft}
 use Rattle.entry_send_vote.specs.Voting.{sendVoteStatus, sendVoteLeft, sendVoteSent}
 use Rattle.entry_receive_vote.specs.Arrivals.{readVoteNumbers, readVoteStatus, readVoteLeft, receiveVoteStatus, receiveVoteLeft, receiveVoteArrived}
@@ -88,11 +88,11 @@ unfolding first unless wrongIndicators wrongDrive sendHeartbeatStatus sendHeartb
 send-heartbeat-there = (([], ([], ([], ([], tt)))), (empty, (0, (0, (0, (0, (empty, (empty, (nought, tt)))))))), 3, (refl, (refl, refl)), some 2)
 
 pub read-heartbeat-there : (κs : _) × (a : _) × (r : _) × gm-read-heartbeat.Learnt κs a r a × Refused r
-unfolding first unless wrongCount readStatus readHeartbeatStatus readHeartbeatDrive readHeartbeatJoin readHeartbeatNumber
+unfolding first unless wrongCount readStatus readHeartbeatStatus readHeartbeatDrive readHeartbeatJoin readHeartbeatDriveBytes
 read-heartbeat-there = (([], ([], ([], ([], tt)))), (0, (0, (0, (0, (empty, (empty, (nought, (nought, tt)))))))), 1, (refl, (refl, (refl, refl))), some 0)
 
 pub receive-heartbeat-there : (κs : _) × (a : _) × (r : _) × gm-receive-heartbeat.Learnt κs a r a × Refused r
-unfolding first unless wrongCount receiveHeartbeatStatus receiveHeartbeatDrive receiveHeartbeatHeard receiveHeartbeatNumber
+unfolding first unless wrongCount receiveHeartbeatStatus receiveHeartbeatDrive receiveHeartbeatHeard receiveHeartbeatDriveBytes
 receive-heartbeat-there = (([], ([], ([], ([], ([], tt))))), (0, (0, (0, (empty, (empty, (empty, (nought, (nought, tt)))))))), 1, (refl, (refl, (refl, refl))), some 0)
 
 pub view-there : (κs : _) × (a : _) × (r : _) × gm-view.Learnt κs a r a × Refused r

@@ -4,7 +4,7 @@ use mathlib.Core.List.{List, []}
 use Prim.Native.Nat.{ℕ}
 use denote.Ref.{RefT, now}
 use Rattle.theorem_unit_calls.specs.Entries.{Frame, Within, byDefinition}
-use Rattle.entry_receive_heartbeat.specs.Hearing.{receiveHeartbeatDrive, receiveHeartbeatNumber}
+use Rattle.entry_receive_heartbeat.specs.Hearing.{receiveHeartbeatDrive, receiveHeartbeatDriveBytes}
 use Rattle.theorem_units.specs.Compiled.{begin, stop, start, send-heartbeat, receive-heartbeat, send-vote, receive-vote, decide, compiled}
 use Rattle.gm.proofs.gm_begin.Statement as gm-begin-says
 use Rattle.gm.proofs.gm_begin.Met as gm-begin-met
@@ -110,7 +110,7 @@ had =
       receive-heartbeat = λ n p count x y heard k.
           let d = k .lower .0 in
           receive-heartbeat ([], ([], ([], ([], ([], tt))))) (n, (p, (count, (ref x, (ref y, (ref d, (ref (k .lower .1), (ref 0, tt)))))))) 0
-          (n, (p, (count, (ref x, (ref y, (ref (receiveHeartbeatDrive n p count x y d), (ref heard, (ref (receiveHeartbeatNumber n p count x y d 0), tt))))))))
+          (n, (p, (count, (ref x, (ref y, (ref (receiveHeartbeatDrive n p count x y d), (ref heard, (ref (receiveHeartbeatDriveBytes n p count x y d 0), tt))))))))
           (k .lower .2, (refl, (k .lower .3, refl))) refl;
       send-vote = λ x heard0 heard1 count channel g k.
           send-vote ([], ([], ([], tt))) (ref x, (heard0, (heard1, (count, (channel, (ref (k .lower .0), (ref (k .lower .1), tt))))))) 0

@@ -20,7 +20,7 @@ same-length c = search needs
 returns : tie.Need-returns
 returns c =
     let a = c .before .before .before .before .before .args in
-    read-refused (a .n) (a .node) (a .cycle) (a .channel) (now (a .drive)) (now (a .frame)) (now (a .join)) (now (a .number)) _ (c .before .read-refusal .ensures) (c .if1 .taken)
+    read-refused (a .n) (a .node) (a .cycle) (a .channel) (now (a .drive)) (now (a .frame)) (now (a .join)) (now (a .drive-bytes)) _ (c .before .read-refusal .ensures) (c .if1 .taken)
 
 read-heartbeat-requires : tie.Need-read-heartbeat-requires
 read-heartbeat-requires c κs = read-bounds _ _ _ _ _ (fine c) .0
@@ -35,7 +35,7 @@ returns-2 c =
     let t = p .before .before in
     let r = t .before .before in
     let a = r .before .before .before .before .before .before .args in
-    read-good (a .n) (a .node) (a .cycle) (a .channel) (now (a .drive)) (now (a .frame)) (now (a .join)) (now (a .number)) (fine (r .before)) Alive _ _ (sym (r .read-heartbeat .ensures) ∙ t .enum-told .given .1) refl (p .put-drive .ensures .1) (p .put-drive .ensures .0)
+    read-good (a .n) (a .node) (a .cycle) (a .channel) (now (a .drive)) (now (a .frame)) (now (a .join)) (now (a .drive-bytes)) (fine (r .before)) Alive _ _ (sym (r .read-heartbeat .ensures) ∙ t .enum-told .given .1) refl (p .put-drive .ensures .1) (p .put-drive .ensures .0)
 
 returns-3 : tie.Need-returns-3
 returns-3 c =
@@ -43,14 +43,14 @@ returns-3 c =
     let t = p .before .before in
     let r = t .before .before in
     let a = r .before .before .before .before .before .before .args in
-    read-good (a .n) (a .node) (a .cycle) (a .channel) (now (a .drive)) (now (a .frame)) (now (a .join)) (now (a .number)) (fine (r .before)) Join _ _ (sym (r .read-heartbeat .ensures) ∙ t .enum-told2 .given .1) refl (p .put-drive2 .ensures .1) (p .put-drive2 .ensures .0)
+    read-good (a .n) (a .node) (a .cycle) (a .channel) (now (a .drive)) (now (a .frame)) (now (a .join)) (now (a .drive-bytes)) (fine (r .before)) Join _ _ (sym (r .read-heartbeat .ensures) ∙ t .enum-told2 .given .1) refl (p .put-drive2 .ensures .1) (p .put-drive2 .ensures .0)
 
 returns-4 : tie.Need-returns-4
 returns-4 c =
     let f = c .before .before in
     let r = f .before .before in
     let a = r .before .before .before .before .before .before .args in
-    read-faulty (a .n) (a .node) (a .cycle) (a .channel) (now (a .drive)) (now (a .frame)) (now (a .join)) (now (a .number)) (fine (r .before)) _ _ (sym (r .read-heartbeat .ensures) ∙ f .f .given .1) (c .fault-code .ensures)
+    read-faulty (a .n) (a .node) (a .cycle) (a .channel) (now (a .drive)) (now (a .frame)) (now (a .join)) (now (a .drive-bytes)) (fine (r .before)) _ _ (sym (r .read-heartbeat .ensures) ∙ f .f .given .1) (c .fault-code .ensures)
 
 put-drive-requires : tie.Need-put-drive-requires
 put-drive-requires c κs =

@@ -20,7 +20,7 @@ same-length c = search needs
 returns : tie.Need-returns
 returns c =
     let a = c .before .before .before .before .before .before .args in
-    receive-refused (a .n) (a .node) (a .cycle) (now (a .a)) (now (a .b)) (now (a .drive)) (now (a .heard)) (now (a .number)) _ (c .before .read-refusal .ensures) (c .if1 .taken)
+    receive-refused (a .n) (a .node) (a .cycle) (now (a .a)) (now (a .b)) (now (a .drive)) (now (a .heard)) (now (a .drive-bytes)) _ (c .before .read-refusal .ensures) (c .if1 .taken)
 
 receive-heartbeat-requires : tie.Need-receive-heartbeat-requires
 receive-heartbeat-requires c κs = read-bounds _ _ _ _ _ (fine c) .0
@@ -40,7 +40,7 @@ returns-2 c =
     let h = c .before .before in
     let r = h .before in
     let a = r .before .before .before .before .before .before .before .args in
-    receive-copies (a .n) (a .node) (a .cycle) (now (a .a)) (now (a .b)) (now (a .drive)) (now (a .heard)) (now (a .number)) _ Neither _ _ _ (fine (r .before)) (r .receive-heartbeat .ensures) (h .heard-code .ensures) (c .enum-told .given .1) refl refl
+    receive-copies (a .n) (a .node) (a .cycle) (now (a .a)) (now (a .b)) (now (a .drive)) (now (a .heard)) (now (a .drive-bytes)) _ Neither _ _ _ (fine (r .before)) (r .receive-heartbeat .ensures) (h .heard-code .ensures) (c .enum-told .given .1) refl refl
 
 returns-3 : tie.Need-returns-3
 returns-3 c =
@@ -49,7 +49,7 @@ returns-3 c =
     let h = t .before .before in
     let r = h .before in
     let a = r .before .before .before .before .before .before .before .args in
-    receive-copies (a .n) (a .node) (a .cycle) (now (a .a)) (now (a .b)) (now (a .drive)) (now (a .heard)) (now (a .number)) _ OnA _ _ _ (fine (r .before)) (r .receive-heartbeat .ensures) (h .heard-code .ensures) (t .enum-told2 .given .1)
+    receive-copies (a .n) (a .node) (a .cycle) (now (a .a)) (now (a .b)) (now (a .drive)) (now (a .heard)) (now (a .drive-bytes)) _ OnA _ _ _ (fine (r .before)) (r .receive-heartbeat .ensures) (h .heard-code .ensures) (t .enum-told2 .given .1)
     (p .put-drive .ensures .1) (p .put-drive .ensures .0)
 
 returns-4 : tie.Need-returns-4
@@ -59,7 +59,7 @@ returns-4 c =
     let h = t .before .before in
     let r = h .before in
     let a = r .before .before .before .before .before .before .before .args in
-    receive-copies (a .n) (a .node) (a .cycle) (now (a .a)) (now (a .b)) (now (a .drive)) (now (a .heard)) (now (a .number)) _ OnB _ _ _ (fine (r .before)) (r .receive-heartbeat .ensures) (h .heard-code .ensures) (t .enum-told3 .given .1)
+    receive-copies (a .n) (a .node) (a .cycle) (now (a .a)) (now (a .b)) (now (a .drive)) (now (a .heard)) (now (a .drive-bytes)) _ OnB _ _ _ (fine (r .before)) (r .receive-heartbeat .ensures) (h .heard-code .ensures) (t .enum-told3 .given .1)
     (p .put-drive2 .ensures .1) (p .put-drive2 .ensures .0)
 
 put-drive-requires : tie.Need-put-drive-requires
