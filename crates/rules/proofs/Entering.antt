@@ -12,7 +12,7 @@ use Rattle.sets.proofs.Nodes.{lowest-in, lowest-least, every-e}
 use Rattle.state.specs.declared.State.the-variants.{Joining}
 use Rattle.rules.specs.declared.Vote.{Vote}
 use Rattle.rules.specs.declared.Config.{Config}
-use Rattle.rules.specs.OneCycle.{Ballots, wins, memberOn, fits, enterOn, joinerDecides}
+use Rattle.rules.specs.OneCycle.{Ballots, wins, entersWith, fits, enterOn, joinerDecides}
 use Rattle.rules.specs.Ballots.{ballotsOf, fitsAt, agreesAt}
 use Rattle.rules.proofs.Votes.{voters-is}
 use Rattle.rules.proofs.Counting.{no, wins-node}
@@ -58,9 +58,9 @@ module _ (C : Config) (q : ℕ) (b : Ballots) where
 
   pub enters-on : (first : ℕ) (v : Vote) (r : Bool) → first < C .nodes → ((p : ℕ) → p < first → fitsAt (C .nodes) q b p ≡ false) → fitsAt (C .nodes) q b first ≡ true
       → b first ≡ some v → r ≡ every (C .nodes) (agreesAt (C .nodes) q b v)
-      → joinerDecides C q b ≡ cond r (memberOn C b v) Joining
+      → joinerDecides C q b ≡ cond r (entersWith C b v) Joining
   unfolding joinerDecides
-  enters-on first v r l f t e k = ap (enterOn C q b) (ap b least ∙ e) ∙ ap₂ (λ (x y : Bool). cond (x && y) (memberOn C b v) Joining) (sym (ap (fits (C .nodes) q b) e) ∙ t) (sym k)
+  enters-on first v r l f t e k = ap (enterOn C q b) (ap b least ∙ e) ∙ ap₂ (λ (x y : Bool). cond (x && y) (entersWith C b v) Joining) (sym (ap (fits (C .nodes) q b) e) ∙ t) (sym k)
     where
       least : lowest (C .nodes) (fitsAt (C .nodes) q b) ≡ first
       least =

@@ -14,12 +14,12 @@ use Rattle.state.specs.declared.Reason.the-variants.{NoQuorum, Outvoted}
 use Rattle.state.specs.declared.State.the-variants.{Out, Member}
 use Rattle.rules.specs.declared.Vote.{Vote}
 use Rattle.rules.specs.declared.Config.{Config}
-use Rattle.rules.specs.OneCycle.{Ballots, sendsMember, sameGroup, is, voters, wins, newSet, groupWith, newGroup, withOwn, rival, memberDecides}
+use Rattle.rules.specs.OneCycle.{Ballots, sendsMember, sameGroup, is, voters, wins, newSet, groupWith, newGroup, requestWith, requestAfter, withOwn, without, rival, memberDecides}
 use Rattle.rules.specs.Ballots.{ballotsOf, equalTo}
 use Rattle.rules.proofs.Votes.{vote-self, voters-is, voters-sub, in-voters}
 use Rattle.rules.proofs.States.{none-some, some-inj}
 use Rattle.rules.proofs.Counting.{wins-node, wins-mono}
-use Rattle.rules.proofs.Slots.{without, slots-without, equal-voters}
+use Rattle.rules.proofs.Slots.{slots-without, equal-voters}
 
 has-voters : (x N : ℕ) (b : Ballots) (v : Vote) → has x (voters N b v) ≡ (ltb x N && (has x (v .group .set) && is v (b x)))
 unfolding voters
@@ -135,8 +135,8 @@ wins-by N m b v r e f = f ∙ ap (λ (x : ℕ). quorum x (v .group .base)) e
 
 module _ (C : Config) (q : ℕ) (own : Vote) (b : Ballots) where
   pub decides-on : (m : ℕ) → m ≡ voters (C .nodes) (withOwn q own b) own → wins (C .nodes) (withOwn q own b) own ≡ true
-      → memberDecides C q own b ≡ Member (groupWith own (m ∪ (own .view ∖ own .group .set)))
-  unfolding memberDecides newGroup newSet
+      → memberDecides C q own b ≡ Member (groupWith own (m ∪ (own .view ∖ own .group .set))) (requestWith C own (m ∪ (own .view ∖ own .group .set)))
+  unfolding memberDecides newGroup newSet requestAfter
   decides-on m e w = rw (w, sym e)
 
   -- reason 2 if another vote has a quorum, else reason 1

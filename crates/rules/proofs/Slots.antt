@@ -12,12 +12,8 @@ use Rattle.sets.proofs.Membership.{has-union, has-inter, has-diff, has-single, 
 use Rattle.sets.proofs.Nodes.{has-those}
 use Rattle.state.specs.declared.Group.{Group}
 use Rattle.rules.specs.declared.Vote.{Vote}
-use Rattle.rules.specs.OneCycle.{Ballots, sameGroup, sameVote, is, voters, withOwn}
+use Rattle.rules.specs.OneCycle.{Ballots, sameGroup, sameVote, is, voters, withOwn, without}
 use Rattle.rules.specs.Ballots.{groupAt, voteAt, ballotsOf}
-
--- what arrived, the slot of q left out
-abbrev pub without : ℕ → Ballots → Ballots
-without q b p = cond (eqb p q) none (b p)
 
 -- the voters of a vote are those in its set that cast it
 pub equal-voters : (n m : ℕ) (b : Ballots) (v : Vote) → m ≡ those n (λ x. is v (b x)) → m ∩ v .group .set ≡ voters n b v

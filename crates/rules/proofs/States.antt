@@ -1,7 +1,7 @@
 -- All that takes a state apart: who is what, rule 1, who votes, what each makes of the votes that it got. Assumes nothing.
 use mathlib.Core.Path.{_≡_, refl, ap, _∙_}
 use mathlib.Core.Logic.{_⊎_, inl, inr}
-use mathlib.Core.Bool.{Bool, true, false, false≢true}
+use mathlib.Core.Bool.{Bool, true, false, cond, false≢true}
 use mathlib.Core.Option.{Option, none, some}
 use Prim.Native.Nat.{ℕ}
 use native.Mathlib.Omega.{arith}
@@ -12,8 +12,8 @@ use Rattle.state.specs.State.{groupOf, halted}
 use Rattle.rules.specs.declared.Vote.{Vote}
 use Rattle.rules.specs.declared.Faults.{Faults}
 use Rattle.rules.specs.declared.Config.{Config}
-use Rattle.rules.specs.OneCycle.{Ballots, startIf, stopAndStart, sendsMember, sendsJoin, memberDecides}
-use Rattle.rules.specs.Faults.{Row, ownVote, voteOf, decides}
+use Rattle.rules.specs.OneCycle.{Ballots, startIf, stopAndStart, sendsMember, sendsJoin, asks, willVote, memberDecides, silentDecides}
+use Rattle.rules.specs.Faults.{Row, ownVote, votesNow, voteOf, decides}
 
 -- ---- options
 
@@ -28,27 +28,27 @@ some-inj p = cc
 abbrev pub idle : State → Bool
 idle (Out r) = true
 idle Joining = false
-idle (Member g) = false
+idle (Member g a) = false
 
 pub which : (s : State) → (idle s ≡ true) ⊎ ((s ≡ Joining) ⊎ ((g : Group) × (groupOf s ≡ some g)))
 which (Out r) = inl refl
 which Joining = inr (inl refl)
-which (Member g) = inr (inr (g, refl))
+which (Member g a) = inr (inr (g, refl))
 
 pub is-joining : (t : State) → sendsJoin t ≡ true → t ≡ Joining
 is-joining (Out z) e = absurd (false≢true e)
 is-joining Joining e = refl
-is-joining (Member h) e = absurd (false≢true e)
+is-joining (Member h a) e = absurd (false≢true e)
 
 pub held-sends : (s : State) (g : Group) → groupOf s ≡ some g → sendsMember s ≡ true
 held-sends (Out r) g e = absurd (none-some e)
 held-sends Joining g e = absurd (none-some e)
-held-sends (Member h) g e = refl
+held-sends (Member h a) g e = refl
 
 pub not-halted : (s : State) (g : Group) → groupOf s ≡ some g → halted s ≡ true → ⊥
 not-halted (Out r) g e f = none-some e
 not-halted Joining g e f = none-some e
-not-halted (Member h) g e f = false≢true f
+not-halted (Member h a) g e f = false≢true f
 
 -- ---- rule 1
 
@@ -57,9 +57,9 @@ pub rule1-member : (stop start : Bool) (s : State) (g : Group) → stop ≡ fals
 unfolding stopAndStart
 rule1-member stop start (Out r) g e f = absurd (none-some f)
 rule1-member stop start Joining g e f = absurd (none-some f)
-rule1-member stop start (Member h) g e f = rw e (go start)
+rule1-member stop start (Member h a) g e f = rw e (go start)
   where
-    go : (b : Bool) → startIf b (Member h) ≡ Member h
+    go : (b : Bool) → startIf b (Member h a) ≡ Member h a
     go true = refl
     go false = refl
 
@@ -78,7 +78,7 @@ rule1-back true true s g e = absurd (none-some e)
 rule1-back true false s g e = absurd (none-some e)
 rule1-back false true (Out r) g e = absurd (none-some e)
 rule1-back false true Joining g e = absurd (none-some e)
-rule1-back false true (Member k) g e = refl
+rule1-back false true (Member k a) g e = refl
 rule1-back false false s g e = refl
 
 -- ---- who votes, and what each makes of the votes that it got
@@ -90,19 +90,42 @@ own-group N c r q g = refl
 pub vote-group : (C : Config) (c : Faults) (r : Row) (p : ℕ) (s : State) (v : Vote) → voteOf C c r p s ≡ some v → groupOf s ≡ some (v .group)
 vote-group C c r p (Out k) v f = absurd (none-some f)
 vote-group C c r p Joining v f = absurd (none-some f)
-vote-group C c r p (Member g) v f = ap {B = Option Group} some (own-group (C .nodes) c r p g ∙ ap (λ (x : Vote). x .group) (some-inj f))
+vote-group C c r p (Member g a) v f = go (votesNow C c r p g a) f
+  where
+    go : (b : Bool) → cond b (some (ownVote (C .nodes) c r p g)) none ≡ some v → _≡_ {A = Option Group} (some g) (some (v .group))
+    go true f = ap {B = Option Group} some (own-group (C .nodes) c r p g ∙ ap (λ (x : Vote). x .group) (some-inj f))
+    go false f = absurd (none-some f)
 
 pub vote-decides : (C : Config) (c : Faults) (r : Row) (p : ℕ) (s : State) (v : Vote) (b : Ballots) → voteOf C c r p s ≡ some v → decides C c r p s b ≡ memberDecides C p v b
 vote-decides C c r p (Out k) v b f = absurd (none-some f)
 vote-decides C c r p Joining v b f = absurd (none-some f)
-vote-decides C c r p (Member g) v b f = ap (λ (x : Vote). memberDecides C p x b) (some-inj f)
+vote-decides C c r p (Member g a) v b f = go (votesNow C c r p g a) f
+  where
+    go : (y : Bool) → cond y (some (ownVote (C .nodes) c r p g)) none ≡ some v
+        → cond y (memberDecides C p (ownVote (C .nodes) c r p g) b) (silentDecides C p g b) ≡ memberDecides C p v b
+    go true f = ap (λ (x : Vote). memberDecides C p x b) (some-inj f)
+    go false f = absurd (none-some f)
 
-pub member-votes : (C : Config) (c : Faults) (r : Row) (p : ℕ) (s : State) (g : Group) → groupOf s ≡ some g → voteOf C c r p s ≡ some (ownVote (C .nodes) c r p g)
+-- a member votes or is silent
+pub member-votes : (C : Config) (c : Faults) (r : Row) (p : ℕ) (s : State) (g : Group) → groupOf s ≡ some g
+    → voteOf C c r p s ≡ cond (votesNow C c r p g (asks s)) (some (ownVote (C .nodes) c r p g)) none
 member-votes C c r p (Out k) g e = absurd (none-some e)
 member-votes C c r p Joining g e = absurd (none-some e)
-member-votes C c r p (Member h) g e = ap (λ (x : Group). some (ownVote (C .nodes) c r p x)) (some-inj e)
+member-votes C c r p (Member h a) g e = ap (λ (x : Group). cond (votesNow C c r p x a) (some (ownVote (C .nodes) c r p x)) none) (some-inj e)
+
+pub silent-decides : (C : Config) (c : Faults) (r : Row) (p : ℕ) (s : State) (g : Group) (b : Ballots) → groupOf s ≡ some g → votesNow C c r p g (asks s) ≡ false
+    → decides C c r p s b ≡ silentDecides C p g b
+silent-decides C c r p (Out k) g b e f = absurd (none-some e)
+silent-decides C c r p Joining g b e f = absurd (none-some e)
+silent-decides C c r p (Member h a) g b e f =
+    ap (λ (x : Group). decides C c r p (Member x a) b) (some-inj e) ∙ ap (λ (y : Bool). cond y (memberDecides C p (ownVote (C .nodes) c r p g) b) (silentDecides C p g b)) f
+
+-- in a press that votes in every cycle every member votes
+pub always-votes : (C : Config) (c : Faults) (r : Row) (p : ℕ) (g : Group) (a : Bool) → C .quiet ≡ false → votesNow C c r p g a ≡ true
+unfolding votesNow willVote
+always-votes C c r p g a e = rw e
 
 pub idle-decides : (C : Config) (c : Faults) (r : Row) (p : ℕ) (s : State) (b : Ballots) → idle s ≡ true → groupOf (decides C c r p s b) ≡ none
 idle-decides C c r p (Out k) b e = refl
 idle-decides C c r p Joining b e = absurd (false≢true e)
-idle-decides C c r p (Member g) b e = absurd (false≢true e)
+idle-decides C c r p (Member g a) b e = absurd (false≢true e)

@@ -12,7 +12,8 @@ use Rattle.sets.proofs.Membership.{_⊆_, has-union, has-inter, has-diff, has-s
 use Rattle.sets.proofs.Nodes.{has-below, in-those, of-those, those-ext}
 use Rattle.state.specs.declared.Group.{Group}
 use Rattle.rules.specs.declared.Vote.{Vote}
-use Rattle.rules.specs.OneCycle.{Ballots, viewOf, sameGroup, sameVote, is, voters, wins, newSet, groupWith, newGroup}
+use Rattle.rules.specs.declared.Config.{Config}
+use Rattle.rules.specs.OneCycle.{Ballots, viewOf, sameGroup, sameVote, is, voters, wins, newSet, groupWith, newGroup, requestAfter, memberOn, entersWith}
 
 -- ---- equal groups and votes
 
@@ -173,3 +174,12 @@ wins-ext N a b v e = rw (voters-ext N a b v e)
 pub group-ext : (N : ℕ) (a b : Ballots) (v : Vote) → ((p : ℕ) → p < N → a p ≡ b p) → newGroup N a v ≡ newGroup N b v
 unfolding newGroup newSet
 group-ext N a b v e = rw (voters-ext N a b v e)
+
+-- so does who stays or enters with it
+pub member-ext : (C : Config) (a b : Ballots) (v : Vote) → ((p : ℕ) → p < C .nodes → a p ≡ b p) → memberOn C a v ≡ memberOn C b v
+unfolding newGroup newSet requestAfter
+member-ext C a b v e = rw (voters-ext (C .nodes) a b v e)
+
+pub enters-ext : (C : Config) (a b : Ballots) (v : Vote) → ((p : ℕ) → p < C .nodes → a p ≡ b p) → entersWith C a v ≡ entersWith C b v
+unfolding newGroup newSet
+enters-ext C a b v e = rw (voters-ext (C .nodes) a b v e)

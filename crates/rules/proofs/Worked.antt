@@ -1,5 +1,5 @@
 -- The examples hold: the rules give what the tables expect. Assumes nothing.
-use mathlib.Core.Path.{_≡_, refl, sym, ap, _∙_}
+use mathlib.Core.Path.{_≡_, refl, sym, ap, ap₂, _∙_}
 use mathlib.Core.Bool.{Bool, true, false}
 use mathlib.Core.List.{List, map}
 use mathlib.Core.Option.{Option, none, some, Option·map}
@@ -15,8 +15,8 @@ use Rattle.state.specs.declared.State.{State}
 use Rattle.state.specs.declared.State.the-variants.{Out, Joining, Member}
 use Rattle.state.specs.State.{reasonCode, nextNumber}
 use Rattle.state.specs.Image.{reasonOf}
-use Rattle.rules.specs.OneCycle.{stopAndStart, viewOf, sameGroup, sameVote, voters, wins, newSet, groupWith, newGroup, memberDecides, joinerDecides}
-use Rattle.rules.specs.Faults.{tabulate, founding, reaches, disturbed, ruleOne, heard, ownVote, votes, decisions, cycle}
+use Rattle.rules.specs.OneCycle.{stopAndStart, viewOf, sameGroup, sameVote, voters, wins, newSet, groupWith, newGroup, called, willVote, requestWith, requestAfter, memberDecides, silentDecides, joinerDecides}
+use Rattle.rules.specs.Faults.{tabulate, founding, reaches, disturbed, ruleOne, heard, ownVote, votesNow, votes, decisions, cycle}
 use Rattle.rules.specs.Reference.{beginning, steady, keeps, step, haltedIn, enteredIn}
 use Rattle.rules.specs.Examples.{Seen, Example, examples, watch, seen, Join, joins, decided}
 use Rattle.rules.proofs.Failing.{both, equal-numbers, equal-lists, failing, all-hold}
@@ -48,13 +48,13 @@ abbrev equal-states : (s t : State) → Option (s ≡ t)
 equal-states (Out r) (Out s) =
     Option·map (λ (e : reasonCode r ≡ reasonCode s). ap {B = State} Out (reason-back r ∙ ap reasonOf e ∙ sym (reason-back s))) (equal-numbers (reasonCode r) (reasonCode s))
 equal-states (Out r) Joining = none
-equal-states (Out r) (Member h) = none
+equal-states (Out r) (Member h b) = none
 equal-states Joining (Out s) = none
 equal-states Joining Joining = some refl
-equal-states Joining (Member h) = none
-equal-states (Member g) (Out s) = none
-equal-states (Member g) Joining = none
-equal-states (Member g) (Member h) = Option·map (ap {B = State} Member) (equal-groups g h)
+equal-states Joining (Member h b) = none
+equal-states (Member g a) (Out s) = none
+equal-states (Member g a) Joining = none
+equal-states (Member g a) (Member h b) = Option·map (λ (e : (g ≡ h) × (a ≡ b)). ap₂ (λ (x : Group) (y : Bool). Member x y) (e .0) (e .1)) (both (equal-groups g h) (equal-tests a b))
 
 abbrev equal-seen : (a b : Seen) → Option (a ≡ b)
 equal-seen a b =
@@ -71,7 +71,7 @@ abbrev expected : Example → List Seen
 expected e = e .expected
 
 none-fails : (failed : ℕ) → failed ≡ failing Example (List Seen) number seen expected (equal-lists Seen equal-seen) examples → failed ≡ 0
-unfolding ones has single _∪_ _∩_ _∖_ those below size lowest any every quorum nextNumber stopAndStart viewOf sameGroup sameVote voters wins newSet groupWith newGroup memberDecides joinerDecides tabulate founding reaches disturbed ruleOne heard ownVote votes decisions cycle beginning steady keeps step haltedIn enteredIn watch seen
+unfolding ones has single _∪_ _∩_ _∖_ those below size lowest any every quorum nextNumber stopAndStart viewOf sameGroup sameVote voters wins newSet groupWith newGroup called willVote requestWith requestAfter memberDecides silentDecides joinerDecides tabulate founding reaches disturbed ruleOne heard ownVote votesNow votes decisions cycle beginning steady keeps step haltedIn enteredIn watch seen
 none-fails failed e = omega arith
 
 pub examples-hold : map seen examples ≡ map expected examples

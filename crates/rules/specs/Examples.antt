@@ -68,7 +68,7 @@ times zero s = []
 times (suc n) s = s ∷ times n s
 
 abbrev member : ℕ → ℕ → ℕ → State
-member g m b = Member (group g m b)
+member g m b = Member (group g m b) false
 
 -- a cycle that met the premise, with the reference group after it; and one that did not, after which there is none
 abbrev kept : Group → ℕ → ℕ → Row → Seen

@@ -12,14 +12,15 @@
 --     ruleOne: the row after rule 1
 --     heard: the nodes whose heartbeat of a kind q hears
 --     ownVote: a member's vote
+--     votesNow: whether a member votes
 --     voteOf: what a node sends as its vote, if it votes
 --     votes: what all send
 --     arriveIf: a vote, where it arrives
 --     arrivedAt: the votes that arrive at q
---     decides: what a node decides: rule 5, rule 6, or nothing
+--     decides: what a node decides: rule 5, as one that did not vote, rule 6, or nothing
 --     decisions: what all decide
 --     cycle: one whole cycle, from row to row
-use mathlib.Core.Bool.{Bool, true, false, not, _&&_, _||_}
+use mathlib.Core.Bool.{Bool, true, false, not, _&&_, _||_, cond}
 use mathlib.Core.List.{List, [], _∷_}
 use mathlib.Core.Option.{Option, none, some}
 use Prim.Native.Nat.{ℕ, zero, suc}
@@ -33,7 +34,7 @@ use Rattle.state.specs.State.{initial}
 use Rattle.rules.specs.declared.Vote.{Vote}
 use Rattle.rules.specs.declared.Faults.{Faults}
 use Rattle.rules.specs.declared.Config.{Config}
-use Rattle.rules.specs.OneCycle.{Ballots, stopped, stopAndStart, sendsMember, sendsJoin, viewOf, memberDecides, joinerDecides}
+use Rattle.rules.specs.OneCycle.{Ballots, stopped, stopAndStart, sendsMember, sendsJoin, asks, viewOf, called, willVote, memberDecides, silentDecides, joinerDecides}
 
 -- "the states of all units as one row, one entry per unit": what stands at N and above is no node, and is out
 abbrev pub Row : Type 0
@@ -90,11 +91,15 @@ heard N c row sends q = those N (λ p. sends (at row p) && heartbeatReaches c p 
 unfoldable pub ownVote : ℕ → Faults → Row → ℕ → Group → Vote
 ownVote N c row q g = record { group = g; view = viewOf N q (g .set) (heard N c row sendsMember q) (heard N c row sendsJoin q) }
 
+-- whether member q of g votes: by its view, by its own request, and by those of the members that it heard
+unfoldable pub votesNow : Config → Faults → Row → ℕ → Group → Bool → Bool
+votesNow C c row q g a = willVote C (g .set) (ownVote (C .nodes) c row q g .view) (called (g .set) a (heard (C .nodes) c row asks q))
+
 -- what each node sends as its vote
 abbrev pub voteOf : Config → Faults → Row → ℕ → State → Option Vote
 voteOf C c row q (Out r) = none
 voteOf C c row q Joining = none
-voteOf C c row q (Member g) = some (ownVote (C .nodes) c row q g)
+voteOf C c row q (Member g a) = cond (votesNow C c row q g a) (some (ownVote (C .nodes) c row q g)) none
 
 unfoldable pub votes : Config → Faults → Row → List (Option Vote)
 votes C c row = tabulate (C .nodes) (λ q. voteOf C c row q (at row q))
@@ -110,7 +115,7 @@ arrivedAt c sent q p = arriveIf (voteReaches c p q) (getD sent p none)
 abbrev pub decides : Config → Faults → Row → ℕ → State → Ballots → State
 decides C c row q (Out r) b = Out r
 decides C c row q Joining b = joinerDecides C q b
-decides C c row q (Member g) b = memberDecides C q (ownVote (C .nodes) c row q g) b
+decides C c row q (Member g a) b = cond (votesNow C c row q g a) (memberDecides C q (ownVote (C .nodes) c row q g) b) (silentDecides C q g b)
 
 unfoldable pub decisions : Config → Faults → Row → List (Option Vote) → Row
 decisions C c row sent = tabulate (C .nodes) (λ q. decides C c row q (at row q) (arrivedAt c sent q))

@@ -1,9 +1,10 @@
 // Rules 1 to 6 of one cycle, faults and the reference group, as definitions with their laws and the worked examples; and the types that they speak of.
 use state::Group;
 
-// What is fixed for a cluster: how many nodes it has (N).
+// What is fixed for a cluster: how many nodes it has (N), and whether its votes rest while nothing happens.
 pub struct Config {
     pub nodes: usize,
+    pub quiet: bool,
 }
 
 // A member's vote: the group that it holds, and the nodes that it heard.

@@ -1,17 +1,18 @@
 -- What reading an image finds, by its length, its place and its kind. Assumes nothing.
-use mathlib.Core.Path.{_≡_, refl}
-use mathlib.Core.Bool.{Bool, true, false, _&&_}
+use mathlib.Core.Path.{_≡_, refl, ap, _∙_}
+use mathlib.Core.Logic.{_⊎_, inl, inr}
+use mathlib.Core.Bool.{Bool, true, false, _&&_, _||_}
 use mathlib.Core.List.{List}
 use Prim.Native.Nat.{ℕ, _≤_, _<_}
 use native.Mathlib.Omega.{arith}
 use lib.Dec.{eqb, ltb, leb}
 use lib.ListN.{getD, length}
-use borrow.Author.Tests.{ne-eqb, eqb-true, le-ltb, leb-true, ltb-true}
-use Rattle.sets.proofs.Booleans.{and-l, and-r}
+use borrow.Author.Tests.{ne-eqb, eqb-true, le-ltb, lt-ltb, leb-true, ltb-true}
+use Rattle.sets.proofs.Booleans.{and-l, and-r, or-e}
 use Rattle.state.specs.declared.State.the-variants.{Out, Joining, Member}
 use Rattle.state.specs.declared.Decoded.the-variants.{WrongLength, Malformed}
 use Rattle.state.specs.State.{formedPlace, formedSets}
-use Rattle.state.specs.Image.{kindAt, reasonAt, groupAt, isZero, reasonOf, nodeIf, wellFormed, decoded}
+use Rattle.state.specs.Image.{kindAt, reasonAt, groupAt, isZero, reasonOf, nodeIf, formedReason, wellFormed, decoded}
 
 and-true : (b : Bool) → (b && true) ≡ b
 and-true true = refl
@@ -21,12 +22,30 @@ and-false : (b : Bool) → (b && false) ≡ false
 and-false true = refl
 and-false false = refl
 
-zero-known : (r : ℕ) → (ltb r 3 && eqb r 0) ≡ eqb r 0
-zero-known r = go (eqb r 0) refl
+-- a joining node has reason 0, a member 0 or, in a quiet press, 1: reasons that are known
+abbrev pub memberReason : Bool → ℕ → Bool
+memberReason quiet r = eqb r 0 || (quiet && eqb r 1)
+
+pub joining-reason : (quiet b : Bool) → (b || (quiet && false)) ≡ b
+joining-reason quiet true = refl
+joining-reason quiet false = and-false quiet
+
+pub member-bound : (quiet : Bool) (r : ℕ) → memberReason quiet r ≡ true → r < 2
+member-bound quiet r e = go (or-e (eqb r 0) (quiet && eqb r 1) e)
   where
-    go : (b : Bool) → eqb r 0 ≡ b → (ltb r 3 && b) ≡ b
-    go true e = rw (eqb-true r 0 e)
-    go false e = and-false (ltb r 3)
+    go : (eqb r 0 ≡ true) ⊎ ((quiet && eqb r 1) ≡ true) → r < 2
+    go (inl h) = let z : r ≡ 0 = eqb-true r 0 h in omega arith
+    go (inr h) = let z : r ≡ 1 = eqb-true r 1 (and-r quiet (eqb r 1) h) in omega arith
+
+known : (r : ℕ) (b : Bool) → (b ≡ true → r < 2) → (ltb r 3 && b) ≡ b
+known r true h = let l : r < 2 = h refl in and-true (ltb r 3) ∙ lt-ltb r 3 (omega arith)
+known r false h = and-false (ltb r 3)
+
+zero-known : (quiet : Bool) (r : ℕ) → (ltb r 3 && formedReason quiet 1 r) ≡ eqb r 0
+zero-known quiet r = ap (λ (b : Bool). ltb r 3 && b) (joining-reason quiet (eqb r 0)) ∙ known r (eqb r 0) (λ e. let z : r ≡ 0 = eqb-true r 0 e in omega arith)
+
+member-known : (quiet : Bool) (r : ℕ) → (ltb r 3 && formedReason quiet 2 r) ≡ memberReason quiet r
+member-known quiet r = known r (memberReason quiet r) (member-bound quiet r)
 
 -- the rest of a match over the codes 0, 1 and 2
 pub three : (x : ℕ) → (x ≡ 0 → ⊥) → (x ≡ 1 → ⊥) → (x ≡ 2 → ⊥) → 3 ≤ x
@@ -41,29 +60,29 @@ place-bounds id n e =
 abbrev pub placeAt : List ℕ → Bool
 placeAt s = formedPlace (getD s 2 0) (getD s 3 0)
 
-pub wrong-length : (s : List ℕ) → (length s ≡ 24 → ⊥) → decoded s ≡ WrongLength
+pub wrong-length : (quiet : Bool) (s : List ℕ) → (length s ≡ 24 → ⊥) → decoded quiet s ≡ WrongLength
 unfolding decoded
-wrong-length s h = simp (ne-eqb (length s) 24 h)
+wrong-length quiet s h = simp (ne-eqb (length s) 24 h)
 
-pub no-place : (s : List ℕ) → length s ≡ 24 → placeAt s ≡ false → decoded s ≡ Malformed
+pub no-place : (quiet : Bool) (s : List ℕ) → length s ≡ 24 → placeAt s ≡ false → decoded quiet s ≡ Malformed
 unfolding decoded wellFormed
-no-place s l p = simp (l, p, and-false)
+no-place quiet s l p = simp (l, p, and-false)
 
-pub kind-unknown : (s : List ℕ) → length s ≡ 24 → 3 ≤ kindAt s → decoded s ≡ Malformed
+pub kind-unknown : (quiet : Bool) (s : List ℕ) → length s ≡ 24 → 3 ≤ kindAt s → decoded quiet s ≡ Malformed
 unfolding decoded wellFormed
-kind-unknown s l k = simp (l, le-ltb (kindAt s) 3 k)
+kind-unknown quiet s l k = simp (l, le-ltb (kindAt s) 3 k)
 
-pub of-out : (s : List ℕ) → length s ≡ 24 → placeAt s ≡ true → kindAt s ≡ 0
-    → decoded s ≡ nodeIf (ltb (reasonAt s) 3 && isZero (groupAt s)) (Out (reasonOf (reasonAt s))) (getD s 2 0) (getD s 3 0)
+pub of-out : (quiet : Bool) (s : List ℕ) → length s ≡ 24 → placeAt s ≡ true → kindAt s ≡ 0
+    → decoded quiet s ≡ nodeIf (ltb (reasonAt s) 3 && isZero (groupAt s)) (Out (reasonOf (reasonAt s))) (getD s 2 0) (getD s 3 0)
 unfolding decoded wellFormed
-of-out s l p k = simp (l, p, k, and-true)
+of-out quiet s l p k = simp (l, p, k, and-true)
 
-pub of-joining : (s : List ℕ) → length s ≡ 24 → placeAt s ≡ true → kindAt s ≡ 1
-    → decoded s ≡ nodeIf (eqb (reasonAt s) 0 && isZero (groupAt s)) Joining (getD s 2 0) (getD s 3 0)
+pub of-joining : (quiet : Bool) (s : List ℕ) → length s ≡ 24 → placeAt s ≡ true → kindAt s ≡ 1
+    → decoded quiet s ≡ nodeIf (eqb (reasonAt s) 0 && isZero (groupAt s)) Joining (getD s 2 0) (getD s 3 0)
 unfolding decoded wellFormed
-of-joining s l p k = simp (l, p, k, and-true, zero-known)
+of-joining quiet s l p k = simp (l, p, k, and-true, zero-known quiet)
 
-pub of-member : (s : List ℕ) → length s ≡ 24 → placeAt s ≡ true → kindAt s ≡ 2
-    → decoded s ≡ nodeIf (eqb (reasonAt s) 0 && formedSets (getD s 2 0) (getD s 3 0) (groupAt s .set) (groupAt s .base)) (Member (groupAt s)) (getD s 2 0) (getD s 3 0)
+pub of-member : (quiet : Bool) (s : List ℕ) → length s ≡ 24 → placeAt s ≡ true → kindAt s ≡ 2
+    → decoded quiet s ≡ nodeIf (memberReason quiet (reasonAt s) && formedSets (getD s 2 0) (getD s 3 0) (groupAt s .set) (groupAt s .base)) (Member (groupAt s) (eqb (reasonAt s) 1)) (getD s 2 0) (getD s 3 0)
 unfolding decoded wellFormed
-of-member s l p k = simp (l, p, k, and-true, zero-known)
+of-member quiet s l p k = simp (l, p, k, and-true, member-known quiet)

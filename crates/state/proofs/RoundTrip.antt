@@ -1,6 +1,7 @@
 -- A well-formed node is what its image is read as, and what is read as a node is that node's image. Assumes nothing.
 use mathlib.Core.Path.{_≡_, refl, sym, ap, _∙_}
-use mathlib.Core.Bool.{Bool, true, false, not, _&&_, _||_, cond}
+use mathlib.Core.Logic.{_⊎_, inl, inr}
+use mathlib.Core.Bool.{Bool, true, false, not, _&&_, _||_, cond, false≢true}
 use mathlib.Core.List.{List, [], _∷_, _++_, append-nil}
 use Prim.Native.Nat.{ℕ, zero, suc, _%_, _^_, _≤_, _<_}
 use native.Mathlib.Nat.{mod-lt}
@@ -11,7 +12,7 @@ use lib.Bits.{bitAnd, and-le-r}
 use lib.ListN.{getD, length, drop, drop-of-length-le}
 use lib.Seq.{drop-cons}
 use Rattle.sets.specs.Sets.{has, _∩_, subset, below}
-use Rattle.sets.proofs.Booleans.{eqb-true, ltb-true, ltb-lt, and-l, and-r, and-i}
+use Rattle.sets.proofs.Booleans.{eqb-true, ltb-true, ltb-lt, and-l, and-r, and-i, or-e, not-i}
 use Rattle.bigendian.specs.BigEndian.{bytesOf}
 use Rattle.bigendian.proofs.Laws.{Bytes, number-at, number-lt, bytes-rest}
 use Rattle.state.specs.declared.Reason.{Reason}
@@ -23,8 +24,8 @@ use Rattle.state.specs.declared.Node.{Node}
 use Rattle.state.specs.declared.Decoded.the-variants.{Good, WrongLength, Malformed}
 use Rattle.state.specs.State.{reasonCode, formedSets, formedPlace, formedState, formed}
 use Rattle.state.specs.Image.{kindCode, reasonByte, noGroup, groupBytes, layout, imageOf}
-use Rattle.state.specs.Image.{kindAt, reasonAt, groupAt, isZero, wellFormed, reasonOf, stateOf, nodeIf, nodeAt, decoded}
-use Rattle.state.proofs.Fields.{place-bounds, of-out, of-joining, of-member}
+use Rattle.state.specs.Image.{kindAt, reasonAt, groupAt, isZero, wellFormed, reasonOf, formedReason, stateOf, nodeIf, nodeAt, decoded}
+use Rattle.state.proofs.Fields.{memberReason, joining-reason, member-bound, place-bounds, of-out, of-joining, of-member}
 
 pub image-length : (n : Node) → length (imageOf n) ≡ 24
 unfolding imageOf bytesOf
@@ -62,40 +63,49 @@ reason-back Stopped = (refl, refl)
 reason-back NoQuorum = (refl, refl)
 reason-back Outvoted = (refl, refl)
 
-from-state : (t : State) (id n : ℕ) → formedPlace id n ≡ true → formedState id n t ≡ true
-    → decoded (imageOf (record { state = t; id = id; nodes = n })) ≡ Good (record { state = t; id = id; nodes = n })
+-- a member's reason says whether it requests
+request-back : (quiet a : Bool) (id n : ℕ) (g : Group) → (quiet || not a) ≡ true
+    → nodeIf (memberReason quiet (cond a 1 0) && true) (Member g (eqb (cond a 1 0) 1)) id n ≡ Good (record { state = Member g a; id = id; nodes = n })
+request-back true true id n g e = refl
+request-back true false id n g e = refl
+request-back false true id n g e = absurd (false≢true e)
+request-back false false id n g e = refl
+
+from-state : (quiet : Bool) (t : State) (id n : ℕ) → formedPlace id n ≡ true → formedState quiet id n t ≡ true
+    → decoded quiet (imageOf (record { state = t; id = id; nodes = n })) ≡ Good (record { state = t; id = id; nodes = n })
 unfolding imageOf
-from-state (Out r) id n p f =
-    of-out _ (image-length (record { state = Out r; id = id; nodes = n })) p refl
+from-state quiet (Out r) id n p f =
+    of-out quiet _ (image-length (record { state = Out r; id = id; nodes = n })) p refl
     ∙ ap (λ (g : Group). nodeIf (ltb (reasonCode r) 3 && isZero g) (Out (reasonOf (reasonCode r))) id n) (group-back 0 (reasonCode r) id n noGroup (lit< tt) (lit< tt) (lit< tt))
     ∙ rw (reason-back r .0, reason-back r .1)
-from-state Joining id n p f =
-    of-joining _ (image-length (record { state = Joining; id = id; nodes = n })) p refl
+from-state quiet Joining id n p f =
+    of-joining quiet _ (image-length (record { state = Joining; id = id; nodes = n })) p refl
     ∙ ap (λ (g : Group). nodeIf (isZero g) Joining id n) (group-back 1 0 id n noGroup (lit< tt) (lit< tt) (lit< tt))
-from-state (Member g) id n p f =
-    let sets : formedSets id n (g .set) (g .base) ≡ true = and-r (ltb (g .number) (2 ^ 32)) (formedSets id n (g .set) (g .base)) f in
+from-state quiet (Member g a) id n p f =
+    let group = and-r (quiet || not a) (ltb (g .number) (2 ^ 32) && formedSets id n (g .set) (g .base)) f in
+    let sets : formedSets id n (g .set) (g .base) ≡ true = and-r (ltb (g .number) (2 ^ 32)) (formedSets id n (g .set) (g .base)) group in
     let fit = sets-fit id n (g .set) (g .base) (place-bounds id n p .1) sets in
-    of-member _ (image-length (record { state = Member g; id = id; nodes = n })) p refl
-    ∙ ap (λ (h : Group). nodeIf (formedSets id n (h .set) (h .base)) (Member h) id n)
-    (group-back 2 0 id n g (ltb-lt (and-l (ltb (g .number) (2 ^ 32)) (formedSets id n (g .set) (g .base)) f)) (fit .0) (fit .1))
-    ∙ rw sets
+    of-member quiet _ (image-length (record { state = Member g a; id = id; nodes = n })) p refl
+    ∙ ap (λ (h : Group). nodeIf (memberReason quiet (cond a 1 0) && formedSets id n (h .set) (h .base)) (Member h (eqb (cond a 1 0) 1)) id n)
+    (group-back 2 (cond a 1 0) id n g (ltb-lt (and-l (ltb (g .number) (2 ^ 32)) (formedSets id n (g .set) (g .base)) group)) (fit .0) (fit .1))
+    ∙ rw sets (request-back quiet a id n g (and-l (quiet || not a) (ltb (g .number) (2 ^ 32) && formedSets id n (g .set) (g .base)) f))
 
-pub round-trip : (n : Node) → formed n ≡ true → decoded (imageOf n) ≡ Good n
+pub round-trip : (quiet : Bool) (n : Node) → formed quiet n ≡ true → decoded quiet (imageOf n) ≡ Good n
 unfolding formed
-round-trip n f =
+round-trip quiet n f =
     let place = formedPlace (n .id) (n .nodes) in
-    let state = formedState (n .id) (n .nodes) (n .state) in
-    from-state (n .state) (n .id) (n .nodes) (and-l place state f) (and-r place state f)
+    let state = formedState quiet (n .id) (n .nodes) (n .state) in
+    from-state quiet (n .state) (n .id) (n .nodes) (and-l place state f) (and-r place state f)
 
 -- ---- from an image to its node and back
 
 -- the sentence on well-formed images, part by part
-record Sound (s : List ℕ) : Type 0 where
+record Sound (quiet : Bool) (s : List ℕ) : Type 0 where
   whole : length s ≡ 24
   kind : ltb (kindAt s) 3 ≡ true
   reason : ltb (reasonAt s) 3 ≡ true
   place : formedPlace (getD s 2 0) (getD s 3 0) ≡ true
-  no-reason : (eqb (kindAt s) 0 || eqb (reasonAt s) 0) ≡ true
+  no-reason : formedReason quiet (kindAt s) (reasonAt s) ≡ true
   no-group : (eqb (kindAt s) 2 || isZero (groupAt s)) ≡ true
   sets : (not (eqb (kindAt s) 2) || formedSets (getD s 2 0) (getD s 3 0) (groupAt s .set) (groupAt s .base)) ≡ true
 
@@ -108,18 +118,18 @@ and6 a b c d e f h =
     let h2 = and-l (a && b) c h3 in
     (and-l a b h2, and-r a b h2, and-r (a && b) c h3, and-r (a && b && c) d h4, and-r (a && b && c && d) e h5, and-r (a && b && c && d && e) f h)
 
-sound : (s : List ℕ) → length s ≡ 24 → wellFormed s ≡ true → Sound s
+sound : (quiet : Bool) (s : List ℕ) → length s ≡ 24 → wellFormed quiet s ≡ true → Sound quiet s
 unfolding wellFormed
-sound s l w =
+sound quiet s l w =
     let r = and6 _ _ _ _ _ _ w in
     record { whole = l; kind = r .0; reason = r .1; place = r .2; no-reason = r .3; no-group = r .4; sets = r .5 }
 
-good-sound : (s : List ℕ) (n : Node) → decoded s ≡ Good n → Sound s × (nodeAt s ≡ n)
+good-sound : (quiet : Bool) (s : List ℕ) (n : Node) → decoded quiet s ≡ Good n → Sound quiet s × (nodeAt s ≡ n)
 unfolding decoded
-good-sound s n = go (eqb (length s) 24) (wellFormed s) refl refl
+good-sound quiet s n = go (eqb (length s) 24) (wellFormed quiet s) refl refl
   where
-    go : (b c : Bool) → eqb (length s) 24 ≡ b → wellFormed s ≡ c → cond b (cond c (Good (nodeAt s)) Malformed) WrongLength ≡ Good n → Sound s × (nodeAt s ≡ n)
-    go true true l w e = (sound s (eqb-true l) w, cc)
+    go : (b c : Bool) → eqb (length s) 24 ≡ b → wellFormed quiet s ≡ c → cond b (cond c (Good (nodeAt s)) Malformed) WrongLength ≡ Good n → Sound quiet s × (nodeAt s ≡ n)
+    go true true l w e = (sound quiet s (eqb-true l) w, cc)
     go true false l w e = let z : _≡_ {A = ℕ} 0 1 = cc in absurd (omega arith)
     go false c l w e = let z : _≡_ {A = ℕ} 0 1 = cc in absurd (omega arith)
 
@@ -153,33 +163,49 @@ zero-group g e =
     λ i. record { number = sym eG i; set = sym eM i; base = sym eB i }
 
 -- the fields of the state that was read are those of the image
-state-back : (k r : ℕ) (g : Group) → ltb k 3 ≡ true → ltb r 3 ≡ true → (eqb k 0 || eqb r 0) ≡ true → (eqb k 2 || isZero g) ≡ true
+-- the reason of a member says whether it requests
+reason-of-member : (r : ℕ) → r < 2 → cond (eqb r 1) 1 0 ≡ r
+reason-of-member zero h = refl
+reason-of-member (suc zero) h = refl
+reason-of-member (suc (suc r)) h = absurd (omega arith)
+
+state-back : (quiet : Bool) (k r : ℕ) (g : Group) → ltb k 3 ≡ true → ltb r 3 ≡ true → formedReason quiet k r ≡ true → (eqb k 2 || isZero g) ≡ true
     → (kindCode (stateOf k r g) ≡ k) × (reasonByte (stateOf k r g) ≡ r) × (groupBytes (stateOf k r g) ≡ g)
-state-back zero r g hk hr er eg = (refl, code-back r hr, zero-group g eg)
-state-back (suc zero) r g hk hr er eg = (refl, sym (eqb-true er), zero-group g eg)
-state-back (suc (suc zero)) r g hk hr er eg = (refl, sym (eqb-true er), refl)
-state-back (suc (suc (suc k))) r g hk hr er eg = let l : suc (suc (suc k)) < 3 = ltb-lt hk in absurd (omega arith)
+state-back quiet zero r g hk hr er eg = (refl, code-back r hr, zero-group g eg)
+state-back quiet (suc zero) r g hk hr er eg = (refl, sym (eqb-true (sym (joining-reason quiet (eqb r 0)) ∙ er)), zero-group g eg)
+state-back quiet (suc (suc zero)) r g hk hr er eg = (refl, reason-of-member r (member-bound quiet r er), refl)
+state-back quiet (suc (suc (suc k))) r g hk hr er eg = let l : suc (suc (suc k)) < 3 = ltb-lt hk in absurd (omega arith)
 
-state-formed : (k r id n : ℕ) (g : Group) → g .number < 2 ^ 32 → (not (eqb k 2) || formedSets id n (g .set) (g .base)) ≡ true → ltb k 3 ≡ true
-    → formedState id n (stateOf k r g) ≡ true
-state-formed zero r id n g h e hk = refl
-state-formed (suc zero) r id n g h e hk = refl
-state-formed (suc (suc zero)) r id n g h e hk = and-i (ltb (g .number) (2 ^ 32)) (formedSets id n (g .set) (g .base)) (ltb-true h) e
-state-formed (suc (suc (suc k))) r id n g h e hk = let l : suc (suc (suc k)) < 3 = ltb-lt hk in absurd (omega arith)
+may-request : (quiet : Bool) (r : ℕ) → formedReason quiet 2 r ≡ true → (quiet || not (eqb r 1)) ≡ true
+may-request true r e = refl
+may-request false r e = not-i (eqb r 1) (no-one (or-e (eqb r 0) false e))
+  where
+    no-one : (eqb r 0 ≡ true) ⊎ (false ≡ true) → eqb r 1 ≡ false
+    no-one (inl h) = let z : r ≡ 0 = eqb-true h in rw z
+    no-one (inr h) = absurd (false≢true h)
 
-pub image-back : (s : List ℕ) (n : Node) → Bytes s → decoded s ≡ Good n → imageOf n ≡ s
+state-formed : (quiet : Bool) (k r id n : ℕ) (g : Group) → formedReason quiet k r ≡ true → g .number < 2 ^ 32 → (not (eqb k 2) || formedSets id n (g .set) (g .base)) ≡ true → ltb k 3 ≡ true
+    → formedState quiet id n (stateOf k r g) ≡ true
+state-formed quiet zero r id n g er h e hk = refl
+state-formed quiet (suc zero) r id n g er h e hk = refl
+state-formed quiet (suc (suc zero)) r id n g er h e hk =
+    and-i (quiet || not (eqb r 1)) (ltb (g .number) (2 ^ 32) && formedSets id n (g .set) (g .base)) (may-request quiet r er)
+    (and-i (ltb (g .number) (2 ^ 32)) (formedSets id n (g .set) (g .base)) (ltb-true h) e)
+state-formed quiet (suc (suc (suc k))) r id n g er h e hk = let l : suc (suc (suc k)) < 3 = ltb-lt hk in absurd (omega arith)
+
+pub image-back : (quiet : Bool) (s : List ℕ) (n : Node) → Bytes s → decoded quiet s ≡ Good n → imageOf n ≡ s
 unfolding imageOf
-image-back s n b e =
-    let r = good-sound s n e in
+image-back quiet s n b e =
+    let r = good-sound quiet s n e in
     let w = r .0 in
-    let same = state-back (kindAt s) (reasonAt s) (groupAt s) (w .kind) (w .reason) (w .no-reason) (w .no-group) in
+    let same = state-back quiet (kindAt s) (reasonAt s) (groupAt s) (w .kind) (w .reason) (w .no-reason) (w .no-group) in
     ap imageOf (sym (r .1)) ∙ rw (same .0, same .1, same .2) (layout-back s (w .whole) b)
 
-pub decoded-formed : (s : List ℕ) (n : Node) → Bytes s → decoded s ≡ Good n → formed n ≡ true
+pub decoded-formed : (quiet : Bool) (s : List ℕ) (n : Node) → Bytes s → decoded quiet s ≡ Good n → formed quiet n ≡ true
 unfolding formed
-decoded-formed s n b e =
-    let r = good-sound s n e in
+decoded-formed quiet s n b e =
+    let r = good-sound quiet s n e in
     let w = r .0 in
-    ap formed (sym (r .1))
+    ap (formed quiet) (sym (r .1))
     ∙ and-i (formedPlace (getD s 2 0) (getD s 3 0)) _ (w .place)
-    (state-formed (kindAt s) (reasonAt s) (getD s 2 0) (getD s 3 0) (groupAt s) (number-lt s 4 4 b) (w .sets) (w .kind))
+    (state-formed quiet (kindAt s) (reasonAt s) (getD s 2 0) (getD s 3 0) (groupAt s) (w .no-reason) (number-lt s 4 4 b) (w .sets) (w .kind))

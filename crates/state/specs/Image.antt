@@ -20,13 +20,13 @@ use Rattle.state.specs.State.{reasonCode, formedSets, formedPlace}
 abbrev pub kindCode : State → ℕ
 kindCode (Out r) = 0
 kindCode Joining = 1
-kindCode (Member g) = 2
+kindCode (Member g a) = 2
 
--- "the reason is 0 unless out, G, M and B are 0 unless member"
+-- "the reason is 0 unless out, G, M and B are 0 unless member"; request 3: "A member's reason byte is 1 when it will request, else 0"
 abbrev pub reasonByte : State → ℕ
 reasonByte (Out r) = reasonCode r
 reasonByte Joining = 0
-reasonByte (Member g) = 0
+reasonByte (Member g a) = cond a 1 0
 
 abbrev pub noGroup : Group
 noGroup = record { number = 0; set = 0; base = 0 }
@@ -34,7 +34,7 @@ noGroup = record { number = 0; set = 0; base = 0 }
 abbrev pub groupBytes : State → Group
 groupBytes (Out r) = noGroup
 groupBytes Joining = noGroup
-groupBytes (Member g) = g
+groupBytes (Member g a) = g
 
 -- its bytes in their order
 abbrev pub layout : ℕ → ℕ → ℕ → ℕ → Group → List ℕ
@@ -58,11 +58,15 @@ groupAt s = record { number = numberAt s 4 4; set = numberAt s 8 8; base = numbe
 abbrev pub isZero : Group → Bool
 isZero g = eqb (g .number) 0 && eqb (g .set) 0 && eqb (g .base) 0
 
-unfoldable pub wellFormed : List ℕ → Bool
-wellFormed s =
+-- the reasons of each kind; that of a member that requests is known in a quiet press alone
+abbrev pub formedReason : Bool → ℕ → ℕ → Bool
+formedReason quiet kind reason = eqb kind 0 || eqb reason 0 || (quiet && (eqb kind 2 && eqb reason 1))
+
+unfoldable pub wellFormed : Bool → List ℕ → Bool
+wellFormed quiet s =
     ltb (kindAt s) 3 && ltb (reasonAt s) 3
     && formedPlace (getD s 2 0) (getD s 3 0)
-    && (eqb (kindAt s) 0 || eqb (reasonAt s) 0)
+    && formedReason quiet (kindAt s) (reasonAt s)
     && (eqb (kindAt s) 2 || isZero (groupAt s))
     && (not (eqb (kindAt s) 2) || formedSets (getD s 2 0) (getD s 3 0) (groupAt s .set) (groupAt s .base))
 
@@ -75,7 +79,7 @@ reasonOf (suc (suc r)) = Outvoted
 abbrev pub stateOf : ℕ → ℕ → Group → State
 stateOf zero r g = Out (reasonOf r)
 stateOf (suc zero) r g = Joining
-stateOf (suc (suc k)) r g = Member g
+stateOf (suc (suc k)) r g = Member g (eqb r 1)
 
 -- a node that passed a test, or not
 abbrev pub nodeIf : Bool → State → ℕ → ℕ → Decoded
@@ -84,9 +88,9 @@ nodeIf test t id n = cond test (Good (record { state = t; id = id; nodes = n }))
 abbrev pub nodeAt : List ℕ → Node
 nodeAt s = record { state = stateOf (kindAt s) (reasonAt s) (groupAt s); id = getD s 2 0; nodes = getD s 3 0 }
 
--- What reading an image finds, and the refusal's number. "3: a lent buffer of another length than named here"; "4: a state image not well formed".
-unfoldable pub decoded : List ℕ → Decoded
-decoded s = cond (eqb (length s) 24) (cond (wellFormed s) (Good (nodeAt s)) Malformed) WrongLength
+-- What reading an image finds, in a quiet press or in one that votes in every cycle, and the refusal's number. "3: a lent buffer of another length than named here"; "4: a state image not well formed".
+unfoldable pub decoded : Bool → List ℕ → Decoded
+decoded quiet s = cond (eqb (length s) 24) (cond (wellFormed quiet s) (Good (nodeAt s)) Malformed) WrongLength
 
 abbrev pub refusal : Decoded → ℕ
 refusal (Good n) = 0

@@ -16,10 +16,11 @@ pub struct Group {
     pub base: u64,
 }
 
+// A member holds its group, and whether it requests in the next cycle: a bit of its heartbeat that wakes the votes of a quiet press.
 pub enum State {
     Out(Reason),
     Joining,
-    Member(Group),
+    Member(Group, bool),
 }
 
 // A node: its state, its number, and how many nodes the cluster has.
