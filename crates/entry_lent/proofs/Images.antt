@@ -25,32 +25,32 @@ isWrong (Good n) = false
 isWrong WrongLength = true
 isWrong Malformed = false
 
-pub length-read : (s : List ℕ) → wrongLength 24 s ≡ isWrong (decoded s)
+pub length-read : (quiet : Bool) (s : List ℕ) → wrongLength 24 s ≡ isWrong (decoded quiet s)
 unfolding decoded
-length-read s = go (eqb (length s) 24) (wellFormed s)
+length-read quiet s = go (eqb (length s) 24) (wellFormed quiet s)
   where
     go : (b c : Bool) → not b ≡ isWrong (cond b (cond c (Good (nodeAt s)) Malformed) WrongLength)
     go true true = refl
     go true false = refl
     go false c = refl
 
-pub good-length : (s : List ℕ) (n : Node) → decoded s ≡ Good n → length s ≡ 24
-good-length s n e = length-is 24 s (length-read s ∙ ap isWrong e)
+pub good-length : (quiet : Bool) (s : List ℕ) (n : Node) → decoded quiet s ≡ Good n → length s ≡ 24
+good-length quiet s n e = length-is 24 s (length-read quiet s ∙ ap isWrong e)
 
-pub good-place : (s : List ℕ) (n : Node) → Bytes s → decoded s ≡ Good n → (n .nodes ≤ 64) × (n .id < n .nodes)
+pub good-place : (quiet : Bool) (s : List ℕ) (n : Node) → Bytes s → decoded quiet s ≡ Good n → (n .nodes ≤ 64) × (n .id < n .nodes)
 unfolding formed
-good-place s n b e =
-    let p = place-bounds (n .id) (n .nodes) (and-l (formedPlace (n .id) (n .nodes)) (formedState (n .id) (n .nodes) (n .state)) (decoded-formed s n b e)) in
+good-place quiet s n b e =
+    let p = place-bounds (n .id) (n .nodes) (and-l (formedPlace (n .id) (n .nodes)) (formedState quiet (n .id) (n .nodes) (n .state)) (decoded-formed quiet s n b e)) in
     (p .1, p .2)
 
-pub other-length : (s f : List ℕ) (k : ℕ) → (length f ≡ k → ⊥) → 3 ≡ first (lentConditions s k f)
+pub other-length : (quiet : Bool) (s f : List ℕ) (k : ℕ) → (length f ≡ k → ⊥) → 3 ≡ first (lentConditions quiet s k f)
 unfolding first
-other-length s f k h = simp (ne-eqb (length f) k h, or-true)
+other-length quiet s f k h = simp (ne-eqb (length f) k h, or-true)
 
 -- past the other buffer the image decides
-pub by-image : (s f : List ℕ) (k : ℕ) → length f ≡ k → refusal (decoded s) ≡ first (lentConditions s k f)
+pub by-image : (quiet : Bool) (s f : List ℕ) (k : ℕ) → length f ≡ k → refusal (decoded quiet s) ≡ first (lentConditions quiet s k f)
 unfolding first
-by-image s f k l = simp (eq-eqb (length f) k l, or-false, length-read s) (by (decoded s))
+by-image quiet s f k l = simp (eq-eqb (length f) k l, or-false, length-read quiet s) (by (decoded quiet s))
   where
     by : (d : Decoded) → refusal d ≡ cond (isWrong d) 3 (cond (eqb (refusal d) 4) 4 0)
     by (Good n) = refl
@@ -58,10 +58,10 @@ by-image s f k l = simp (eq-eqb (length f) k l, or-false, length-read s) (by (de
     by Malformed = refl
 
 -- what is left of a call that reads an image is what it was before, if it is that where the image is refused
-pub image-kept : {A : Type 0} (left : Decoded → A) (before : A) (s : List ℕ) → left WrongLength ≡ before → left Malformed ≡ before → (imageStatus s ≡ 0 → ⊥)
-    → left (decoded s) ≡ before
+pub image-kept : {A : Type 0} (quiet : Bool) (left : Decoded → A) (before : A) (s : List ℕ) → left WrongLength ≡ before → left Malformed ≡ before → (imageStatus quiet s ≡ 0 → ⊥)
+    → left (decoded quiet s) ≡ before
 unfolding imageStatus
-image-kept left before s short malformed refused = by (decoded s) refused
+image-kept quiet left before s short malformed refused = by (decoded quiet s) refused
   where
     by : (d : Decoded) → (refusal d ≡ 0 → ⊥) → left d ≡ before
     by (Good n) refused = absurd (refused refl)

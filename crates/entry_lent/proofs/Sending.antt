@@ -28,14 +28,14 @@ abbrev statusOf : Lent → ℕ
 statusOf (Holds n) = 0
 statusOf (Refused r) = r
 
-module _ (wrong : Bool) (s : List ℕ) (k : ℕ) (f : List ℕ) where
+module _ (quiet wrong : Bool) (s : List ℕ) (k : ℕ) (f : List ℕ) where
   -- refusals 2, 3 and 4 of such a call
   abbrev pub sendStatus : ℕ
-  sendStatus = first (when wrong 2 ∷ lentConditions s k f)
+  sendStatus = first (when wrong 2 ∷ lentConditions quiet s k f)
 
-  status-found : (r : Lent) → r ≡ lentNode wrong s (length f) k → statusOf r ≡ sendStatus
+  status-found : (r : Lent) → r ≡ lentNode quiet wrong s (length f) k → statusOf r ≡ sendStatus
   unfolding lentNode first
-  status-found r e = ap statusOf e ∙ simp (length-read s) (go wrong (eqb (length f) k) (decoded s))
+  status-found r e = ap statusOf e ∙ simp (length-read quiet s) (go wrong (eqb (length f) k) (decoded quiet s))
     where
       go : (b e : Bool) (d : Decoded)
           → statusOf (cond b (Refused 2) (cond e (inImage d) (Refused 3))) ≡ cond b 2 (cond (isWrong d || not e) 3 (cond (eqb (refusal d) 4) 4 0))
@@ -48,13 +48,13 @@ module _ (wrong : Bool) (s : List ℕ) (k : ℕ) (f : List ℕ) where
       go false false Malformed = refl
 
   -- what is found, by what the code looked at
-  pub seen : (w : Bool) (d r : Lent) → w ≡ wrong → d ≡ lentNode w s (length f) k → d ≡ r → lentNode wrong s (length f) k ≡ r
-  seen w d r e p q = ap (λ (b : Bool). lentNode b s (length f) k) (sym e) ∙ sym p ∙ q
+  pub seen : (w : Bool) (d r : Lent) → w ≡ wrong → d ≡ lentNode quiet w s (length f) k → d ≡ r → lentNode quiet wrong s (length f) k ≡ r
+  seen w d r e p q = ap (λ (b : Bool). lentNode quiet b s (length f) k) (sym e) ∙ sym p ∙ q
 
   -- a node is found where nothing is wrong
-  pub found : (n : Node) → lentNode wrong s (length f) k ≡ Holds n → (wrong ≡ false) × (length f ≡ k) × (decoded s ≡ Good n)
+  pub found : (n : Node) → lentNode quiet wrong s (length f) k ≡ Holds n → (wrong ≡ false) × (length f ≡ k) × (decoded quiet s ≡ Good n)
   unfolding lentNode
-  found n h = let z = go wrong (eqb (length f) k) (decoded s) h in (z .0, eqb-true (length f) k (z .1), z .2)
+  found n h = let z = go wrong (eqb (length f) k) (decoded quiet s) h in (z .0, eqb-true (length f) k (z .1), z .2)
     where
       go : (b e : Bool) (d : Decoded) → cond b (Refused 2) (cond e (inImage d) (Refused 3)) ≡ Holds n → (b ≡ false) × (e ≡ true) × (d ≡ Good n)
       go true e d h = absurd (apart 2 n h)
@@ -64,9 +64,9 @@ module _ (wrong : Bool) (s : List ℕ) (k : ℕ) (f : List ℕ) where
       go false true Malformed h = absurd (apart 4 n h)
 
   -- a refusal has a number
-  numbered : (r : ℕ) → lentNode wrong s (length f) k ≡ Refused r → r ≡ 0 → ⊥
+  numbered : (r : ℕ) → lentNode quiet wrong s (length f) k ≡ Refused r → r ≡ 0 → ⊥
   unfolding lentNode
-  numbered r h z = go wrong (eqb (length f) k) (decoded s) h
+  numbered r h z = go wrong (eqb (length f) k) (decoded quiet s) h
     where
       some : (k : ℕ) → (k ≡ 0 → ⊥) → Refused k ≡ Refused r → ⊥
       some k never e = let w : k ≡ r = cc in never (w ∙ z)
@@ -82,15 +82,15 @@ module _ (wrong : Bool) (s : List ℕ) (k : ℕ) (f : List ℕ) where
     -- the status, and what is left of the frame and of the mark
     abbrev pub Sends : ℕ → List ℕ → ℕ → Type 0
     Sends r left mark =
-        (r ≡ sendStatus) × ((left ≡ unless sendStatus (from (decoded s)) f) × (mark ≡ unless sendStatus (marked (decoded s)) sent))
+        (r ≡ sendStatus) × ((left ≡ unless sendStatus (from (decoded quiet s)) f) × (mark ≡ unless sendStatus (marked (decoded quiet s)) sent))
 
-    pub sends-none : (r : ℕ) → lentNode wrong s (length f) k ≡ Refused r → Sends r f sent
+    pub sends-none : (r : ℕ) → lentNode quiet wrong s (length f) k ≡ Refused r → Sends r f sent
     sends-none r h =
         let e : r ≡ sendStatus = status-found (Refused r) (sym h) in
         let never : sendStatus ≡ 0 → ⊥ = λ z. numbered r h (e ∙ z) in
         (e, (sym (unless-refused _ _ f never), sym (unless-refused _ _ sent never)))
 
-    pub sends : (n : Node) (left : List ℕ) (mark : ℕ) → lentNode wrong s (length f) k ≡ Holds n → left ≡ from (Good n) → mark ≡ marked (Good n) → Sends 0 left mark
+    pub sends : (n : Node) (left : List ℕ) (mark : ℕ) → lentNode quiet wrong s (length f) k ≡ Holds n → left ≡ from (Good n) → mark ≡ marked (Good n) → Sends 0 left mark
     sends n left mark h a b =
         let e : 0 ≡ sendStatus = status-found (Holds n) (sym h) in
         let g = sym (found n h .2) in

@@ -16,5 +16,5 @@ inImage WrongLength = Refused 3
 inImage Malformed = Refused 4
 
 -- "of several the lowest": 2 where a number is wrong, 3 where the buffer has another length than is due, then what the image gives
-unfoldable pub lentNode : Bool → List ℕ → ℕ → ℕ → Lent
-lentNode wrong s given due = cond wrong (Refused 2) (cond (eqb given due) (inImage (decoded s)) (Refused 3))
+unfoldable pub lentNode : Bool → Bool → List ℕ → ℕ → ℕ → Lent
+lentNode quiet wrong s given due = cond wrong (Refused 2) (cond (eqb given due) (inImage (decoded quiet s)) (Refused 3))

@@ -35,16 +35,16 @@ abbrev pub wrongLength : ℕ → List ℕ → Bool
 wrongLength k s = not (eqb (length s) k)
 
 -- "4: a state image not well formed"; an image of another length is 3
-abbrev pub malformed : List ℕ → Bool
-malformed s = eqb (refusal (decoded s)) 4
+abbrev pub malformed : Bool → List ℕ → Bool
+malformed quiet s = eqb (refusal (decoded quiet s)) 4
 
 -- 3 and 4 of a call that is lent a state image, and a buffer where k bytes are due
-abbrev pub lentConditions : List ℕ → ℕ → List ℕ → List Condition
-lentConditions s k f = when (wrongLength 24 s || wrongLength k f) 3 ∷ when (malformed s) 4 ∷ []
+abbrev pub lentConditions : Bool → List ℕ → ℕ → List ℕ → List Condition
+lentConditions quiet s k f = when (wrongLength 24 s || wrongLength k f) 3 ∷ when (malformed quiet s) 4 ∷ []
 
 -- 3 and 4, where nothing but a state image can be refused
-unfoldable pub imageStatus : List ℕ → ℕ
-imageStatus s = refusal (decoded s)
+unfoldable pub imageStatus : Bool → List ℕ → ℕ
+imageStatus quiet s = refusal (decoded quiet s)
 
 -- "13: founding set empty; a bit .. beyond its limit"
 unfoldable pub wrongFounding : ℕ → ℕ → Bool

@@ -48,9 +48,9 @@ pub fn wrong_indicators(sync: u32, startup: u32) -> bool
     sync < startup
 }
 
-// The node of a call whose numbers are `wrong` or not, and that is lent `given` bytes where `due` are.
-pub fn lent_node(wrong: bool, state: &[u8], given: usize, due: usize) -> Lent
-    ensures { λ r. ⌜ r ≡ lentNode wrong (now (state .entry)) given due ⌝ }
+// The node of a call in a quiet press or not, whose numbers are `wrong` or not, and that is lent `given` bytes where `due` are.
+pub fn lent_node(quiet: bool, wrong: bool, state: &[u8], given: usize, due: usize) -> Lent
+    ensures { λ r. ⌜ r ≡ lentNode quiet wrong (now (state .entry)) given due ⌝ }
 {
     if wrong {
         return Lent::Refused(2);
@@ -58,7 +58,7 @@ pub fn lent_node(wrong: bool, state: &[u8], given: usize, due: usize) -> Lent
     if given != due {
         return Lent::Refused(3);
     }
-    match state_decoding::decode(state) {
+    match state_decoding::decode(quiet, state) {
         Decoded::Good(n) => Lent::Holds(n),
         Decoded::WrongLength => Lent::Refused(3),
         Decoded::Malformed => Lent::Refused(4),

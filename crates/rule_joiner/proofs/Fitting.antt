@@ -14,7 +14,7 @@ use Rattle.sets.proofs.Nodes.{those-in, in-those, of-those, has-below, lowest-l
 use Rattle.state.specs.declared.State.the-variants.{Joining, Member}
 use Rattle.rules.specs.declared.Config.{Config}
 use Rattle.rules.specs.declared.Vote.{Vote}
-use Rattle.rules.specs.OneCycle.{Ballots, is, wins, newSet, groupWith, newGroup, fits, joinerDecides}
+use Rattle.rules.specs.OneCycle.{Ballots, is, wins, newSet, groupWith, newGroup, fits, entersWith, joinerDecides}
 use Rattle.rules.specs.Ballots.{voteAt, ballotsOf, fitsAt, agreesAt}
 use Rattle.rules.proofs.Votes.{is-eq, is-self}
 use Rattle.rules.proofs.Slots.{equal-voters, slot-full, slot-empty}
@@ -103,7 +103,7 @@ module _ (numbers sets bases views : List ℕ) (present : ℕ) where
           at : (j : ℕ) → has j others ≡ (has j rest && not (has j m))
           at j = ap (has j) eo ∙ has-diff j rest m
 
-          decided : (r : Bool) → r ≡ every (C .nodes) (agreesAt (C .nodes) q arrived v) → joinerDecides C q arrived ≡ cond r (Member (newGroup (C .nodes) arrived v)) Joining
+          decided : (r : Bool) → r ≡ every (C .nodes) (agreesAt (C .nodes) q arrived v) → joinerDecides C q arrived ≡ cond r (entersWith C arrived v) Joining
           decided r e =
               enters-on C q arrived first v r (first-in .0) before (ap (fitsAt (C .nodes) q arrived) low ∙ fit) (slot-vote (C .nodes) q first m v (first-in .0) (first-in .2) ev em) e
             where
@@ -114,10 +114,10 @@ module _ (numbers sets bases views : List ℕ) (present : ℕ) where
                   out p k (lowest-least 64 p (λ x. has x rest) u)
 
           -- no other fits
-          pub enters-only : (c : ℕ) → c ≡ m ∩ v .group .set → D ≡ 0 → Member (groupWith v (c ∪ (v .view ∖ v .group .set))) ≡ joinerDecides C q (ballotsOf numbers sets bases views present)
+          pub enters-only : (c : ℕ) → c ≡ m ∩ v .group .set → D ≡ 0 → Member (groupWith v (c ∪ (v .view ∖ v .group .set))) (C .quiet) ≡ joinerDecides C q (ballotsOf numbers sets bases views present)
           unfolding newGroup newSet
           enters-only c ec z =
-              ap (λ (x : ℕ). Member (groupWith v (x ∪ (v .view ∖ v .group .set)))) (ec ∙ equal-voters (C .nodes) m arrived v em)
+              ap (λ (x : ℕ). Member (groupWith v (x ∪ (v .view ∖ v .group .set))) (C .quiet)) (ec ∙ equal-voters (C .nodes) m arrived v em)
               ∙ sym (decided true (sym (every-i (C .nodes) (agreesAt (C .nodes) q arrived v) (λ j l. go j l (has j m) refl (has j rest) refl))))
             where
               go : (j : ℕ) → j < C .nodes → (x : Bool) → has j m ≡ x → (y : Bool) → has j rest ≡ y → agreesAt (C .nodes) q arrived v j ≡ true

@@ -78,7 +78,7 @@ pub fn joiner_decides(
     let m = rule_steps::equal_votes(n, numbers, sets, bases, views, present, v);
     let others = sets::difference(rest, m);
     if from_fit(n, q, numbers, sets, bases, views, present, others) == 0 {
-        rule_steps::member_on(v, sets::intersection(m, g.set))
+        rule_steps::enters_with(config, v, sets::intersection(m, g.set))
     } else {
         State::Joining
     }

@@ -1,11 +1,11 @@
-// Rule 5 of one member. Votes are lent as four arrays, a slot for each sender, and the mask of the slots that hold one.
+// Rule 5 of one member, and what one decides that did not vote. Votes are lent as four arrays, a slot for each sender, and the mask of the slots that hold one.
 ghost use mathlib.Core.Path.{_≡_};
 ghost use mathlib.Core.Bool.{false, _&&_, cond};
 ghost use Prim.Native.Nat.{_<_, _≤_};
 ghost use lib.Dec.{eqb};
 ghost use Rattle.sets.specs.Sets.{has, _∩_, any, single as theSingle, lowest as theLowest};
 ghost use Rattle.sets.specs.Quorum.{quorum};
-ghost use Rattle.rules.specs.OneCycle.{wins, withOwn, rival, memberDecides};
+ghost use Rattle.rules.specs.OneCycle.{wins, withOwn, rival, memberDecides, rests, silentDecides};
 ghost use Rattle.rules.specs.Ballots.{ballotsOf, OneVote};
 use rules::Config;
 use rules::Vote;
@@ -112,6 +112,50 @@ pub fn halts(
     }
 }
 
+// The group of a member that did not vote.
+fn resting(g: Group) -> Group
+    ensures { λ r. ⌜ r ≡ rests g ⌝ }
+{
+    Group {
+        number: g.number,
+        set: g.set,
+        base: g.set,
+    }
+}
+
+// What a member of the group decides that did not vote: it halts if the others' votes give some V a quorum, its own M too; else it keeps its set.
+pub fn silent_decides(
+    config: Config,
+    q: usize,
+    group: Group,
+    numbers: &[u32; 64],
+    sets: &[u64; 64],
+    bases: &[u64; 64],
+    views: &[u64; 64],
+    lead: u64,
+    present: u64,
+) -> State
+    requires { ⌜ (config .nodes ≤ 64) × (q < 64) ⌝ }
+    requires { ⌜ OneVote (now numbers) (now sets) (now bases) (now views) (config .nodes) present lead ⌝ }
+    ensures { λ r. ⌜ r ≡ silentDecides config q group (ballotsOf (now (numbers .entry)) (now (sets .entry)) (now (bases .entry)) (now (views .entry)) present) ⌝ }
+{
+    let theirs = sets::difference(present, sets::single(q));
+    if any_agreed(
+        config.nodes,
+        numbers,
+        sets,
+        bases,
+        views,
+        lead,
+        theirs,
+        group,
+    ) {
+        State::Out(Reason::Outvoted)
+    } else {
+        State::Member(resting(group), false)
+    }
+}
+
 // Rule 5. The own vote counts whatever stands in the own slot, and for no view but its own.
 pub fn member_decides(
     config: Config,
@@ -135,7 +179,7 @@ pub fn member_decides(
         sets::contains(g.set, q),
     );
     if sets::is_quorum(mine, g.base) {
-        rule_steps::member_on(own, mine)
+        rule_steps::member_on(config, own, mine)
     } else {
         halts(config, q, own, numbers, sets, bases, views, 0, present)
     }

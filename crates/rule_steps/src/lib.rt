@@ -1,10 +1,11 @@
-// Rules 1 to 4 of one node, and the group that a vote gives. Votes are lent as four arrays, a slot for each sender, and the mask of the slots that hold one.
+// Rules 1 to 4 of one node, whether it votes, and the group that a vote gives. Votes are lent as four arrays, a slot for each sender, and the mask of the slots that hold one.
 ghost use mathlib.Core.Path.{_≡_};
 ghost use mathlib.Core.Bool.{true, false, _&&_};
 ghost use Prim.Native.Nat.{_<_, _≤_};
 ghost use Rattle.sets.specs.Sets.{_∪_, _∖_};
-ghost use Rattle.rules.specs.OneCycle.{stopAndStart, sendsMember, sendsJoin, viewOf, sameGroup, is, groupWith};
+ghost use Rattle.rules.specs.OneCycle.{stopAndStart, sendsMember, sendsJoin, asks as doesAsk, viewOf, called, willVote, sameGroup, is, groupWith, requestWith};
 ghost use Rattle.rules.specs.Ballots.{groupAt, voteAt, ballotsOf, equalTo};
+use rules::Config;
 use rules::Vote;
 use state::Group;
 use state::Reason;
@@ -24,7 +25,7 @@ pub fn stop_and_start(stop: bool, start: bool, s: State) -> State
     match s {
         State::Out(r) => if start { State::Joining } else { State::Out(r) },
         State::Joining => State::Joining,
-        State::Member(g) => State::Member(g),
+        State::Member(g, a) => State::Member(g, a),
     }
 }
 
@@ -35,7 +36,7 @@ pub fn sends_member(s: State) -> bool
     match s {
         State::Out(_) => false,
         State::Joining => false,
-        State::Member(_) => true,
+        State::Member(_, _) => true,
     }
 }
 
@@ -45,7 +46,18 @@ pub fn sends_join(s: State) -> bool
     match s {
         State::Out(_) => false,
         State::Joining => true,
-        State::Member(_) => false,
+        State::Member(_, _) => false,
+    }
+}
+
+// Who sends one with a request.
+pub fn asks(s: State) -> bool
+    ensures { λ r. ⌜ r ≡ doesAsk s ⌝ }
+{
+    match s {
+        State::Out(_) => false,
+        State::Joining => false,
+        State::Member(_, a) => a,
     }
 }
 
@@ -57,6 +69,22 @@ pub fn view(n: usize, q: usize, set: u64, heard0: u64, heard1: u64) -> u64
     let members = sets::intersection(set, sets::below(n, heard0));
     let joiners = sets::difference(sets::below(n, heard1), set);
     sets::union(sets::union(sets::single(q), members), joiners)
+}
+
+// Whether a member of a group with the given set votes: by its view, its own request, and the nodes that it heard with one.
+pub fn will_vote(config: Config, set: u64, view: u64, own: bool, requests: u64) -> bool
+    ensures { λ r. ⌜ r ≡ willVote config set view (called set own requests) ⌝ }
+{
+    if !config.quiet {
+        return true;
+    }
+    if view != set {
+        return true;
+    }
+    if own {
+        return true;
+    }
+    sets::intersection(set, requests) != 0
 }
 
 pub fn same_group(g: Group, h: Group) -> bool
@@ -90,12 +118,42 @@ pub fn group_with(v: Vote, set: u64) -> Group
     Group { number, set, base }
 }
 
-// A member of the group that a vote gives: its voters, and the nodes of its view that are to come in.
-pub fn member_on(v: Vote, voters: u64) -> State
-    ensures { λ r. ⌜ r ≡ State.Member (groupWith v (voters ∪ (v .view ∖ v .group .set))) ⌝ }
+// The set that a vote gives: its voters, and the nodes of its view that are to come in.
+fn new_set(v: Vote, voters: u64) -> u64
+    ensures { λ r. ⌜ r ≡ voters ∪ (v .view ∖ v .group .set) ⌝ }
 {
     let g = v.group;
-    State::Member(group_with(v, sets::union(voters, sets::difference(v.view, g.set))))
+    sets::union(voters, sets::difference(v.view, g.set))
+}
+
+// Whether a member that goes on with this set requests.
+fn request_with(config: Config, v: Vote, set: u64) -> bool
+    ensures { λ r. ⌜ r ≡ requestWith config v set ⌝ }
+{
+    if !config.quiet {
+        return false;
+    }
+    let g = v.group;
+    if v.view != g.set {
+        return true;
+    }
+    set != g.set
+}
+
+// A member that goes on with the group that a vote gives.
+pub fn member_on(config: Config, v: Vote, voters: u64) -> State
+    ensures { λ r. ⌜ r ≡ State.Member (groupWith v (voters ∪ (v .view ∖ v .group .set))) (requestWith config v (voters ∪ (v .view ∖ v .group .set))) ⌝ }
+{
+    let set = new_set(v, voters);
+    let group = group_with(v, set);
+    State::Member(group, request_with(config, v, set))
+}
+
+// A joining node that enters with it.
+pub fn enters_with(config: Config, v: Vote, voters: u64) -> State
+    ensures { λ r. ⌜ r ≡ State.Member (groupWith v (voters ∪ (v .view ∖ v .group .set))) (config .quiet) ⌝ }
+{
+    State::Member(group_with(v, new_set(v, voters)), config.quiet)
 }
 
 pub fn vote_at(

@@ -11,10 +11,11 @@ use Rattle.sets.proofs.Booleans.{both, eqb-self, eqb-true, ltb-true, and-l, and
 use Rattle.sets.proofs.Membership.{_⊆_, has-union, has-single, set-ext}
 use Rattle.sets.proofs.Nodes.{has-those, any-i, any-e}
 use Rattle.state.specs.declared.Reason.the-variants.{NoQuorum, Outvoted}
+use Rattle.state.specs.declared.Group.{Group}
 use Rattle.state.specs.declared.State.the-variants.{Out, Member}
 use Rattle.rules.specs.declared.Vote.{Vote}
 use Rattle.rules.specs.declared.Config.{Config}
-use Rattle.rules.specs.OneCycle.{Ballots, sendsMember, sameGroup, is, voters, wins, newSet, groupWith, newGroup, requestWith, requestAfter, withOwn, without, rival, memberDecides}
+use Rattle.rules.specs.OneCycle.{Ballots, sendsMember, sameGroup, is, voters, wins, newSet, groupWith, newGroup, requestWith, requestAfter, withOwn, without, rival, memberDecides, rests, silentDecides}
 use Rattle.rules.specs.Ballots.{ballotsOf, equalTo}
 use Rattle.rules.proofs.Votes.{vote-self, voters-is, voters-sub, in-voters}
 use Rattle.rules.proofs.States.{none-some, some-inj}
@@ -113,15 +114,15 @@ module _ (N q : ℕ) (own : Vote) (b : Ballots) where
 
 -- ---- the same from the votes in slots
 
-module _ (numbers sets bases views : List ℕ) (N present q : ℕ) (own : Vote) (s d : ℕ) (es : s ≡ single q) (ed : d ≡ present ∖ s) where
+module _ (numbers sets bases views : List ℕ) (N present q : ℕ) (s d : ℕ) (es : s ≡ single q) (ed : d ≡ present ∖ s) where
   -- d holds the slots of the others
   pub others : ballotsOf numbers sets bases views d ≡ without q (ballotsOf numbers sets bases views present)
   others = ap (ballotsOf numbers sets bases views) (ed ∙ ap (λ (x : ℕ). present ∖ x) es) ∙ slots-without numbers sets bases views present q
 
   -- e, those of them that cast the own vote
-  pub own-tally : (e t m : ℕ) (r : Bool) → q < N → e ≡ equalTo numbers sets bases views N d own → t ≡ e ∩ own .group .set → r ≡ has q (own .group .set) → m ≡ cond r (single q ∪ t) t
+  pub own-tally : (own : Vote) (e t m : ℕ) (r : Bool) → q < N → e ≡ equalTo numbers sets bases views N d own → t ≡ e ∩ own .group .set → r ≡ has q (own .group .set) → m ≡ cond r (single q ∪ t) t
       → m ≡ voters N (withOwn q own (ballotsOf numbers sets bases views present)) own
-  own-tally e t m r l ee et er em =
+  own-tally own e t m r l ee et er em =
       let theirs : t ≡ voters N (without q (ballotsOf numbers sets bases views present)) own =
       et ∙ equal-voters N e (ballotsOf numbers sets bases views d) own ee ∙ ap (λ (b : Ballots). voters N b own) others in
       em ∙ ap₂ (λ (x : Bool) (y : ℕ). cond x (single q ∪ y) y) er theirs ∙ sym (own-voters N q own (ballotsOf numbers sets bases views present) l)
@@ -159,3 +160,9 @@ module _ (C : Config) (q : ℕ) (own : Vote) (b : Ballots) where
       go : (r : Bool) → wins (C .nodes) (withOwn q own b) own ≡ r → r ≡ true
       go true w = refl
       go false w = sym (out another) ∙ ap sendsMember (sym (decides-out another w refl)) ∙ e
+
+-- one that did not vote halts if another vote has a quorum
+pub silent-out : (C : Config) (q : ℕ) (g : Group) (b : Ballots) (r : Bool) → r ≡ any (C .nodes) (λ p. rival (C .nodes) (without q b) g (without q b p))
+    → silentDecides C q g b ≡ cond r (Out Outvoted) (Member (rests g) false)
+unfolding silentDecides
+silent-out C q g b r e = ap (λ (x : Bool). cond x (Out Outvoted) (Member (rests g) false)) (sym e)

@@ -1,5 +1,5 @@
 -- What reading an image finds, by its length, its place and its kind. Assumes nothing.
-use mathlib.Core.Path.{_≡_, refl, ap, _∙_}
+use mathlib.Core.Path.{_≡_, refl, _∙_}
 use mathlib.Core.Logic.{_⊎_, inl, inr}
 use mathlib.Core.Bool.{Bool, true, false, _&&_, _||_}
 use mathlib.Core.List.{List}
@@ -12,24 +12,17 @@ use Rattle.sets.proofs.Booleans.{and-l, and-r, or-e}
 use Rattle.state.specs.declared.State.the-variants.{Out, Joining, Member}
 use Rattle.state.specs.declared.Decoded.the-variants.{WrongLength, Malformed}
 use Rattle.state.specs.State.{formedPlace, formedSets}
-use Rattle.state.specs.Image.{kindAt, reasonAt, groupAt, isZero, reasonOf, nodeIf, formedReason, wellFormed, decoded}
+use Rattle.state.specs.Image.{kindAt, reasonAt, groupAt, isZero, reasonOf, nodeIf, memberReason, formedReason, wellFormed, decoded}
 
 and-true : (b : Bool) → (b && true) ≡ b
 and-true true = refl
 and-true false = refl
 
-and-false : (b : Bool) → (b && false) ≡ false
+pub and-false : (b : Bool) → (b && false) ≡ false
 and-false true = refl
 and-false false = refl
 
 -- a joining node has reason 0, a member 0 or, in a quiet press, 1: reasons that are known
-abbrev pub memberReason : Bool → ℕ → Bool
-memberReason quiet r = eqb r 0 || (quiet && eqb r 1)
-
-pub joining-reason : (quiet b : Bool) → (b || (quiet && false)) ≡ b
-joining-reason quiet true = refl
-joining-reason quiet false = and-false quiet
-
 pub member-bound : (quiet : Bool) (r : ℕ) → memberReason quiet r ≡ true → r < 2
 member-bound quiet r e = go (or-e (eqb r 0) (quiet && eqb r 1) e)
   where
@@ -42,7 +35,7 @@ known r true h = let l : r < 2 = h refl in and-true (ltb r 3) ∙ lt-ltb r 3 (om
 known r false h = and-false (ltb r 3)
 
 zero-known : (quiet : Bool) (r : ℕ) → (ltb r 3 && formedReason quiet 1 r) ≡ eqb r 0
-zero-known quiet r = ap (λ (b : Bool). ltb r 3 && b) (joining-reason quiet (eqb r 0)) ∙ known r (eqb r 0) (λ e. let z : r ≡ 0 = eqb-true r 0 e in omega arith)
+zero-known quiet r = known r (eqb r 0) (λ e. let z : r ≡ 0 = eqb-true r 0 e in omega arith)
 
 member-known : (quiet : Bool) (r : ℕ) → (ltb r 3 && formedReason quiet 2 r) ≡ memberReason quiet r
 member-known quiet r = known r (memberReason quiet r) (member-bound quiet r)

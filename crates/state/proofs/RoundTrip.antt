@@ -24,8 +24,8 @@ use Rattle.state.specs.declared.Node.{Node}
 use Rattle.state.specs.declared.Decoded.the-variants.{Good, WrongLength, Malformed}
 use Rattle.state.specs.State.{reasonCode, formedSets, formedPlace, formedState, formed}
 use Rattle.state.specs.Image.{kindCode, reasonByte, noGroup, groupBytes, layout, imageOf}
-use Rattle.state.specs.Image.{kindAt, reasonAt, groupAt, isZero, wellFormed, reasonOf, formedReason, stateOf, nodeIf, nodeAt, decoded}
-use Rattle.state.proofs.Fields.{memberReason, joining-reason, member-bound, place-bounds, of-out, of-joining, of-member}
+use Rattle.state.specs.Image.{kindAt, reasonAt, groupAt, isZero, memberReason, formedReason, wellFormed, reasonOf, stateOf, nodeIf, nodeAt, decoded}
+use Rattle.state.proofs.Fields.{member-bound, place-bounds, of-out, of-joining, of-member}
 
 pub image-length : (n : Node) → length (imageOf n) ≡ 24
 unfolding imageOf bytesOf
@@ -172,7 +172,7 @@ reason-of-member (suc (suc r)) h = absurd (omega arith)
 state-back : (quiet : Bool) (k r : ℕ) (g : Group) → ltb k 3 ≡ true → ltb r 3 ≡ true → formedReason quiet k r ≡ true → (eqb k 2 || isZero g) ≡ true
     → (kindCode (stateOf k r g) ≡ k) × (reasonByte (stateOf k r g) ≡ r) × (groupBytes (stateOf k r g) ≡ g)
 state-back quiet zero r g hk hr er eg = (refl, code-back r hr, zero-group g eg)
-state-back quiet (suc zero) r g hk hr er eg = (refl, sym (eqb-true (sym (joining-reason quiet (eqb r 0)) ∙ er)), zero-group g eg)
+state-back quiet (suc zero) r g hk hr er eg = (refl, sym (eqb-true er), zero-group g eg)
 state-back quiet (suc (suc zero)) r g hk hr er eg = (refl, reason-of-member r (member-bound quiet r er), refl)
 state-back quiet (suc (suc (suc k))) r g hk hr er eg = let l : suc (suc (suc k)) < 3 = ltb-lt hk in absurd (omega arith)
 

@@ -58,9 +58,12 @@ groupAt s = record { number = numberAt s 4 4; set = numberAt s 8 8; base = numbe
 abbrev pub isZero : Group → Bool
 isZero g = eqb (g .number) 0 && eqb (g .set) 0 && eqb (g .base) 0
 
--- the reasons of each kind; that of a member that requests is known in a quiet press alone
+-- request 3: the reason of a member that requests is known in a quiet press alone
+abbrev pub memberReason : Bool → ℕ → Bool
+memberReason quiet reason = eqb reason 0 || (quiet && eqb reason 1)
+
 abbrev pub formedReason : Bool → ℕ → ℕ → Bool
-formedReason quiet kind reason = eqb kind 0 || eqb reason 0 || (quiet && (eqb kind 2 && eqb reason 1))
+formedReason quiet kind reason = eqb kind 0 || cond (eqb kind 2) (memberReason quiet reason) (eqb reason 0)
 
 unfoldable pub wellFormed : Bool → List ℕ → Bool
 wellFormed quiet s =

@@ -5,7 +5,7 @@ ghost use Prim.Native.Nat.{_≤_, _<_};
 ghost use lib.Dec.{eqb, ltb};
 ghost use lib.ListN.{length};
 ghost use Rattle.state.specs.State.{formedPlace, formedSets};
-ghost use Rattle.state.specs.Image.{isZero, groupAt, reasonOf, nodeIf, decoded};
+ghost use Rattle.state.specs.Image.{isZero, groupAt, memberReason, reasonOf, nodeIf, decoded};
 use state::Decoded;
 use state::Group;
 use state::Node;
@@ -99,20 +99,26 @@ fn joining_node(reason: u8, id: u8, n: u8, g: Group) -> Decoded
     }
 }
 
-// Kind 2: no reason, and sets that a member may have.
-fn member_node(reason: u8, id: u8, n: u8, g: Group) -> Decoded
+// Kind 2: a reason, in a quiet press alone, for a member that requests, and sets that a member may have.
+fn member_node(quiet: bool, reason: u8, id: u8, n: u8, g: Group) -> Decoded
     requires { ⌜ (id < 64) × (n ≤ 64) ⌝ }
-    ensures { λ r. ⌜ r ≡ nodeIf (eqb reason 0 && formedSets id n (g .set) (g .base)) (State.Member g) id n ⌝ }
+    ensures { λ r. ⌜ r ≡ nodeIf (memberReason quiet reason && formedSets id n (g .set) (g .base)) (State.Member g (eqb reason 1)) id n ⌝ }
 {
+    let formed = sets_formed(id, n, g.set, g.base);
     match reason {
-        0 => node_if(sets_formed(id, n, g.set, g.base), State::Member(g), id, n),
+        0 => node_if(formed, State::Member(g, false), id, n),
+        1 => if quiet {
+            node_if(formed, State::Member(g, true), id, n)
+        } else {
+            Decoded::Malformed
+        },
         _ => Decoded::Malformed,
     }
 }
 
-// The node of an image.
-pub fn decode(s: &[u8]) -> Decoded
-    ensures { λ r. ⌜ r ≡ decoded (now (s .entry)) ⌝ }
+// The node of an image, in a quiet press or in one that votes in every cycle.
+pub fn decode(quiet: bool, s: &[u8]) -> Decoded
+    ensures { λ r. ⌜ r ≡ decoded quiet (now (s .entry)) ⌝ }
 {
     if s.len() != 24 {
         return Decoded::WrongLength;
@@ -127,7 +133,7 @@ pub fn decode(s: &[u8]) -> Decoded
     match s[0] {
         0 => out_node(reason, id, n, g),
         1 => joining_node(reason, id, n, g),
-        2 => member_node(reason, id, n, g),
+        2 => member_node(quiet, reason, id, n, g),
         _ => Decoded::Malformed,
     }
 }

@@ -1,5 +1,6 @@
 // A node's 24-byte image, written.
 ghost use mathlib.Core.Path.{_≡_};
+ghost use mathlib.Core.Bool.{cond};
 ghost use Rattle.state.specs.State.{reasonCode};
 ghost use Rattle.state.specs.Image.{layout, imageOf, noGroup};
 use state::Group;
@@ -15,6 +16,13 @@ pub fn reason_code(r: Reason) -> u8
         Reason::NoQuorum => 1,
         Reason::Outvoted => 2,
     }
+}
+
+// The reason byte of a member: whether it requests.
+pub fn request_code(a: bool) -> u8
+    ensures { λ c. ⌜ c ≡ cond a 1 0 ⌝ }
+{
+    if a { 1 } else { 0 }
 }
 
 // What stands in the image of a node with no group.
@@ -70,6 +78,6 @@ pub fn encode(n: Node) -> [u8; 24]
     match s {
         State::Out(r) => image(0, reason_code(r), n.id, n.nodes, no_group()),
         State::Joining => image(1, 0, n.id, n.nodes, no_group()),
-        State::Member(g) => image(2, 0, n.id, n.nodes, g),
+        State::Member(g, a) => image(2, request_code(a), n.id, n.nodes, g),
     }
 }

@@ -11,9 +11,9 @@ use Rattle.entry_lent.proofs.lent_node.Statement.{statement}
 use Rattle.entry_lent.proofs.lent_node.Tie as tie
 
 -- past the numbers and the buffer the image decides
-by-image : (wrong : Bool) (s : List ℕ) (given due : ℕ) (d r : Decoded) → wrong ≡ false → given ≡ due → d ≡ decoded s → d ≡ r → inImage r ≡ lentNode wrong s given due
+by-image : (quiet wrong : Bool) (s : List ℕ) (given due : ℕ) (d r : Decoded) → wrong ≡ false → given ≡ due → d ≡ decoded quiet s → d ≡ r → inImage r ≡ lentNode quiet wrong s given due
 unfolding lentNode
-by-image wrong s given due d r w l e f = simp (w, eq-eqb given due l, sym e ∙ f)
+by-image quiet wrong s given due d r w l e f = simp (w, eq-eqb given due l, sym e ∙ f)
 
 returns : tie.Need-returns
 unfolding lentNode
@@ -36,13 +36,13 @@ enum-told-2 : tie.Need-enum-told-2
 enum-told-2 c = search needs
 
 returns-3 : tie.Need-returns-3
-returns-3 c = let d = c .before .before .before in by-image _ _ _ _ _ _ (d .before .before .if1 .left) (d .before .if2 .left) (d .decode .ensures) (c .before .n .given .1)
+returns-3 c = let d = c .before .before .before in by-image _ _ _ _ _ _ _ (d .before .before .if1 .left) (d .before .if2 .left) (d .decode .ensures) (c .before .n .given .1)
 
 returns-4 : tie.Need-returns-4
-returns-4 c = let d = c .before .before in by-image _ _ _ _ _ _ (d .before .before .if1 .left) (d .before .if2 .left) (d .decode .ensures) (c .enum-told .given .1)
+returns-4 c = let d = c .before .before in by-image _ _ _ _ _ _ _ (d .before .before .if1 .left) (d .before .if2 .left) (d .decode .ensures) (c .enum-told .given .1)
 
 returns-5 : tie.Need-returns-5
-returns-5 c = let d = c .before .before in by-image _ _ _ _ _ _ (d .before .before .if1 .left) (d .before .if2 .left) (d .decode .ensures) (c .enum-told2 .given .1)
+returns-5 c = let d = c .before .before in by-image _ _ _ _ _ _ _ (d .before .before .if1 .left) (d .before .if2 .left) (d .decode .ensures) (c .enum-told2 .given .1)
 
 pub lent-node-spec : {M : Type 1} → statement M
 lent-node-spec =

@@ -57,7 +57,7 @@ returns-2 c =
     let f = o .before .before in
     let s = f .before .before in
     let a = s .args in
-    c .member-on .ensures ∙ enters-only (a .numbers .now) (a .sets .now) (a .bases .now) (a .views .now) (a .present) (a .config) (a .q) (f .before .below .result) (f .from-fit .result) (f .before .below .ensures) (rest f) (o .lowest .result) (s .pre .0) (o .before .if1 .left) (o .lowest .ensures) (d .before .equal-votes .result) (d .before .before .before .vote-at .result) (f .from-fit .ensures .1 .1 (o .before .if1 .left)) (d .before .before .before .vote-at .ensures) (d .before .equal-votes .ensures) (d .difference .result) (c .before .before .before .from-fit2 .result) (d .difference .ensures) (record { within = c .before .before .before .from-fit2 .ensures .0; unfit = c .before .before .before .from-fit2 .ensures .1 .0 }) (c .before .intersection .result) (c .before .intersection .ensures) (c .before .before .if2 .taken)
+    c .enters-with .ensures ∙ enters-only (a .numbers .now) (a .sets .now) (a .bases .now) (a .views .now) (a .present) (a .config) (a .q) (f .before .below .result) (f .from-fit .result) (f .before .below .ensures) (rest f) (o .lowest .result) (s .pre .0) (o .before .if1 .left) (o .lowest .ensures) (d .before .equal-votes .result) (d .before .before .before .vote-at .result) (f .from-fit .ensures .1 .1 (o .before .if1 .left)) (d .before .before .before .vote-at .ensures) (d .before .equal-votes .ensures) (d .difference .result) (c .before .before .before .from-fit2 .result) (d .difference .ensures) (record { within = c .before .before .before .from-fit2 .ensures .0; unfit = c .before .before .before .from-fit2 .ensures .1 .0 }) (c .before .intersection .result) (c .before .intersection .ensures) (c .before .before .if2 .taken)
 
 from-fit-requires-2 : tie.Need-from-fit-requires-2
 from-fit-requires-2 c κs =
@@ -70,8 +70,8 @@ from-fit-requires-2 c κs =
 intersection-requires : tie.Need-intersection-requires
 intersection-requires c κs = search needs
 
-member-on-requires : tie.Need-member-on-requires
-member-on-requires c κs = search needs
+enters-with-requires : tie.Need-enters-with-requires
+enters-with-requires c κs = search needs
 
 returns-3 : tie.Need-returns-3
 returns-3 c =
@@ -96,6 +96,6 @@ joiner-decides-spec =
     difference-requires
     from-fit-requires-2
     intersection-requires
-    member-on-requires
+    enters-with-requires
     returns-2
     returns-3)

@@ -35,7 +35,7 @@ halted c =
     let a = s .args in
     decides-out (a .config) (a .q) (a .own) (arrived c) _ (s .pre .1 .1)
     (c .any-agreed .ensures
-    ∙ ap (λ (b : Ballots). any (a .config .nodes) (λ p. rival (a .config .nodes) b (a .own .group) (b p))) (others (a .numbers .now) (a .sets .now) (a .bases .now) (a .views .now) (a .config .nodes) (a .present) (a .q) (a .own) _ _ (c .before .before .single .ensures) (c .before .difference .ensures)))
+    ∙ ap (λ (b : Ballots). any (a .config .nodes) (λ p. rival (a .config .nodes) b (a .own .group) (b p))) (others (a .numbers .now) (a .sets .now) (a .bases .now) (a .views .now) (a .config .nodes) (a .present) (a .q) _ _ (c .before .before .single .ensures) (c .before .difference .ensures)))
 
 returns : tie.Need-returns
 returns c = sym (halted (c .before) ∙ cond-taken _ _ _ (c .if1 .taken))

@@ -43,7 +43,7 @@ mine : (c : tie.After-include) → c .include .result ≡ voters (start c .args 
 mine c =
     let a = start c .args in
     let i = c .before .before in
-    own-tally (a .numbers .now) (a .sets .now) (a .bases .now) (a .views .now) (a .config .nodes) (a .present) (a .q) (a .own) _ _ (i .before .before .before .single .ensures) (i .before .before .difference .ensures) _ _ _ _ (start c .pre .1) (i .before .equal-votes .ensures) (i .intersection .ensures) (c .before .contains .ensures) (c .include .ensures)
+    own-tally (a .numbers .now) (a .sets .now) (a .bases .now) (a .views .now) (a .config .nodes) (a .present) (a .q) _ _ (i .before .before .before .single .ensures) (i .before .before .difference .ensures) (a .own) _ _ _ _ (start c .pre .1) (i .before .equal-votes .ensures) (i .intersection .ensures) (c .before .contains .ensures) (c .include .ensures)
 
 -- whether it wins
 won : (c : tie.After-is-quorum) → c .is-quorum .result ≡ wins (start (c .before) .args .config .nodes) (withOwn (start (c .before) .args .q) (start (c .before) .args .own) (arrived (start (c .before)))) (start (c .before) .args .own)

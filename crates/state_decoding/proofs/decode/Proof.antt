@@ -23,7 +23,7 @@ formed-place : (a : tie.After-group-at) → placeAt (image a) ≡ true
 formed-place a = sym (a .before .before .before .place-formed .ensures) ∙ not-false _ (a .before .before .if2 .left)
 
 returns : tie.Need-returns
-returns c = sym (wrong-length _ (c .if1 .taken))
+returns c = sym (wrong-length _ _ (c .if1 .taken))
 
 shared-slice-read-id : tie.Need-shared-slice-read-id
 shared-slice-read-id c = omega arith
@@ -35,7 +35,7 @@ place-formed-requires : tie.Need-place-formed-requires
 place-formed-requires c κs = search needs
 
 returns-2 : tie.Need-returns-2
-returns-2 c = sym (no-place _ (c .before .before .before .before .if1 .left) (sym (c .before .place-formed .ensures) ∙ not-true _ (c .if2 .taken)))
+returns-2 c = sym (no-place _ _ (c .before .before .before .before .if1 .left) (sym (c .before .place-formed .ensures) ∙ not-true _ (c .if2 .taken)))
 
 shared-slice-read-reason : tie.Need-shared-slice-read-reason
 shared-slice-read-reason c = omega arith
@@ -58,20 +58,20 @@ member-node-requires c κs = let b = place-bounds _ _ (formed-place (c .before .
 returns-3 : tie.Need-returns-3
 returns-3 c =
     let a = c .before .before .before in
-    rw (c .out-node .ensures, a .group-at .ensures) (sym (of-out _ (whole a) (formed-place a) (c .before .match .keys1)))
+    rw (c .out-node .ensures, a .group-at .ensures) (sym (of-out _ _ (whole a) (formed-place a) (c .before .match .keys1)))
 
 returns-4 : tie.Need-returns-4
 returns-4 c =
     let a = c .before .before .before in
-    rw (c .joining-node .ensures, a .group-at .ensures) (sym (of-joining _ (whole a) (formed-place a) (c .before .match .keys2)))
+    rw (c .joining-node .ensures, a .group-at .ensures) (sym (of-joining _ _ (whole a) (formed-place a) (c .before .match .keys2)))
 
 returns-5 : tie.Need-returns-5
 returns-5 c =
     let a = c .before .before .before in
-    rw (c .member-node .ensures, a .group-at .ensures) (sym (of-member _ (whole a) (formed-place a) (c .before .match .keys3)))
+    rw (c .member-node .ensures, a .group-at .ensures) (sym (of-member _ _ (whole a) (formed-place a) (c .before .match .keys3)))
 
 returns-6 : tie.Need-returns-6
-returns-6 c = sym (kind-unknown _ (whole (c .before .before)) (three _ (c .match .rest .0 .0 .1) (c .match .rest .0 .1) (c .match .rest .1)))
+returns-6 c = sym (kind-unknown _ _ (whole (c .before .before)) (three _ (c .match .rest .0 .0 .1) (c .match .rest .0 .1) (c .match .rest .1)))
 
 pub decode-spec : {M : Type 1} → statement M
 decode-spec =

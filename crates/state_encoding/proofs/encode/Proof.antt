@@ -27,6 +27,9 @@ image-requires-2 c κs = search needs
 enum-known-s-2 : tie.Need-enum-known-s-2
 enum-known-s-2 c = search needs
 
+request-code-requires : tie.Need-request-code-requires
+request-code-requires c κs = search needs
+
 image-requires-3 : tie.Need-image-requires-3
 image-requires-3 c κs = search needs
 
@@ -40,7 +43,7 @@ returns-2 c = simp (c .image2 .ensures, c .before .no-group2 .ensures, c .before
 
 returns-3 : tie.Need-returns-3
 unfolding imageOf
-returns-3 c = simp (c .image3 .ensures, c .before .before .s2 .given .1)
+returns-3 c = simp (c .image3 .ensures, c .before .request-code .ensures, c .before .before .before .s2 .given .1)
 
 pub encode-spec : {M : Type 1} → statement M
 encode-spec =
@@ -54,6 +57,7 @@ encode-spec =
     no-group-requires-2
     image-requires-2
     enum-known-s-2
+    request-code-requires
     image-requires-3
     returns
     returns-2
