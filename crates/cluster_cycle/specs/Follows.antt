@@ -1,7 +1,7 @@
 -- A member that is kept for those that decide the same.
 -- Assumes nothing.
 use mathlib.Core.Path.{_≡_}
-use mathlib.Core.Bool.{Bool, true, _&&_}
+use mathlib.Core.Bool.{Bool, true, _&&_, cond}
 use mathlib.Core.List.{List}
 use Prim.Native.Nat.{ℕ, _<_}
 use lib.Dec.{eqb}
@@ -18,11 +18,11 @@ abbrev pub follows : Followed → ℕ → ℕ → Bool
 follows k present q = has q (k .votes) && eqb (ownTally (k .votes) (k .set) present q) (k .counted)
 
 -- what is kept is worth: whoever follows decides the same
-abbrev pub Worth : List ℕ → List ℕ → List ℕ → List ℕ → Config → Roles → Followed → Type 0
-Worth numbers sets bases views C w k =
-    (q present : ℕ) → q < C .nodes → Within present (w .members) → follows k present q ≡ true → decidedAt numbers sets bases views C w present q ≡ Member (k .group)
+abbrev pub Worth : List ℕ → List ℕ → List ℕ → List ℕ → Config → Roles → ℕ → Followed → Type 0
+Worth numbers sets bases views C w voting k =
+    (q present : ℕ) → q < C .nodes → Within present voting → follows k present q ≡ true → decidedAt numbers sets bases views C w voting present q ≡ Member (k .group) (k .request)
 
--- the masks with node q added as a member
-abbrev pub withMember : Roles → ℕ → Roles
-withMember w q =
-    record { members = single q ∪ w .members; joining = w .joining; «no_quorum» = w .«no_quorum»; outvoted = w .outvoted }
+-- the masks with node q added as a member, and whether it requests
+abbrev pub withMember : Roles → ℕ → Bool → Roles
+withMember w q a =
+    record { members = single q ∪ w .members; asking = cond a (single q ∪ w .asking) (w .asking); joining = w .joining; «no_quorum» = w .«no_quorum»; outvoted = w .outvoted }

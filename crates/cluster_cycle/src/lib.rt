@@ -4,9 +4,9 @@ ghost use Prim.Native.Nat.{ℕ, _<_, _≤_};
 ghost use lib.ListN.{length, getD};
 ghost use Rattle.sets.specs.Sets.{_∖_};
 ghost use Rattle.rules.specs.Faults.{cycle as theCycle};
-ghost use Rattle.cluster_tallies.specs.Grouped.{Grouped, Within};
+ghost use Rattle.cluster_tallies.specs.Grouped.{Grouped, Within, Below};
 ghost use Rattle.cluster_states.specs.States.{statesOf, faultsOf, stateAt, rowOf};
-ghost use Rattle.cluster_states.specs.Decided.{viewAt, decidedAt};
+ghost use Rattle.cluster_states.specs.Decided.{viewAt, votingOf, decidedAt};
 ghost use Rattle.cluster_cycle.specs.Follows.{follows as doesFollow, Worth, withMember};
 use cluster_states::Roles;
 use cluster_states::States;
@@ -37,6 +37,34 @@ fn views_of(
     }
 }
 
+// The members that vote: in a quiet press those that see a change or are called by a request. Of `requests` those count that reach a member.
+fn voting_of(
+    config: Config,
+    sets: &[u64; 64],
+    views: &[u64; 64],
+    w: Roles,
+    requests: u64,
+    missed: &[u64; 64],
+) -> u64
+    requires { ⌜ config .nodes ≤ 64 ⌝ }
+    requires { ⌜ Below (config .nodes) (w .members) ⌝ }
+    ensures { λ r. ⌜ r ≡ votingOf config (now (sets .entry)) (now (views .entry)) w requests (now (missed .entry)) ⌝ }
+{
+    if !config.quiet {
+        return w.members;
+    }
+    let mut m: u64 = 0;
+    let mut p: usize = 0;
+    while p < config.nodes {
+        let heard = sets::difference(requests, missed[p]);
+        let own = sets::contains(w.asking, p);
+        let called = rule_steps::will_vote(config, sets[p], views[p], own, heard);
+        m = sets::include(m, p, sets::contains(w.members, p) & called);
+        p += 1;
+    }
+    m
+}
+
 // What node q decides on the votes in the slots `present`.
 fn decide(
     config: Config,
@@ -48,14 +76,15 @@ fn decide(
     lead: u64,
     same: &[u64; 64],
     w: Roles,
+    voting: u64,
     present: u64,
 ) -> State
     requires { ⌜ (config .nodes ≤ 64) × (q < config .nodes) ⌝ }
-    requires { ⌜ Grouped (now numbers) (now sets) (now bases) (now views) (config .nodes) (w .members) lead (now same) ⌝ }
-    requires { ⌜ Within present (w .members) ⌝ }
-    ensures { λ r. ⌜ r ≡ decidedAt (now (numbers .entry)) (now (sets .entry)) (now (bases .entry)) (now (views .entry)) config w present q ⌝ }
+    requires { ⌜ Grouped (now numbers) (now sets) (now bases) (now views) (config .nodes) voting lead (now same) ⌝ }
+    requires { ⌜ Within present voting ⌝ }
+    ensures { λ r. ⌜ r ≡ decidedAt (now (numbers .entry)) (now (sets .entry)) (now (bases .entry)) (now (views .entry)) config w voting present q ⌝ }
 {
-    if sets::contains(w.members, q) {
+    if sets::contains(voting, q) {
         cluster_tallies::member_decides(
             config,
             q,
@@ -65,7 +94,20 @@ fn decide(
             views,
             lead,
             same,
-            w.members,
+            voting,
+            present,
+        )
+    } else if sets::contains(w.members, q) {
+        cluster_tallies::silent_decides(
+            config,
+            q,
+            numbers,
+            sets,
+            bases,
+            views,
+            lead,
+            same,
+            voting,
             present,
         )
     } else if sets::contains(w.joining, q) {
@@ -78,7 +120,7 @@ fn decide(
             views,
             lead,
             same,
-            w.members,
+            voting,
             present,
         )
     } else {
@@ -86,25 +128,28 @@ fn decide(
     }
 }
 
-// The masks with node q added as a member.
-fn with_member(w: Roles, q: usize) -> Roles
+// The masks with node q added as a member, and whether it requests.
+fn with_member(w: Roles, q: usize, request: bool) -> Roles
     requires { ⌜ q < 64 ⌝ }
-    ensures { λ r. ⌜ r ≡ withMember w q ⌝ }
+    ensures { λ r. ⌜ r ≡ withMember w q request ⌝ }
 {
     Roles {
         members: sets::union(sets::single(q), w.members),
+        asking: sets::include(w.asking, q, request),
         joining: w.joining,
         no_quorum: w.no_quorum,
         outvoted: w.outvoted,
     }
 }
 
-// A member that stays, for those that decide the same: the members that cast its vote, the set of its group, the votes that it counts, and its new group.
+// A member that stays on its vote, for those that decide the same: the members that cast its vote, the set of its group, the votes that it counts, its new
+// group, and whether it requests.
 struct Followed {
     votes: u64,
     set: u64,
     counted: u64,
     group: Group,
+    request: bool,
 }
 
 fn nobody() -> Followed
@@ -119,6 +164,7 @@ fn nobody() -> Followed
             set: 0,
             base: 0,
         },
+        request: false,
     }
 }
 
@@ -134,7 +180,7 @@ fn follows(k: Followed, present: u64, q: usize) -> bool
     }
 }
 
-// What is kept once node q has decided d: the last member that stays.
+// What is kept once node q has decided d: the last member that stays on its vote.
 fn keep(
     config: Config,
     q: usize,
@@ -145,20 +191,21 @@ fn keep(
     lead: u64,
     same: &[u64; 64],
     w: Roles,
+    voting: u64,
     present: u64,
     d: State,
     k: Followed,
 ) -> Followed
     requires { ⌜ (config .nodes ≤ 64) × (q < config .nodes) ⌝ }
-    requires { ⌜ Grouped (now numbers) (now sets) (now bases) (now views) (config .nodes) (w .members) lead (now same) ⌝ }
-    requires { ⌜ Within present (w .members) ⌝ }
-    requires { ⌜ d ≡ decidedAt (now numbers) (now sets) (now bases) (now views) config w present q ⌝ }
-    requires { ⌜ Worth (now numbers) (now sets) (now bases) (now views) config w k ⌝ }
-    ensures { λ r. ⌜ Worth (now (numbers .entry)) (now (sets .entry)) (now (bases .entry)) (now (views .entry)) config w r ⌝ }
+    requires { ⌜ Grouped (now numbers) (now sets) (now bases) (now views) (config .nodes) voting lead (now same) ⌝ }
+    requires { ⌜ Within present voting ⌝ }
+    requires { ⌜ d ≡ decidedAt (now numbers) (now sets) (now bases) (now views) config w voting present q ⌝ }
+    requires { ⌜ Worth (now numbers) (now sets) (now bases) (now views) config w voting k ⌝ }
+    ensures { λ r. ⌜ Worth (now (numbers .entry)) (now (sets .entry)) (now (bases .entry)) (now (views .entry)) config w voting r ⌝ }
 {
     let votes = cluster_tallies::votes_like(lead, same, q);
     let set = sets[q];
-    if !sets::contains(w.members, q) {
+    if !sets::contains(voting, q) {
         return k;
     }
     if !rule_steps::sends_member(d) {
@@ -169,6 +216,7 @@ fn keep(
         set,
         counted: cluster_tallies::own_tally(votes, set, present, q),
         group: cluster_states::held_by(d),
+        request: rule_steps::asks(d),
     }
 }
 
@@ -182,6 +230,7 @@ fn decisions(
     lead: u64,
     same: &[u64; 64],
     w: Roles,
+    voting: u64,
     sent: u64,
     missed: &[u64; 64],
     new_numbers: &mut [u32; 64],
@@ -189,13 +238,14 @@ fn decisions(
     new_bases: &mut [u64; 64],
 ) -> Roles
     requires { ⌜ (config .nodes ≤ 64) × (length (now «new_numbers») ≡ 64) × (length (now «new_sets») ≡ 64) × (length (now «new_bases») ≡ 64) ⌝ }
-    requires { ⌜ Grouped (now numbers) (now sets) (now bases) (now views) (config .nodes) (w .members) lead (now same) ⌝ }
-    requires { ⌜ Within sent (w .members) ⌝ }
-    ensures { λ r. ⌜ ((q : ℕ) → q < config .nodes → stateAt (statesOf r (now («new_numbers» .exit)) (now («new_sets» .exit)) (now («new_bases» .exit))) q ≡ decidedAt (now (numbers .entry)) (now (sets .entry)) (now (bases .entry)) (now (views .entry)) config w (sent ∖ getD (now (missed .entry)) q 0) q) ⌝ }
+    requires { ⌜ Grouped (now numbers) (now sets) (now bases) (now views) (config .nodes) voting lead (now same) ⌝ }
+    requires { ⌜ Within sent voting ⌝ }
+    ensures { λ r. ⌜ ((q : ℕ) → q < config .nodes → stateAt (statesOf r (now («new_numbers» .exit)) (now («new_sets» .exit)) (now («new_bases» .exit))) q ≡ decidedAt (now (numbers .entry)) (now (sets .entry)) (now (bases .entry)) (now (views .entry)) config w voting (sent ∖ getD (now (missed .entry)) q 0) q) ⌝ }
 {
     let n = config.nodes;
     let mut next = Roles {
         members: 0,
+        asking: 0,
         joining: 0,
         no_quorum: 0,
         outvoted: 0,
@@ -206,9 +256,21 @@ fn decisions(
         let came = sets::difference(sent, missed[q]);
         let mut g = k.group;
         if follows(k, came, q) {
-            next = with_member(next, q);
+            next = with_member(next, q, k.request);
         } else {
-            let d = decide(config, q, numbers, sets, bases, views, lead, same, w, came);
+            let d = decide(
+                config,
+                q,
+                numbers,
+                sets,
+                bases,
+                views,
+                lead,
+                same,
+                w,
+                voting,
+                came,
+            );
             k = keep(
                 config,
                 q,
@@ -219,6 +281,7 @@ fn decisions(
                 lead,
                 same,
                 w,
+                voting,
                 came,
                 d,
                 k,
@@ -260,8 +323,11 @@ pub fn advance<'a>(
         unheard,
         &mut views,
     );
+    let asking = sets::intersection(v.members, v.asking);
+    let requests = sets::difference(asking, m.heartbeat_lost);
+    let voting = voting_of(config, sets, &views, v, requests, unheard);
     let mut same = [0u64; 64];
-    let lead = cluster_tallies::groups_of(n, numbers, sets, bases, &views, v.members, &mut same);
+    let lead = cluster_tallies::groups_of(n, numbers, sets, bases, &views, voting, &mut same);
     let mut new_numbers = [0u32; 64];
     let mut new_sets = [0u64; 64];
     let mut new_bases = [0u64; 64];
@@ -274,7 +340,8 @@ pub fn advance<'a>(
         lead,
         &same,
         v,
-        sets::difference(v.members, m.vote_lost),
+        voting,
+        sets::difference(voting, m.vote_lost),
         missed,
         &mut new_numbers,
         &mut new_sets,
@@ -298,6 +365,7 @@ pub fn cycle(config: Config, s: States, f: Faults) -> States
         config,
         Roles {
             members: s.members,
+            asking: s.asking,
             joining: s.joining,
             no_quorum: s.no_quorum,
             outvoted: s.outvoted,
@@ -316,6 +384,7 @@ pub fn cycle(config: Config, s: States, f: Faults) -> States
     );
     States {
         members: w.members,
+        asking: w.asking,
         joining: w.joining,
         no_quorum: w.no_quorum,
         outvoted: w.outvoted,

@@ -20,6 +20,7 @@ abbrev pub statesOf : Roles → List ℕ → List ℕ → List ℕ → States
 statesOf w numbers sets bases =
     record {
       members = w .members;
+      asking = w .asking;
       joining = w .joining;
       «no_quorum» = w .«no_quorum»;
       outvoted = w .outvoted;
@@ -41,14 +42,14 @@ faultsOf m heartbeats votes =
 
 -- the masks of the states
 abbrev pub rolesOf : States → Roles
-rolesOf s = record { members = s .members; joining = s .joining; «no_quorum» = s .«no_quorum»; outvoted = s .outvoted }
+rolesOf s = record { members = s .members; asking = s .asking; joining = s .joining; «no_quorum» = s .«no_quorum»; outvoted = s .outvoted }
 
 abbrev pub groupAt : States → ℕ → Group
 groupAt s q = record { number = getD (s .numbers) q 0; set = getD (s .sets) q 0; base = getD (s .bases) q 0 }
 
 unfoldable pub stateAt : States → ℕ → State
 stateAt s q =
-    cond (has q (s .members)) (Member (groupAt s q))
+    cond (has q (s .members)) (Member (groupAt s q) (has q (s .asking)))
     (cond (has q (s .joining)) Joining
     (cond (has q (s .«no_quorum»)) (Out NoQuorum)
     (cond (has q (s .outvoted)) (Out Outvoted)

@@ -8,11 +8,13 @@ use state::Group;
 use state::Reason;
 use state::State;
 
-// The states of all nodes: who is a member, who is joining, who is out for want of a quorum or outvoted (the others are out, stopped), and the group that
-// each member holds. Masks and arrays, so that a cycle works on all nodes at once. Contracts speak of the row that they stand for (`rowOf`). What it does
-// not show is free, and no row after it depends on that: mask bits of nodes from N on and of nodes in a mask named before, groups of nodes that are no members.
+// The states of all nodes: who is a member, which members request, who is joining, who is out for want of a quorum or outvoted (the others are out, stopped),
+// and the group that each member holds. Masks and arrays, so that a cycle works on all nodes at once. Contracts speak of the row that they stand for (`rowOf`). What it does
+// not show is free, and no row after it depends on that: mask bits of nodes from N on and of nodes in a mask named before, requests and groups of nodes that are no
+// members.
 pub struct States {
     pub members: u64,
+    pub asking: u64,
     pub joining: u64,
     pub no_quorum: u64,
     pub outvoted: u64,
@@ -28,6 +30,7 @@ pub fn begin(n: usize, founding: u64) -> States
 {
     States {
         members: founding,
+        asking: 0,
         joining: 0,
         no_quorum: 0,
         outvoted: 0,
@@ -40,6 +43,7 @@ pub fn begin(n: usize, founding: u64) -> States
 // The masks of the states alone: rule 1 leaves the groups as they are.
 pub struct Roles {
     pub members: u64,
+    pub asking: u64,
     pub joining: u64,
     pub no_quorum: u64,
     pub outvoted: u64,
@@ -54,6 +58,7 @@ pub fn rule_one(n: usize, w: Roles, stop: u64, start: u64) -> Roles
     let waiting = sets::union(start, sets::difference(w.joining, stop));
     Roles {
         members,
+        asking: w.asking,
         joining: sets::below(n, sets::difference(waiting, members)),
         no_quorum: sets::difference(w.no_quorum, stop),
         outvoted: sets::difference(w.outvoted, stop),
@@ -87,7 +92,7 @@ pub fn held_by(s: State) -> Group
             set: 0,
             base: 0,
         },
-        State::Member(g) => g,
+        State::Member(g, _) => g,
     }
 }
 
@@ -101,7 +106,7 @@ fn is_no_quorum(s: State) -> bool
             Reason::Outvoted => false,
         },
         State::Joining => false,
-        State::Member(_) => false,
+        State::Member(_, _) => false,
     }
 }
 
@@ -115,7 +120,7 @@ fn is_outvoted(s: State) -> bool
             Reason::Outvoted => true,
         },
         State::Joining => false,
-        State::Member(_) => false,
+        State::Member(_, _) => false,
     }
 }
 
@@ -126,6 +131,7 @@ pub fn with_state(w: Roles, q: usize, d: State) -> Roles
 {
     Roles {
         members: sets::include(w.members, q, rule_steps::sends_member(d)),
+        asking: sets::include(w.asking, q, rule_steps::asks(d)),
         joining: sets::include(w.joining, q, rule_steps::sends_join(d)),
         no_quorum: sets::include(w.no_quorum, q, is_no_quorum(d)),
         outvoted: sets::include(w.outvoted, q, is_outvoted(d)),

@@ -51,17 +51,17 @@ module _ (numbers sets bases views : List ℕ) (n present : ℕ) (holds : Option
 
 -- ---- the next slot p, and all with its vote
 
-module _ (numbers sets bases views : List ℕ) (n members present : ℕ) (inside : Within present members) (lead : ℕ) (same : List ℕ) (grouped : Grouped numbers sets bases views n members lead same) where
+module _ (numbers sets bases views : List ℕ) (n voting present : ℕ) (inside : Within present voting) (lead : ℕ) (same : List ℕ) (grouped : Grouped numbers sets bases views n voting lead same) where
   module _ (p votes : ℕ) (l : p < n) (h : has p present ≡ true) (o : votes ≡ spreadAt lead same p) where
     votes-own : has p votes ≡ true
     votes-own =
         ap (has p) (o ∙ grouped p l (inside p h))
-        ∙ in-those p n (λ x. is (voteAt numbers sets bases views p) (ballotsOf numbers sets bases views members x)) l (is-self (voteAt numbers sets bases views p) (ballotsOf numbers sets bases views members p) (slot-full numbers sets bases views members p (inside p h)))
+        ∙ in-those p n (λ x. is (voteAt numbers sets bases views p) (ballotsOf numbers sets bases views voting x)) l (is-self (voteAt numbers sets bases views p) (ballotsOf numbers sets bases views voting p) (slot-full numbers sets bases views voting p (inside p h)))
 
     -- whoever is among those with the vote of p cast what p did
     alike-slots : (j : ℕ) → has j votes ≡ true → has j present ≡ true → ballotsOf numbers sets bases views present j ≡ ballotsOf numbers sets bases views present p
     alike-slots j i k =
-        slot-full numbers sets bases views present j k ∙ ap {B = Option Vote} some (cast-it numbers sets bases views n members lead same grouped p j l (inside p h) (ap (has j) (sym o) ∙ i) .1)
+        slot-full numbers sets bases views present j k ∙ ap {B = Option Vote} some (cast-it numbers sets bases views n voting lead same grouped p j l (inside p h) (ap (has j) (sym o) ∙ i) .1)
         ∙ sym (slot-full numbers sets bases views present p h)
 
   module _ (holds : Option Vote → Bool) (left p votes m : ℕ) (s : Looked numbers sets bases views n present holds left m) (l : p < n) (h : has p left ≡ true) (o : votes ≡ spreadAt lead same p) (L : ℕ) (k : L ≡ left ∖ votes) where

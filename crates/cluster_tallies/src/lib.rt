@@ -4,8 +4,8 @@ ghost use mathlib.Core.Bool.{true};
 ghost use Prim.Native.Nat.{ℕ, _<_, _≤_};
 ghost use lib.ListN.{length, getD};
 ghost use Rattle.sets.specs.Sets.{has, _∩_, those};
-ghost use Rattle.rules.specs.OneCycle.{memberDecides, joinerDecides};
-ghost use Rattle.rules.specs.Ballots.{voteAt, ballotsOf, fitsAt};
+ghost use Rattle.rules.specs.OneCycle.{memberDecides, silentDecides, joinerDecides};
+ghost use Rattle.rules.specs.Ballots.{groupAt, voteAt, ballotsOf, fitsAt};
 ghost use Rattle.cluster_tallies.specs.Grouped.{Alike, Grouped, spreadAt, Within, Below, ownTally};
 use rules::Config;
 use state::State;
@@ -23,49 +23,49 @@ fn spread(n: usize, m: u64, same: &mut [u64; 64])
     }
 }
 
-// The members with the vote of the lowest of them: in most cycles all.
+// Of the members that vote, those with the vote of the lowest of them: in most cycles all.
 fn leading(
     n: usize,
     numbers: &[u32; 64],
     sets: &[u64; 64],
     bases: &[u64; 64],
     views: &[u64; 64],
-    members: u64,
+    voting: u64,
 ) -> u64
     requires { ⌜ n ≤ 64 ⌝ }
-    requires { ⌜ Below n members ⌝ }
-    ensures { λ r. ⌜ Alike (now (numbers .entry)) (now (sets .entry)) (now (bases .entry)) (now (views .entry)) n members r ⌝ }
+    requires { ⌜ Below n voting ⌝ }
+    ensures { λ r. ⌜ Alike (now (numbers .entry)) (now (sets .entry)) (now (bases .entry)) (now (views .entry)) n voting r ⌝ }
 {
-    if members == 0 {
+    if voting == 0 {
         return 0;
     }
-    let p = sets::lowest(members) as usize;
+    let p = sets::lowest(voting) as usize;
     let v = rule_steps::vote_at(numbers, sets, bases, views, p);
-    rule_steps::equal_votes(n, numbers, sets, bases, views, members, v)
+    rule_steps::equal_votes(n, numbers, sets, bases, views, voting, v)
 }
 
-// For each member the members with an equal vote: the result for its own nodes, `same` for the others. A vote is looked for once, for the lowest member
+// For each member that votes the members with an equal vote: the result for its own nodes, `same` for the others. A vote is looked for once, for the lowest member
 // that cast it. The largest group leads: a member that halts looks at it first. Free: which vote leads, and in `same` the
-// places of its nodes and of nodes that are no members.
+// places of its nodes and of nodes that do not vote.
 pub fn groups_of(
     n: usize,
     numbers: &[u32; 64],
     sets: &[u64; 64],
     bases: &[u64; 64],
     views: &[u64; 64],
-    members: u64,
+    voting: u64,
     same: &mut [u64; 64],
 ) -> u64
     requires { ⌜ (n ≤ 64) × (length (now same) ≡ 64) ⌝ }
-    requires { ⌜ Below n members ⌝ }
-    ensures { λ r. ⌜ Grouped (now (numbers .entry)) (now (sets .entry)) (now (bases .entry)) (now (views .entry)) n members r (now (same .exit)) ⌝ }
+    requires { ⌜ Below n voting ⌝ }
+    ensures { λ r. ⌜ Grouped (now (numbers .entry)) (now (sets .entry)) (now (bases .entry)) (now (views .entry)) n voting r (now (same .exit)) ⌝ }
 {
-    let mut lead = leading(n, numbers, sets, bases, views, members);
-    let mut left = sets::difference(members, lead);
+    let mut lead = leading(n, numbers, sets, bases, views, voting);
+    let mut left = sets::difference(voting, lead);
     while left != 0 {
         let p = sets::lowest(left) as usize;
         let v = rule_steps::vote_at(numbers, sets, bases, views, p);
-        let m = rule_steps::equal_votes(n, numbers, sets, bases, views, members, v);
+        let m = rule_steps::equal_votes(n, numbers, sets, bases, views, voting, v);
         let more = sets::size(lead) < sets::size(m);
         spread(n, sets::pick(more, lead, m), same);
         lead = sets::pick(more, m, lead);
@@ -107,12 +107,12 @@ pub fn member_decides(
     views: &[u64; 64],
     lead: u64,
     same: &[u64; 64],
-    members: u64,
+    voting: u64,
     present: u64,
 ) -> State
-    requires { ⌜ (config .nodes ≤ 64) × (q < config .nodes) × (has q members ≡ true) ⌝ }
-    requires { ⌜ Grouped (now numbers) (now sets) (now bases) (now views) (config .nodes) members lead (now same) ⌝ }
-    requires { ⌜ Within present members ⌝ }
+    requires { ⌜ (config .nodes ≤ 64) × (q < config .nodes) × (has q voting ≡ true) ⌝ }
+    requires { ⌜ Grouped (now numbers) (now sets) (now bases) (now views) (config .nodes) voting lead (now same) ⌝ }
+    requires { ⌜ Within present voting ⌝ }
     ensures { λ r. ⌜ r ≡ memberDecides config q (voteAt (now (numbers .entry)) (now (sets .entry)) (now (bases .entry)) (now (views .entry)) q) (ballotsOf (now (numbers .entry)) (now (sets .entry)) (now (bases .entry)) (now (views .entry)) present) ⌝ }
 {
     let own = rule_steps::vote_at(numbers, sets, bases, views, q);
@@ -120,10 +120,32 @@ pub fn member_decides(
     let votes = votes_like(lead, same, q);
     let mine = own_tally(votes, g.set, present, q);
     if sets::is_quorum(mine, g.base) {
-        rule_steps::member_on(own, mine)
+        rule_steps::member_on(config, own, mine)
     } else {
         rule_member::halts(config, q, own, numbers, sets, bases, views, lead, present)
     }
+}
+
+// What member q decides that did not vote.
+pub fn silent_decides(
+    config: Config,
+    q: usize,
+    numbers: &[u32; 64],
+    sets: &[u64; 64],
+    bases: &[u64; 64],
+    views: &[u64; 64],
+    lead: u64,
+    same: &[u64; 64],
+    voting: u64,
+    present: u64,
+) -> State
+    requires { ⌜ (config .nodes ≤ 64) × (q < config .nodes) ⌝ }
+    requires { ⌜ Grouped (now numbers) (now sets) (now bases) (now views) (config .nodes) voting lead (now same) ⌝ }
+    requires { ⌜ Within present voting ⌝ }
+    ensures { λ r. ⌜ r ≡ silentDecides config q (groupAt (now (numbers .entry)) (now (sets .entry)) (now (bases .entry)) q) (ballotsOf (now (numbers .entry)) (now (sets .entry)) (now (bases .entry)) (now (views .entry)) present) ⌝ }
+{
+    let group = rule_steps::group_at(numbers, sets, bases, q);
+    rule_member::silent_decides(config, q, group, numbers, sets, bases, views, lead, present)
 }
 
 // Whether the vote in slot p fits the joining node q.
@@ -136,13 +158,13 @@ fn fits_at(
     views: &[u64; 64],
     lead: u64,
     same: &[u64; 64],
-    members: u64,
+    voting: u64,
     present: u64,
     p: usize,
 ) -> bool
     requires { ⌜ (n ≤ 64) × (q < 64) × (p < n) ⌝ }
-    requires { ⌜ Grouped (now numbers) (now sets) (now bases) (now views) n members lead (now same) ⌝ }
-    requires { ⌜ Within present members ⌝ }
+    requires { ⌜ Grouped (now numbers) (now sets) (now bases) (now views) n voting lead (now same) ⌝ }
+    requires { ⌜ Within present voting ⌝ }
     ensures { λ r. ⌜ r ≡ fitsAt n q (ballotsOf (now (numbers .entry)) (now (sets .entry)) (now (bases .entry)) (now (views .entry)) present) p ⌝ }
 {
     let v = rule_steps::vote_at(numbers, sets, bases, views, p);
@@ -167,12 +189,12 @@ fn fitting(
     views: &[u64; 64],
     lead: u64,
     same: &[u64; 64],
-    members: u64,
+    voting: u64,
     present: u64,
 ) -> u64
     requires { ⌜ (n ≤ 64) × (q < 64) ⌝ }
-    requires { ⌜ Grouped (now numbers) (now sets) (now bases) (now views) n members lead (now same) ⌝ }
-    requires { ⌜ Within present members ⌝ }
+    requires { ⌜ Grouped (now numbers) (now sets) (now bases) (now views) n voting lead (now same) ⌝ }
+    requires { ⌜ Within present voting ⌝ }
     ensures { λ r. ⌜ r ≡ those n (fitsAt n q (ballotsOf (now (numbers .entry)) (now (sets .entry)) (now (bases .entry)) (now (views .entry)) present)) ⌝ }
 {
     let mut m: u64 = 0;
@@ -189,7 +211,7 @@ fn fitting(
             views,
             lead,
             same,
-            members,
+            voting,
             present,
             p,
         );
@@ -209,12 +231,12 @@ pub fn joiner_decides(
     views: &[u64; 64],
     lead: u64,
     same: &[u64; 64],
-    members: u64,
+    voting: u64,
     present: u64,
 ) -> State
     requires { ⌜ (config .nodes ≤ 64) × (q < config .nodes) ⌝ }
-    requires { ⌜ Grouped (now numbers) (now sets) (now bases) (now views) (config .nodes) members lead (now same) ⌝ }
-    requires { ⌜ Within present members ⌝ }
+    requires { ⌜ Grouped (now numbers) (now sets) (now bases) (now views) (config .nodes) voting lead (now same) ⌝ }
+    requires { ⌜ Within present voting ⌝ }
     ensures { λ r. ⌜ r ≡ joinerDecides config q (ballotsOf (now (numbers .entry)) (now (sets .entry)) (now (bases .entry)) (now (views .entry)) present) ⌝ }
 {
     let fit = fitting(
@@ -226,7 +248,7 @@ pub fn joiner_decides(
         views,
         lead,
         same,
-        members,
+        voting,
         present,
     );
     if fit == 0 {
@@ -237,7 +259,7 @@ pub fn joiner_decides(
     let g = v.group;
     let votes = votes_like(lead, same, first);
     if sets::subset(fit, votes) {
-        rule_steps::member_on(v, tally(votes, present, g.set))
+        rule_steps::enters_with(config, v, tally(votes, present, g.set))
     } else {
         State::Joining
     }

@@ -17,18 +17,18 @@ use Rattle.cluster_cycle.proofs.decisions.Statement.{statement}
 use Rattle.cluster_cycle.proofs.decisions.Tie as tie
 
 abbrev Inv-loop : tie.InvT-loop
-Inv-loop config numbers sets bases views lead same w sent missed new-numbers₀ new-sets₀ new-bases₀ n next₀ k₀ q₀ new-numbers new-sets new-bases next k q =
-    (Holds (λ j. decidedAt numbers sets bases views config w (sent ∖ getD missed j 0) j) q next new-numbers new-sets new-bases × Worth numbers sets bases views config w k) × (q ≤ config .nodes)
+Inv-loop config numbers sets bases views lead same w voting sent missed new-numbers₀ new-sets₀ new-bases₀ n next₀ k₀ q₀ new-numbers new-sets new-bases next k q =
+    (Holds (λ j. decidedAt numbers sets bases views config w voting (sent ∖ getD missed j 0) j) q next new-numbers new-sets new-bases × Worth numbers sets bases views config w voting k) × (q ≤ config .nodes)
 
 abbrev μ-loop : tie.MeasureT-loop
-μ-loop config numbers sets bases views lead same w sent missed new-numbers₀ new-sets₀ new-bases₀ n next₀ k₀ q₀ new-numbers new-sets new-bases next k q =
+μ-loop config numbers sets bases views lead same w voting sent missed new-numbers₀ new-sets₀ new-bases₀ n next₀ k₀ q₀ new-numbers new-sets new-bases next k q =
     config .nodes - q
 
 -- what node q decides
 abbrev decided : tie.Start Inv-loop μ-loop → ℕ → State
 decided s q =
     let a = s .args in
-    decidedAt (a .numbers .now) (a .sets .now) (a .bases .now) (a .views .now) (a .config) (a .w) (a .sent ∖ getD (a .missed .now) q 0) q
+    decidedAt (a .numbers .now) (a .sets .now) (a .bases .now) (a .views .now) (a .config) (a .w) (a .voting) (a .sent ∖ getD (a .missed .now) q 0) q
 
 nobody-requires : tie.Need-nobody-requires Inv-loop μ-loop
 nobody-requires c κs = search needs
@@ -36,7 +36,7 @@ nobody-requires c κs = search needs
 loop-holds : tie.Need-loop-holds Inv-loop μ-loop
 loop-holds c =
     let a = c .before .args in
-    ((holds-none _ _ _ _ (c .before .pre .0 .1) (c .before .pre .0 .2) (c .before .pre .0 .3), worth-none (a .numbers .now) (a .sets .now) (a .bases .now) (a .views .now) (a .config) (a .w) (c .nobody .result) (c .nobody .ensures)), omega arith)
+    ((holds-none _ _ _ _ (c .before .pre .0 .1) (c .before .pre .0 .2) (c .before .pre .0 .3), worth-none (a .numbers .now) (a .sets .now) (a .bases .now) (a .views .now) (a .config) (a .w) (a .voting) (c .nobody .result) (c .nobody .ensures)), omega arith)
 
 mul-difference : tie.Need-mul-difference Inv-loop μ-loop
 mul-difference c = omega arith
@@ -54,8 +54,8 @@ with-member-requires : tie.Need-with-member-requires Inv-loop μ-loop
 with-member-requires c κs = omega arith
 
 -- nothing arrives but what members sent
-inside : (c : tie.After-difference Inv-loop μ-loop) → Within (c .difference .result) (c .before .before .before .before .before .args .w .members)
-inside c = let s = c .before .before .before .before .before in inside-less (s .args .sent) _ _ (s .args .w .members) (s .pre .1 .1) (c .difference .ensures)
+inside : (c : tie.After-difference Inv-loop μ-loop) → Within (c .difference .result) (c .before .before .before .before .before .args .voting)
+inside c = let s = c .before .before .before .before .before in inside-less (s .args .sent) _ _ (s .args .voting) (s .pre .1 .1) (c .difference .ensures)
 
 decide-requires : tie.Need-decide-requires Inv-loop μ-loop
 decide-requires c κs =
@@ -104,16 +104,16 @@ loop-again c =
     let l = d .before .before .before in
     let a = l .before .before .args in
     let below64 : l .loop .q < 64 = omega (arith, d .before .before .loop-test .taken, l .before .before .pre .0 .0) in
-    let arrived = ap (λ (x : ℕ). decidedAt (a .numbers .now) (a .sets .now) (a .bases .now) (a .views .now) (a .config) (a .w) x (l .loop .q)) (d .difference .ensures) in (
+    let arrived = ap (λ (x : ℕ). decidedAt (a .numbers .now) (a .sets .now) (a .bases .now) (a .views .now) (a .config) (a .w) (a .voting) x (l .loop .q)) (d .difference .ensures) in (
       ⊎-elim
           (λ w. (
-            holds-next (decided (l .before .before)) (l .loop .q) (l .loop .next) (c .if1 .next) _ _ _ (Member (l .loop .k .group)) (c .if1 .g) below64 (l .loop .inv .0 .0)
+            holds-next (decided (l .before .before)) (l .loop .q) (l .loop .next) (c .if1 .next) _ _ _ (Member (l .loop .k .group) (l .loop .k .request)) (c .if1 .g) below64 (l .loop .inv .0 .0)
                 (sym (l .loop .inv .0 .1 (l .loop .q) (d .difference .result) (d .before .before .loop-test .taken) (inside d) (sym (c .before .follows .ensures) ∙ w .0 .taken)) ∙ arrived) (w .4) (w .2 ∙ w .1 .ensures),
-            subst (Worth (a .numbers .now) (a .sets .now) (a .bases .now) (a .views .now) (a .config) (a .w)) (sym (w .3)) (l .loop .inv .0 .1),
+            subst (Worth (a .numbers .now) (a .sets .now) (a .bases .now) (a .views .now) (a .config) (a .w) (a .voting)) (sym (w .3)) (l .loop .inv .0 .1),
           ))
           (λ w. (
             holds-next (decided (l .before .before)) (l .loop .q) (l .loop .next) (c .if1 .next) _ _ _ (w .1 .result) (c .if1 .g) below64 (l .loop .inv .0 .0) (w .1 .ensures ∙ arrived) (w .7 ∙ w .3 .ensures) (w .5 ∙ w .4 .ensures),
-            subst (Worth (a .numbers .now) (a .sets .now) (a .bases .now) (a .views .now) (a .config) (a .w)) (sym (w .6)) (w .2 .ensures),
+            subst (Worth (a .numbers .now) (a .sets .now) (a .bases .now) (a .views .now) (a .config) (a .w) (a .voting)) (sym (w .6)) (w .2 .ensures),
           ))
           (c .if1 .came),
       omega arith,

@@ -32,14 +32,17 @@ own-tally-requires c κs = search needs
 held-by-requires : tie.Need-held-by-requires
 held-by-requires c κs = search needs
 
+asks-requires : tie.Need-asks-requires
+asks-requires c κs = search needs
+
 returns-3 : tie.Need-returns-3
 returns-3 c =
-    let t = c .before .before .before in
+    let t = c .before .before .before .before in
     let m = t .before .before in
     let s = m .before .before .before in
     let a = s .args in
-    keeps (a .numbers .now) (a .sets .now) (a .bases .now) (a .views .now) (a .config) (a .w) (a .lead) (a .same .now) (s .pre .1 .0) (a .q) (a .present) (a .d) _ (s .pre .0 .1) (s .pre .1 .1 .0) (sym (m .contains .ensures) ∙ not-f _ (t .before .if1 .left)) (s .pre .1 .1 .1 .0)
-    (sym (t .sends-member .ensures) ∙ not-f _ (c .before .before .if2 .left)) (m .before .before .votes-like .ensures) refl (c .before .own-tally .ensures) (c .held-by .ensures)
+    keeps (a .numbers .now) (a .sets .now) (a .bases .now) (a .views .now) (a .config) (a .w) (a .voting) (a .lead) (a .same .now) (s .pre .1 .0) (a .q) (a .present) (a .d) _ (s .pre .0 .1) (s .pre .1 .1 .0) (sym (m .contains .ensures) ∙ not-f _ (t .before .if1 .left)) (s .pre .1 .1 .1 .0)
+    (sym (t .sends-member .ensures) ∙ not-f _ (c .before .before .before .if2 .left)) (m .before .before .votes-like .ensures) refl (c .before .before .own-tally .ensures) (c .before .held-by .ensures) (c .asks .ensures)
 
 pub keep-spec : {M : Type 1} → statement M
 keep-spec =
@@ -54,4 +57,5 @@ keep-spec =
     returns-2
     own-tally-requires
     held-by-requires
+    asks-requires
     returns-3)

@@ -14,7 +14,7 @@ use Rattle.cluster_states.proofs.begin.Tie as tie
 -- the founders hold the founding group, and nobody else is anything
 abbrev founders : ℕ → States
 founders F =
-    record { members = F; joining = 0; «no_quorum» = 0; outvoted = 0; numbers = replicate 64 0; sets = replicate 64 F; bases = replicate 64 F }
+    record { members = F; asking = 0; joining = 0; «no_quorum» = 0; outvoted = 0; numbers = replicate 64 0; sets = replicate 64 F; bases = replicate 64 F }
 
 at-first : (F q : ℕ) → q < 64 → stateAt (founders F) q ≡ initial 0 F q
 unfolding stateAt

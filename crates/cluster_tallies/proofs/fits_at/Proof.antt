@@ -60,7 +60,7 @@ returns-3 : tie.Need-returns-3
 returns-3 c =
     let d = c .before .before .before in
     let a = start d .args in
-    slot-wins (a .numbers .now) (a .sets .now) (a .bases .now) (a .views .now) (a .n) (a .members) (a .present) (start d .pre .1 .1) (a .lead) (a .same .now) (start d .pre .1 .0) (a .p) _ _ (d .before .before .before .before .before .before .vote-at .result) _ (start d .pre .0 .2) (sym (d .before .before .before .contains .ensures) ∙ not-f _ (d .before .before .if1 .left)) (d .before .before .before .before .before .before .vote-at .ensures) (d .before .before .before .before .votes-like .ensures) (c .before .tally .ensures) (c .is-quorum .ensures)
+    slot-wins (a .numbers .now) (a .sets .now) (a .bases .now) (a .views .now) (a .n) (a .voting) (a .present) (start d .pre .1 .1) (a .lead) (a .same .now) (start d .pre .1 .0) (a .p) _ _ (d .before .before .before .before .before .before .vote-at .result) _ (start d .pre .0 .2) (sym (d .before .before .before .contains .ensures) ∙ not-f _ (d .before .before .if1 .left)) (d .before .before .before .before .before .before .vote-at .ensures) (d .before .before .before .before .votes-like .ensures) (c .before .tally .ensures) (c .is-quorum .ensures)
     ∙ sym (tested d ∙ and-taken (d .contains2 .result) _ (not-f (d .contains2 .result) (c .before .before .if2 .left)))
 
 pub fits-at-spec : {M : Type 1} → statement M

@@ -12,10 +12,10 @@ use Rattle.cluster_tallies.proofs.fitting.Statement.{statement}
 use Rattle.cluster_tallies.proofs.fitting.Tie as tie
 
 abbrev Inv-loop : tie.InvT-loop
-Inv-loop n q numbers sets bases views lead same members present m₀ left₀ m left = Looked numbers sets bases views n present (fits n q (ballotsOf numbers sets bases views present)) left m
+Inv-loop n q numbers sets bases views lead same voting present m₀ left₀ m left = Looked numbers sets bases views n present (fits n q (ballotsOf numbers sets bases views present)) left m
 
 abbrev μ-loop : tie.MeasureT-loop
-μ-loop n q numbers sets bases views lead same members present m₀ left₀ m left = left
+μ-loop n q numbers sets bases views lead same voting present m₀ left₀ m left = left
 
 below-requires : tie.Need-below-requires Inv-loop μ-loop
 below-requires c κs = search needs
@@ -65,7 +65,7 @@ loop-less c =
     let l = o .before .before in
     let s = l .before .before in
     let a = s .args in
-    looked-less (a .numbers .now) (a .sets .now) (a .bases .now) (a .views .now) (a .n) (a .members) (a .present) (s .pre .1 .1) (a .lead) (a .same .now) (s .pre .1 .0) (fits (a .n) (a .q) (ballotsOf (a .numbers .now) (a .sets .now) (a .bases .now) (a .views .now) (a .present))) (l .loop .left) (o .lowest .result) (v .votes-like .result) (l .loop .m) (l .loop .inv) (next o .0) (next o .1) (v .votes-like .ensures) (c .difference .result) (c .difference .ensures)
+    looked-less (a .numbers .now) (a .sets .now) (a .bases .now) (a .views .now) (a .n) (a .voting) (a .present) (s .pre .1 .1) (a .lead) (a .same .now) (s .pre .1 .0) (fits (a .n) (a .q) (ballotsOf (a .numbers .now) (a .sets .now) (a .bases .now) (a .views .now) (a .present))) (l .loop .left) (o .lowest .result) (v .votes-like .result) (l .loop .m) (l .loop .inv) (next o .0) (next o .1) (v .votes-like .ensures) (c .difference .result) (c .difference .ensures)
 
 loop-again : tie.Need-loop-again Inv-loop μ-loop
 loop-again c =
@@ -75,7 +75,7 @@ loop-again c =
     let l = o .before .before in
     let s = l .before .before in
     let a = s .args in
-    looked-next (a .numbers .now) (a .sets .now) (a .bases .now) (a .views .now) (a .n) (a .members) (a .present) (s .pre .1 .1) (a .lead) (a .same .now) (s .pre .1 .0) (fits (a .n) (a .q) (ballotsOf (a .numbers .now) (a .sets .now) (a .bases .now) (a .views .now) (a .present))) (l .loop .left) (o .lowest .result) (v .votes-like .result) (l .loop .m) (l .loop .inv) (next o .0) (next o .1) (v .votes-like .ensures) (c .difference .result) (c .difference .ensures) (c .before .union .result) (t .fits-at .result) (t .fits-at .ensures) (c .before .union .ensures ∙ ap (λ (x : ℕ). l .loop .m ∪ x) (c .before .before .pick .ensures ∙ ap (λ (x : ℕ). cond (t .fits-at .result) x 0) (c .before .before .before .intersection .ensures)))
+    looked-next (a .numbers .now) (a .sets .now) (a .bases .now) (a .views .now) (a .n) (a .voting) (a .present) (s .pre .1 .1) (a .lead) (a .same .now) (s .pre .1 .0) (fits (a .n) (a .q) (ballotsOf (a .numbers .now) (a .sets .now) (a .bases .now) (a .views .now) (a .present))) (l .loop .left) (o .lowest .result) (v .votes-like .result) (l .loop .m) (l .loop .inv) (next o .0) (next o .1) (v .votes-like .ensures) (c .difference .result) (c .difference .ensures) (c .before .union .result) (t .fits-at .result) (t .fits-at .ensures) (c .before .union .ensures ∙ ap (λ (x : ℕ). l .loop .m ∪ x) (c .before .before .pick .ensures ∙ ap (λ (x : ℕ). cond (t .fits-at .result) x 0) (c .before .before .before .intersection .ensures)))
 
 returns : tie.Need-returns Inv-loop μ-loop
 returns c =

@@ -12,10 +12,10 @@ use Rattle.cluster_tallies.proofs.groups_of.Statement.{statement}
 use Rattle.cluster_tallies.proofs.groups_of.Tie as tie
 
 abbrev Inv-loop : tie.InvT-loop
-Inv-loop n numbers sets bases views members same₀ lead₀ left₀ same lead left = (length same ≡ 64) × Split numbers sets bases views n members lead left same
+Inv-loop n numbers sets bases views voting same₀ lead₀ left₀ same lead left = (length same ≡ 64) × Split numbers sets bases views n voting lead left same
 
 abbrev μ-loop : tie.MeasureT-loop
-μ-loop n numbers sets bases views members same₀ lead₀ left₀ same lead left = left
+μ-loop n numbers sets bases views voting same₀ lead₀ left₀ same lead left = left
 
 leading-requires : tie.Need-leading-requires Inv-loop μ-loop
 leading-requires c κs = (c .pre .0 .0, c .pre .1)
@@ -71,7 +71,7 @@ loop-less c =
     let v = e .before in
     let l = v .before .before .before in
     let a = l .before .before .before .args in
-    left-less (a .numbers .now) (a .sets .now) (a .bases .now) (a .views .now) (a .n) (a .members) (l .loop .left) (v .before .lowest .result) (e .equal-votes .result) (c .difference2 .result) (v .vote-at .result) (found (v .before) .0) (l .loop .inv .1 .within (v .before .lowest .result) (found (v .before) .1)) (found (v .before) .1) (v .vote-at .ensures) (e .equal-votes .ensures) (c .difference2 .ensures)
+    left-less (a .numbers .now) (a .sets .now) (a .bases .now) (a .views .now) (a .n) (a .voting) (l .loop .left) (v .before .lowest .result) (e .equal-votes .result) (c .difference2 .result) (v .vote-at .result) (found (v .before) .0) (l .loop .inv .1 .within (v .before .lowest .result) (found (v .before) .1)) (found (v .before) .1) (v .vote-at .ensures) (e .equal-votes .ensures) (c .difference2 .ensures)
 
 loop-again : tie.Need-loop-again Inv-loop μ-loop
 loop-again c =
@@ -80,14 +80,14 @@ loop-again c =
     let l = e .before .before .before .before in
     let a = l .before .before .before .args in (
       c .before .before .spread .ensures .0,
-      split-next (a .numbers .now) (a .sets .now) (a .bases .now) (a .views .now) (a .n) (a .members) (l .loop .lead) (l .loop .left) (e .equal-votes .result) (c .difference2 .result) (k .pick .result) (c .before .pick2 .result) (l .loop .same) _ (l .loop .inv .1) (equal-alike _ _ _ _ _ _ (e .equal-votes .result) (e .before .vote-at .result) (e .equal-votes .ensures)) (ltb (k .before .before .size .result) (k .before .size2 .result)) (k .pick .ensures) (c .before .pick2 .ensures) (c .before .before .spread .ensures .1) (c .difference2 .ensures),
+      split-next (a .numbers .now) (a .sets .now) (a .bases .now) (a .views .now) (a .n) (a .voting) (l .loop .lead) (l .loop .left) (e .equal-votes .result) (c .difference2 .result) (k .pick .result) (c .before .pick2 .result) (l .loop .same) _ (l .loop .inv .1) (equal-alike _ _ _ _ _ _ (e .equal-votes .result) (e .before .vote-at .result) (e .equal-votes .ensures)) (ltb (k .before .before .size .result) (k .before .size2 .result)) (k .pick .ensures) (c .before .pick2 .ensures) (c .before .before .spread .ensures .1) (c .difference2 .ensures),
     )
 
 returns : tie.Need-returns Inv-loop μ-loop
 returns c =
     let l = c .before in
     let a = l .before .before .before .args in
-    split-end (a .numbers .now) (a .sets .now) (a .bases .now) (a .views .now) (a .n) (a .members) (l .loop .lead) (l .loop .left) (l .loop .same) (l .loop .inv .1) (c .loop-test .left)
+    split-end (a .numbers .now) (a .sets .now) (a .bases .now) (a .views .now) (a .n) (a .voting) (l .loop .lead) (l .loop .left) (l .loop .same) (l .loop .inv .1) (c .loop-test .left)
 
 pub groups-of-spec : {M : Type 1} → statement M
 groups-of-spec =

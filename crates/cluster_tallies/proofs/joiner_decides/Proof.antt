@@ -4,10 +4,10 @@ use Prim.Native.Nat.{_<_}
 use native.Mathlib.Omega.{arith}
 use Rattle.sets.specs.Sets.{has}
 use Rattle.state.specs.declared.State.the-variants.{Joining}
-use Rattle.rules.specs.OneCycle.{Ballots, memberOn, joinerDecides}
+use Rattle.rules.specs.OneCycle.{Ballots, entersWith, joinerDecides}
 use Rattle.rules.specs.Ballots.{ballotsOf}
 use Rattle.rules.proofs.Counting.{cond-taken, cond-left}
-use Rattle.cluster_tallies.proofs.Tallies.{enters-nowhere, first-fits, first-present, enters-with, member-with}
+use Rattle.cluster_tallies.proofs.Tallies.{enters-nowhere, first-fits, first-present, enters-with, entrant-with}
 use borrow.Author.Needs.{needs}
 use Rattle.cluster_tallies.proofs.joiner_decides.Statement.{statement}
 use Rattle.cluster_tallies.proofs.joiner_decides.Tie as tie
@@ -25,7 +25,7 @@ returns : tie.Need-returns
 returns c =
     let s = c .before .before in
     let a = s .args in
-    sym (enters-nowhere (a .numbers .now) (a .sets .now) (a .bases .now) (a .views .now) (a .config) (a .members) (a .present) (s .pre .1 .1) (a .lead) (a .same .now) (s .pre .1 .0) (a .q) _ (c .before .fitting .ensures) (c .if1 .taken))
+    sym (enters-nowhere (a .numbers .now) (a .sets .now) (a .bases .now) (a .views .now) (a .config) (a .voting) (a .present) (s .pre .1 .1) (a .lead) (a .same .now) (s .pre .1 .0) (a .q) _ (c .before .fitting .ensures) (c .if1 .taken))
 
 lowest-requires : tie.Need-lowest-requires
 lowest-requires c κs = search needs
@@ -37,8 +37,8 @@ cast-first c = search needs
 first-in : (c : tie.After-lowest) → (c .lowest .result < start c .args .config .nodes) × (has (c .lowest .result) (start c .args .present) ≡ true)
 first-in c =
     let a = start c .args in (
-      first-fits (a .numbers .now) (a .sets .now) (a .bases .now) (a .views .now) (a .config) (a .members) (a .present) (start c .pre .1 .1) (a .lead) (a .same .now) (start c .pre .1 .0) (a .q) _ (c .before .before .fitting .ensures) (c .lowest .result) (c .before .if1 .left) (c .lowest .ensures) (start c .pre .0 .0) .0,
-      first-present (a .numbers .now) (a .sets .now) (a .bases .now) (a .views .now) (a .config) (a .members) (a .present) (start c .pre .1 .1) (a .lead) (a .same .now) (start c .pre .1 .0) (a .q) _ (c .before .before .fitting .ensures) (c .lowest .result) (c .before .if1 .left) (c .lowest .ensures) (start c .pre .0 .0),
+      first-fits (a .numbers .now) (a .sets .now) (a .bases .now) (a .views .now) (a .config) (a .voting) (a .present) (start c .pre .1 .1) (a .lead) (a .same .now) (start c .pre .1 .0) (a .q) _ (c .before .before .fitting .ensures) (c .lowest .result) (c .before .if1 .left) (c .lowest .ensures) (start c .pre .0 .0) .0,
+      first-present (a .numbers .now) (a .sets .now) (a .bases .now) (a .views .now) (a .config) (a .voting) (a .present) (start c .pre .1 .1) (a .lead) (a .same .now) (start c .pre .1 .0) (a .q) _ (c .before .before .fitting .ensures) (c .lowest .result) (c .before .if1 .left) (c .lowest .ensures) (start c .pre .0 .0),
     )
 
 vote-at-requires : tie.Need-vote-at-requires
@@ -53,25 +53,25 @@ subset-requires c κs = search needs
 tally-requires : tie.Need-tally-requires
 tally-requires c κs = search needs
 
-member-on-requires : tie.Need-member-on-requires
-member-on-requires c κs = search needs
+enters-with-requires : tie.Need-enters-with-requires
+enters-with-requires c κs = search needs
 
 -- what it decides from the first vote that fits
 entered : (c : tie.After-subset)
     → joinerDecides (start (c .before .before .before .before) .args .config) (start (c .before .before .before .before) .args .q) (arrived (start (c .before .before .before .before)))
-    ≡ cond (c .subset .result) (memberOn (start (c .before .before .before .before) .args .config) (arrived (start (c .before .before .before .before))) (c .before .before .before .vote-at .result)) Joining
+    ≡ cond (c .subset .result) (entersWith (start (c .before .before .before .before) .args .config) (arrived (start (c .before .before .before .before))) (c .before .before .before .vote-at .result)) Joining
 entered c =
     let d = c .before .before .before .before in
     let a = start d .args in
-    enters-with (a .numbers .now) (a .sets .now) (a .bases .now) (a .views .now) (a .config) (a .members) (a .present) (start d .pre .1 .1) (a .lead) (a .same .now) (start d .pre .1 .0) (a .q) _ (d .before .before .fitting .ensures) (d .lowest .result) (d .before .if1 .left) (d .lowest .ensures) (start d .pre .0 .0) _ _ _ (c .before .before .before .vote-at .ensures) (c .before .votes-like .ensures) (c .subset .ensures)
+    enters-with (a .numbers .now) (a .sets .now) (a .bases .now) (a .views .now) (a .config) (a .voting) (a .present) (start d .pre .1 .1) (a .lead) (a .same .now) (start d .pre .1 .0) (a .q) _ (d .before .before .fitting .ensures) (d .lowest .result) (d .before .if1 .left) (d .lowest .ensures) (start d .pre .0 .0) _ _ _ (c .before .before .before .vote-at .ensures) (c .before .votes-like .ensures) (c .subset .ensures)
 
 returns-2 : tie.Need-returns-2
 returns-2 c =
     let e = c .before .before .before in
     let d = e .before .before .before .before in
     let a = start d .args in
-    c .member-on .ensures
-    ∙ member-with (a .numbers .now) (a .sets .now) (a .bases .now) (a .views .now) (a .config) (a .members) (a .present) (start d .pre .1 .1) (a .lead) (a .same .now) (start d .pre .1 .0) (d .lowest .result) _ _ _ (first-in d .0) (start d .pre .1 .1 (d .lowest .result) (first-in d .1)) (e .before .before .before .vote-at .ensures) (e .before .votes-like .ensures) (c .before .tally .ensures)
+    c .enters-with .ensures
+    ∙ entrant-with (a .numbers .now) (a .sets .now) (a .bases .now) (a .views .now) (a .config) (a .voting) (a .present) (start d .pre .1 .1) (a .lead) (a .same .now) (start d .pre .1 .0) (d .lowest .result) _ _ _ (first-in d .0) (start d .pre .1 .1 (d .lowest .result) (first-in d .1)) (e .before .before .before .vote-at .ensures) (e .before .votes-like .ensures) (c .before .tally .ensures)
     ∙ sym (entered e ∙ cond-taken _ _ _ (c .before .before .if2 .taken))
 
 returns-3 : tie.Need-returns-3
@@ -89,6 +89,6 @@ joiner-decides-spec =
     votes-like-requires
     subset-requires
     tally-requires
-    member-on-requires
+    enters-with-requires
     returns-2
     returns-3)

@@ -12,7 +12,7 @@ use Rattle.cluster_tallies.proofs.leading.Tie as tie
 returns : tie.Need-returns
 returns c =
     let a = c .before .args in
-    none-alike (a .numbers .now) (a .sets .now) (a .bases .now) (a .views .now) (a .n) (a .members)
+    none-alike (a .numbers .now) (a .sets .now) (a .bases .now) (a .views .now) (a .n) (a .voting)
 
 lowest-requires : tie.Need-lowest-requires
 lowest-requires c κs = search needs
@@ -21,10 +21,10 @@ cast-p : tie.Need-cast-p
 cast-p c = search needs
 
 -- the lowest member is a node
-found : (c : tie.After-lowest) → (c .lowest .result < c .before .before .args .n) × (has (c .lowest .result) (c .before .before .args .members) ≡ true)
+found : (c : tie.After-lowest) → (c .lowest .result < c .before .before .args .n) × (has (c .lowest .result) (c .before .before .args .voting) ≡ true)
 found c =
     let s = c .before .before in
-    lowest-node (s .args .n) (s .args .members) (c .lowest .result) (s .pre .0) (s .pre .1) (c .before .if1 .left) (c .lowest .ensures)
+    lowest-node (s .args .n) (s .args .voting) (c .lowest .result) (s .pre .0) (s .pre .1) (c .before .if1 .left) (c .lowest .ensures)
 
 vote-at-requires : tie.Need-vote-at-requires
 vote-at-requires c κs = omega (arith, found c .0, c .before .before .pre .0)
@@ -35,7 +35,7 @@ equal-votes-requires c κs = search needs
 returns-2 : tie.Need-returns-2
 returns-2 c =
     let a = c .before .before .before .before .args in
-    equal-alike (a .numbers .now) (a .sets .now) (a .bases .now) (a .views .now) (a .n) (a .members) (c .equal-votes .result) (c .before .vote-at .result) (c .equal-votes .ensures)
+    equal-alike (a .numbers .now) (a .sets .now) (a .bases .now) (a .views .now) (a .n) (a .voting) (c .equal-votes .result) (c .before .vote-at .result) (c .equal-votes .ensures)
 
 pub leading-spec : {M : Type 1} → statement M
 leading-spec =

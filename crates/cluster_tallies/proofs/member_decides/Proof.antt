@@ -37,13 +37,13 @@ won : (c : tie.After-is-quorum) → c .is-quorum .result ≡ wins (start c .args
 won c =
     let s = start c in
     let a = s .args in
-    own-wins (a .numbers .now) (a .sets .now) (a .bases .now) (a .views .now) (a .config) (a .members) (a .present) (s .pre .1 .1) (a .lead) (a .same .now) (s .pre .1 .0) (a .q) _ _ (own c) (s .pre .0 .1) (s .pre .0 .2) (c .before .before .before .before .vote-at .ensures) (c .before .before .votes-like .ensures) (c .before .own-tally .ensures) _ (c .is-quorum .ensures)
+    own-wins (a .numbers .now) (a .sets .now) (a .bases .now) (a .views .now) (a .config) (a .voting) (a .present) (s .pre .1 .1) (a .lead) (a .same .now) (s .pre .1 .0) (a .q) _ _ (own c) (s .pre .0 .1) (s .pre .0 .2) (c .before .before .before .before .vote-at .ensures) (c .before .before .votes-like .ensures) (c .before .own-tally .ensures) _ (c .is-quorum .ensures)
 
 halts-requires : tie.Need-halts-requires
 halts-requires c κs =
     let s = start (c .before) in
     let a = s .args in
-    ((s .pre .0 .0, omega (arith, s .pre .0 .0, s .pre .0 .1)), (lead-one (a .numbers .now) (a .sets .now) (a .bases .now) (a .views .now) (a .config .nodes) (a .members) (a .lead) (a .same .now) (a .present) (s .pre .1 .1) (s .pre .1 .0), sym (won (c .before)) ∙ c .if1 .left))
+    ((s .pre .0 .0, omega (arith, s .pre .0 .0, s .pre .0 .1)), (lead-one (a .numbers .now) (a .sets .now) (a .bases .now) (a .views .now) (a .config .nodes) (a .voting) (a .lead) (a .same .now) (a .present) (s .pre .1 .1) (s .pre .1 .0), sym (won (c .before)) ∙ c .if1 .left))
 
 returns : tie.Need-returns
 returns c =
@@ -51,7 +51,7 @@ returns c =
     let s = start i in
     let a = s .args in
     c .member-on .ensures
-    ∙ goes-on (a .numbers .now) (a .sets .now) (a .bases .now) (a .views .now) (a .config) (a .members) (a .present) (s .pre .1 .1) (a .lead) (a .same .now) (s .pre .1 .0) (a .q) _ _ (own i) (s .pre .0 .1) (s .pre .0 .2) (i .before .before .before .before .vote-at .ensures) (i .before .before .votes-like .ensures) (i .before .own-tally .ensures) (sym (i .is-quorum .ensures) ∙ c .before .if1 .taken)
+    ∙ goes-on (a .numbers .now) (a .sets .now) (a .bases .now) (a .views .now) (a .config) (a .voting) (a .present) (s .pre .1 .1) (a .lead) (a .same .now) (s .pre .1 .0) (a .q) _ _ (own i) (s .pre .0 .1) (s .pre .0 .2) (i .before .before .before .before .vote-at .ensures) (i .before .before .votes-like .ensures) (i .before .own-tally .ensures) (sym (i .is-quorum .ensures) ∙ c .before .if1 .taken)
 
 returns-2 : tie.Need-returns-2
 returns-2 c =
