@@ -16,7 +16,7 @@ use Rattle.sets.proofs.Quorum.{quorum-meet, quorum-mono}
 use Rattle.state.specs.declared.Reason.the-variants.{NoQuorum, Outvoted}
 use Rattle.state.specs.declared.Group.{Group}
 use Rattle.state.specs.declared.State.{State}
-use Rattle.state.specs.declared.State.the-variants.{Out, Joining, Member}
+use Rattle.state.specs.declared.State.the-variants.{Out, Joining}
 use Rattle.state.specs.State.{groupOf, halted}
 use Rattle.rules.specs.declared.Vote.{Vote}
 use Rattle.rules.specs.declared.Faults.{Faults}
@@ -28,6 +28,11 @@ use Rattle.rules.proofs.Counting.{quorum-node}
 use Rattle.rules.proofs.Votes.{group-same, is-self, has-view, voters-sub, voters-is, in-voters, base-is, new-inside, in-new, new-in, voters-in, no-request-rests, wins-ext, group-ext, member-ext, enters-ext}
 use Rattle.rules.proofs.Undisturbed.{Undisturbed, reach-heartbeat, reach-vote}
 use Rattle.rules.proofs.States.{none-some, some-inj, is-joining, held-sends, not-halted, vote-group, vote-decides}
+
+-- a test that cannot fail passes
+pub passes : (b : Bool) → (b ≡ false → ⊥) → b ≡ true
+passes true f = refl
+passes false f = absurd (f refl)
 
 -- ---- the vote of the steady nodes, and what a node that misses nothing gets
 
@@ -253,7 +258,7 @@ pub record Caller (C : Config) (r : Row) (g h : Group) : Type 0 where
   pub reference : has node (g .set) ≡ true
   pub requests : sendsMember (at r node) ≡ true → asks (at r node) ≡ true
 
--- in a quiet press whoever holds another group than g requests, or such a node does
+-- in a quiet press whoever holds another group than g is called to vote: it requests, or such a node does
 abbrev pub Stirs : Config → Row → Group → Type 0
 Stirs C r g =
     C .quiet ≡ true → (q : ℕ) (h : Group) → q < C .nodes → groupOf (at r q) ≡ some h → h ≢ g → (asks (at r q) ≡ true) ⊎ Caller C r g h
@@ -402,7 +407,7 @@ module _ (C : Config) (c : Faults) (r : Row) (g : Group) (U : ℕ) (k : Given C 
   pub steady-stays : (q : ℕ) → has q U ≡ true → groupOf (at (done C c r) q) ≡ some (voted C c r g)
   steady-stays q u = holds-voted q (k .calm q u) (speak q u)
 
-  -- in a quiet press it calls whoever still has g at rest where that is not the new group, since its set changed then
+  -- and calls, in a quiet press, whoever has g at rest where that is not the new group: its set changed then
   pub steady-calls : C .quiet ≡ true → (h : Group) → h ≡ rests g → voted C c r g ≢ rests g → Caller C (done C c r) (voted C c r g) h
   unfolding voted
   steady-calls y h e d =
@@ -413,12 +418,10 @@ module _ (C : Config) (c : Faults) (r : Row) (g : Group) (U : ℕ) (k : Given C 
         below = k .below (one .0) u;
         own = ap (λ (x : Group). has (one .0) (x .set)) e ∙ k .part (one .0) u;
         reference = voters-in (C .nodes) (public C c r) common (one .0) (public-voters (one .0) u);
-        requests = λ m. ap asks (stays (one .0) (k .calm (one .0) u) (speak (one .0) u)) ∙ go (bool (requestAfter C (public C c r) common));
+        requests = λ m.
+            ap asks (stays (one .0) (k .calm (one .0) u) (speak (one .0) u))
+            ∙ passes (requestAfter C (public C c r) common) (λ n. d (no-request-rests C (public C c r) common y n));
       }
-    where
-      go : (requestAfter C (public C c r) common ≡ true) ⊎ (requestAfter C (public C c r) common ≡ false) → requestAfter C (public C c r) common ≡ true
-      go (inl a) = a
-      go (inr n) = absurd (d (no-request-rests C (public C c r) common y n))
 
   -- a joining node outside M that is not disturbed enters, and is in the new set
   pub enters : (q : ℕ) → q < C .nodes → Undisturbed c q → at r q ≡ Joining → has q (g .set) ≡ false

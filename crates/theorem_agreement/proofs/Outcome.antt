@@ -20,12 +20,12 @@ use Rattle.rules.specs.Faults.{Row, at, ownVote, votesNow}
 use Rattle.rules.proofs.Counting.{quorum-node}
 use Rattle.rules.proofs.Undisturbed.{Undisturbed}
 use Rattle.rules.proofs.States.{some-inj, own-group}
-use Rattle.theorem_agreement.proofs.OneVote.{commonVote, cast, voted, done, view-common, in-common, Overruled, Caller, Stirs, Given, OnVote, steady-stays, steady-calls, enters, new-holds, waits, from-vote, from-join, on-base, on-formed, on-calm, voted-inside, vote-halts}
+use Rattle.theorem_agreement.proofs.OneVote.{passes, commonVote, cast, voted, done, view-common, in-common, Overruled, Caller, Stirs, Given, OnVote, steady-stays, steady-calls, enters, new-holds, waits, from-vote, from-join, on-base, on-formed, on-calm, voted-inside, vote-halts}
 use Rattle.theorem_agreement.proofs.Resting.{casts, Resting, silent-rests, resting-silent, stray-casts, Came, came, rest-only, rest-held, rest-strays}
 
 -- `g` is the reference group before and `n` after. The steady nodes hold `n`; of each member, its set lies in its base, and if it is not disturbed it holds
--- `n`; one that holds another group is overruled by whatever quorum holds `n`; the undisturbed nodes of the new set hold `n`; a member with another group
--- before halts; a joining node waits and is out of the new set, or enters. In a quiet press a member that holds another group is called to vote.
+-- `n`; one that holds another group is overruled by whatever quorum holds `n`, and called to vote in a quiet press; the undisturbed nodes of the new set hold
+-- `n`; a member with another group before halts; a joining node waits and is out of the new set, or enters.
 pub record Done (C : Config) (c : Faults) (r : Row) (g : Group) (U : ℕ) (n : Group) : Type 0 where
   pub inside : _⊆_ (n .set) (n .base)
   pub goes : (q : ℕ) → has q U ≡ true → groupOf (at (done C c r) q) ≡ some n
@@ -42,18 +42,18 @@ pub record Done (C : Config) (c : Faults) (r : Row) (g : Group) (U : ℕ) (n : G
       → (groupOf (at (done C c r) q) ≡ some n) × (has q (n .set) ≡ true)
 
 module _ (C : Config) (c : Faults) (r : Row) (g : Group) (U : ℕ) (k : Given C c r g U) where
+  rests-formed : (h : Group) → h ≡ rests g → _⊆_ (h .set) (h .base)
+  rests-formed h e = subst (λ (x : Group). _⊆_ (x .set) (x .base)) (sym e) (λ x m. m)
+
   -- ---- the steady nodes vote
 
   module _ (awake : Resting C c r g → ⊥) where
     -- they cast one vote
     speak : (q : ℕ) → has q U ≡ true → cast C c r q ≡ some (commonVote (C .nodes) c r g)
     speak q u =
-        casts C c r q g true (k .below q u) (k .hold q u) (go (bool (votesNow C c r q g (asks (at r q)))))
+        casts C c r q g true (k .below q u) (k .hold q u)
+        (passes (votesNow C c r q g (asks (at r q))) (λ n. awake (silent-rests C c r g q (k .below q u) (k .calm q u) (k .hold q u) n)))
         ∙ ap {B = Option Vote} some (view-common (C .nodes) c r g q (k .below q u) (k .calm q u) (k .hold q u) (k .part q u))
-      where
-        go : (votesNow C c r q g (asks (at r q)) ≡ true) ⊎ (votesNow C c r q g (asks (at r q)) ≡ false) → votesNow C c r q g (asks (at r q)) ≡ true
-        go (inl y) = y
-        go (inr n) = absurd (awake (silent-rests C c r g q (k .below q u) (k .calm q u) (k .hold q u) n))
 
     -- a member after the cycle is one on that vote, or was silent, and so disturbed, and keeps g at rest
     abbrev From : ℕ → Group → Type 0
@@ -69,7 +69,7 @@ module _ (C : Config) (c : Faults) (r : Row) (g : Group) (U : ℕ) (k : Given C 
 
     formed : (q : ℕ) (h : Group) → From q h → _⊆_ (h .set) (h .base)
     formed q h (inl w) = on-formed C c r g U k speak q h w
-    formed q h (inr w) = subst (λ (x : Group). _⊆_ (x .set) (x .base)) (sym (w .0)) (λ x m. m)
+    formed q h (inr w) = rests-formed h (w .0)
 
     calm : (q : ℕ) (h : Group) → Undisturbed c q → From q h → h ≡ voted C c r g
     calm q h u (inl w) = on-calm C c r g U k speak q h w u
@@ -126,14 +126,14 @@ module _ (C : Config) (c : Faults) (r : Row) (g : Group) (U : ℕ) (k : Given C 
           enters = enters C c r g U k speak;
         }
 
-  -- ---- the reference group rests: every member holds it, no node of M is joining, and none outside M is
+  -- ---- the reference group rests: every member holds it, and no joining node is in M or in V
 
   by-rest : Resting C c r g → Done C c r g U (rests g)
   by-rest s =
       record {
         inside = λ q m. m;
         goes = λ q u. rest-held C c r g U k s q (k .calm q u) (k .part q u);
-        formed = λ q h l e. subst (λ (x : Group). _⊆_ (x .set) (x .base)) (sym (only q h l e)) (λ x m. m);
+        formed = λ q h l e. rests-formed h (only q h l e);
         overruled = λ q h l e d W i m a. absurd (d (only q h l e));
         calm = λ q h l u e. only q h l e;
         hold = rest-held C c r g U k s;

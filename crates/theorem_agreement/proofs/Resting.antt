@@ -1,4 +1,4 @@
--- Request 3: who is silent in a cycle, and one in which the reference group rests, since an undisturbed node of it is silent. Assumes nothing.
+-- Request 3: what a silent member tells, and one cycle in which the reference group rests, since the steady nodes are silent. Assumes nothing.
 use mathlib.Core.Path.{_≡_, refl, sym, ap, ap₂, _∙_, subst}
 use mathlib.Core.Logic.{_⊎_, inl, inr, _≢_}
 use mathlib.Core.Bool.{Bool, true, false, not, _&&_, _||_, cond, false≢true}
@@ -21,8 +21,8 @@ use Rattle.rules.specs.Faults.{Row, at, heartbeatReaches, heard, ownVote, votes
 use Rattle.rules.proofs.Counting.{no}
 use Rattle.rules.proofs.Votes.{group-same, view-own}
 use Rattle.rules.proofs.Undisturbed.{Undisturbed}
-use Rattle.rules.proofs.States.{none-some, some-inj, idle, which, held-sends, sends-held, not-halted, own-group, member-votes, silent-decides, idle-decides, Silent, silent-because, silent-if}
-use Rattle.theorem_agreement.proofs.OneVote.{commonView, cast, got, done, arrived-cast, own-cast, cast-of, outcome, outcome-vote, outcome-joining, GoesOrHalts, goes-or-halts, EntersOrStays, enters-or-stays, has-own, view-common, Caller, Given, shared}
+use Rattle.rules.proofs.States.{none-some, some-inj, idle, which, held-sends, sends-held, not-halted, member-votes, silent-decides, idle-decides, Silent, silent-because, silent-if}
+use Rattle.theorem_agreement.proofs.OneVote.{passes, commonView, cast, got, done, arrived-cast, own-cast, cast-of, outcome, outcome-vote, outcome-joining, GoesOrHalts, goes-or-halts, EntersOrStays, enters-or-stays, has-own, view-common, Caller, Given, shared}
 
 -- ---- what a silent member does
 
@@ -57,6 +57,7 @@ others-cast C c r q p w = go (eqb p q)
     go true e = absurd (none-some e)
     go false e = arrived-cast C c r q p w e
 
+-- a member casts its own vote or, if it is silent, none
 pub casts : (C : Config) (c : Faults) (r : Row) (q : ℕ) (h : Group) (b : Bool) → q < C .nodes → groupOf (at r q) ≡ some h → votesNow C c r q h (asks (at r q)) ≡ b
     → cast C c r q ≡ cond b (some (ownVote (C .nodes) c r q h)) none
 casts C c r q h b l e n = cast-of C c r q l ∙ member-votes C c r q (at r q) h e ∙ ap (λ (x : Bool). cond x (some (ownVote (C .nodes) c r q h)) none) n
@@ -145,7 +146,7 @@ resting-silent C c r g s q l u e m =
 -- ---- every cycle that meets the premise
 
 module _ (C : Config) (c : Faults) (r : Row) (g : Group) (U : ℕ) (k : Given C c r g U) where
-  -- a member holds g if it does not request, nor a set that holds every node that would call it
+  -- a member that does not request holds g, if whoever could call it is in a set at rest
   uncalled : (q : ℕ) (h : Group) (S : ℕ) → q < C .nodes → groupOf (at r q) ≡ some h → C .quiet ≡ true → asks (at r q) ≡ false
       → AtRest C r S → ((w : Caller C r g h) → has (w .node) S ≡ true) → h ≡ g
   uncalled q h S l e y a rest in-set = go (group-same h g)
@@ -165,11 +166,7 @@ module _ (C : Config) (c : Faults) (r : Row) (g : Group) (U : ℕ) (k : Given C 
       uncalled q h (h .set) l e (s .quiet) (s .own) (set-at-rest C c r q h l e s) (λ w. w .own)
 
   pub stray-casts : (q : ℕ) (h : Group) → q < C .nodes → groupOf (at r q) ≡ some h → h ≢ g → cast C c r q ≡ some (ownVote (C .nodes) c r q h)
-  stray-casts q h l e d = casts C c r q h true l e (go (bool (votesNow C c r q h (asks (at r q)))))
-    where
-      go : (votesNow C c r q h (asks (at r q)) ≡ true) ⊎ (votesNow C c r q h (asks (at r q)) ≡ false) → votesNow C c r q h (asks (at r q)) ≡ true
-      go (inl y) = y
-      go (inr n) = absurd (d (silent-holds q h l e n))
+  stray-casts q h l e d = casts C c r q h true l e (passes (votesNow C c r q h (asks (at r q))) (λ n. d (silent-holds q h l e n)))
 
   -- a member after the cycle was joining, voted, or was silent; the last keeps g at rest, and g rests if it is not disturbed
   abbrev pub Came : ℕ → Group → Type 0
