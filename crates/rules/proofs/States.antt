@@ -1,10 +1,14 @@
 -- All that takes a state apart: who is what, rule 1, who votes, what each makes of the votes that it got. Assumes nothing.
-use mathlib.Core.Path.{_≡_, refl, ap, _∙_}
+use mathlib.Core.Path.{_≡_, refl, sym, ap, _∙_}
 use mathlib.Core.Logic.{_⊎_, inl, inr}
-use mathlib.Core.Bool.{Bool, true, false, cond, false≢true}
+use mathlib.Core.Bool.{Bool, true, false, not, _&&_, _||_, cond, false≢true}
 use mathlib.Core.Option.{Option, none, some}
 use Prim.Native.Nat.{ℕ}
 use native.Mathlib.Omega.{arith}
+use lib.Dec.{eqb}
+use Rattle.sets.specs.Sets.{has, _∩_}
+use Rattle.sets.proofs.Booleans.{bool, eqb-self, eqb-true, not-f, or-f-l, or-f-r}
+use Rattle.sets.proofs.Membership.{has-inter, has-none, set-ext}
 use Rattle.state.specs.declared.Group.{Group}
 use Rattle.state.specs.declared.State.{State}
 use Rattle.state.specs.declared.State.the-variants.{Out, Joining, Member}
@@ -12,8 +16,8 @@ use Rattle.state.specs.State.{groupOf, halted}
 use Rattle.rules.specs.declared.Vote.{Vote}
 use Rattle.rules.specs.declared.Faults.{Faults}
 use Rattle.rules.specs.declared.Config.{Config}
-use Rattle.rules.specs.OneCycle.{Ballots, startIf, stopAndStart, sendsMember, sendsJoin, asks, willVote, memberDecides, silentDecides}
-use Rattle.rules.specs.Faults.{Row, ownVote, votesNow, voteOf, decides}
+use Rattle.rules.specs.OneCycle.{Ballots, startIf, stopAndStart, sendsMember, sendsJoin, asks, called, willVote, memberDecides, silentDecides}
+use Rattle.rules.specs.Faults.{Row, heard, ownVote, votesNow, voteOf, decides}
 
 -- ---- options
 
@@ -44,6 +48,11 @@ pub held-sends : (s : State) (g : Group) → groupOf s ≡ some g → sendsMembe
 held-sends (Out r) g e = absurd (none-some e)
 held-sends Joining g e = absurd (none-some e)
 held-sends (Member h a) g e = refl
+
+pub sends-held : (s : State) → sendsMember s ≡ true → (g : Group) × (groupOf s ≡ some g)
+sends-held (Out r) e = absurd (false≢true e)
+sends-held Joining e = absurd (false≢true e)
+sends-held (Member g a) e = (g, refl)
 
 pub not-halted : (s : State) (g : Group) → groupOf s ≡ some g → halted s ≡ true → ⊥
 not-halted (Out r) g e f = none-some e
@@ -129,3 +138,38 @@ pub idle-decides : (C : Config) (c : Faults) (r : Row) (p : ℕ) (s : State) (b 
 idle-decides C c r p (Out k) b e = refl
 idle-decides C c r p Joining b e = absurd (false≢true e)
 idle-decides C c r p (Member g a) b e = absurd (false≢true e)
+
+-- a member is silent exactly if the press is quiet, it sees its set, and neither it nor a node of its set that it hears requests
+pub record Silent (C : Config) (c : Faults) (r : Row) (q : ℕ) (g : Group) (a : Bool) : Type 0 where
+  pub quiet : C .quiet ≡ true
+  pub view : ownVote (C .nodes) c r q g .view ≡ g .set
+  pub own : a ≡ false
+  pub others : (x : ℕ) → has x (g .set) ≡ true → has x (heard (C .nodes) c r asks q) ≡ false
+
+pub silent-because : (C : Config) (c : Faults) (r : Row) (q : ℕ) (g : Group) (a : Bool) → votesNow C c r q g a ≡ false → Silent C c r q g a
+unfolding votesNow willVote called
+silent-because C c r q g a e =
+    let A = g .set ∩ heard (C .nodes) c r asks q in
+    let same = eqb (ownVote (C .nodes) c r q g .view) (g .set) in
+    let e2 : (not same || (a || not (eqb A 0))) ≡ false = or-f-r (not (C .quiet)) (not same || (a || not (eqb A 0))) e in
+    let e3 : (a || not (eqb A 0)) ≡ false = or-f-r (not same) (a || not (eqb A 0)) e2 in
+    let none-of : A ≡ 0 = eqb-true (not-f (eqb A 0) (or-f-r a (not (eqb A 0)) e3)) in
+    record {
+      quiet = not-f (C .quiet) (or-f-l (not (C .quiet)) (not same || (a || not (eqb A 0))) e);
+      view = eqb-true (not-f same (or-f-l (not same) (a || not (eqb A 0)) e2));
+      own = or-f-l a (not (eqb A 0)) e3;
+      others = λ x m.
+          sym (ap (λ (b : Bool). b && has x (heard (C .nodes) c r asks q)) m)
+          ∙ sym (has-inter x (g .set) (heard (C .nodes) c r asks q)) ∙ ap (has x) none-of ∙ has-none x;
+    }
+
+pub silent-if : (C : Config) (c : Faults) (r : Row) (q : ℕ) (g : Group) (a : Bool) → Silent C c r q g a → votesNow C c r q g a ≡ false
+unfolding votesNow willVote called
+silent-if C c r q g a s =
+    let R = heard (C .nodes) c r asks q in
+    let none-of : g .set ∩ R ≡ 0 = set-ext (λ x. has-inter x (g .set) R ∙ go x (bool (has x (g .set))) ∙ sym (has-none x)) in
+    rw (s .quiet, s .view, eqb-self (g .set), s .own, none-of)
+  where
+    go : (x : ℕ) → (has x (g .set) ≡ true) ⊎ (has x (g .set) ≡ false) → (has x (g .set) && has x (heard (C .nodes) c r asks q)) ≡ false
+    go x (inl m) = rw (m, s .others x m)
+    go x (inr m) = rw m

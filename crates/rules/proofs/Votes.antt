@@ -1,19 +1,20 @@
 -- Votes: when they are equal, who voted for one, what is in a view, and what a new group is made of. Assumes nothing.
 use mathlib.Core.Path.{_≡_, refl, sym, ap, ap₂, _∙_}
 use mathlib.Core.Logic.{_⊎_, inl, inr, _≢_}
-use mathlib.Core.Bool.{Bool, true, false, not, _&&_, _||_, false≢true}
+use mathlib.Core.Bool.{Bool, true, false, not, _&&_, _||_, cond, false≢true}
 use mathlib.Core.Option.{Option, none, some}
 use Prim.Native.Nat.{ℕ, _≤_, _<_}
 use native.Mathlib.Omega.{arith}
 use lib.Dec.{eqb, ltb}
 use Rattle.sets.specs.Sets.{has, single, _∪_, _∩_, _∖_, below}
-use Rattle.sets.proofs.Booleans.{bool, and-l, and-r, and-i, or-e, or-l, or-r, not-e, not-i, eqb-self, eqb-true, ltb-lt, ltb-le}
+use Rattle.sets.proofs.Booleans.{bool, both, and-l, and-r, and-i, or-e, or-l, or-r, or-f-r, not-e, not-i, not-f, eqb-self, eqb-true, ltb-lt, ltb-le}
 use Rattle.sets.proofs.Membership.{_⊆_, has-union, has-inter, has-diff, has-single, set-ext}
 use Rattle.sets.proofs.Nodes.{has-below, in-those, of-those, those-ext}
 use Rattle.state.specs.declared.Group.{Group}
+use Rattle.state.specs.State.{nextNumber}
 use Rattle.rules.specs.declared.Vote.{Vote}
 use Rattle.rules.specs.declared.Config.{Config}
-use Rattle.rules.specs.OneCycle.{Ballots, viewOf, sameGroup, sameVote, is, voters, wins, newSet, groupWith, newGroup, requestAfter, memberOn, entersWith}
+use Rattle.rules.specs.OneCycle.{Ballots, viewOf, sameGroup, sameVote, is, voters, wins, newSet, groupWith, newGroup, requestWith, requestAfter, memberOn, rests, entersWith}
 
 -- ---- equal groups and votes
 
@@ -160,6 +161,47 @@ unfolding newGroup newSet groupWith
 new-in N b v x s m =
     has-union x (voters N b v) (v .view ∖ v .group .set)
     ∙ or-r (has x (voters N b v)) (has x (v .view ∖ v .group .set)) (has-diff x (v .view) (v .group .set) ∙ and-i (has x (v .view)) (not (has x (v .group .set))) s (not-i (has x (v .group .set)) m))
+
+pub voters-in : (N : ℕ) (b : Ballots) (v : Vote) → _⊆_ (voters N b v) (newGroup N b v .set)
+unfolding newGroup newSet groupWith
+voters-in N b v x h = has-union x (voters N b v) (v .view ∖ v .group .set) ∙ or-l (has x (voters N b v)) (has x (v .view ∖ v .group .set)) h
+
+-- a view that differs from the set changes it: "whoever is not in a V cannot vote for it"
+pub view-changes-set : (N : ℕ) (b : Ballots) (v : Vote) → _⊆_ (voters N b v) (v .view) → newSet N b v ≡ v .group .set → v .view ≡ v .group .set
+unfolding newGroup groupWith
+view-changes-set N b v seen e = set-ext (λ x. both (has x (v .view)) (has x (v .group .set)) (λ s. stays x s (bool (has x (v .group .set)))) (λ m. shown x (in-new N b v x (ap (has x) e ∙ m))))
+  where
+    stays : (x : ℕ) → has x (v .view) ≡ true → (has x (v .group .set) ≡ true) ⊎ (has x (v .group .set) ≡ false) → has x (v .group .set) ≡ true
+    stays x s (inl m) = m
+    stays x s (inr m) = sym (ap (has x) e) ∙ new-in N b v x s m
+
+    shown : (x : ℕ) → (has x (voters N b v) ≡ true) ⊎ ((has x (v .view) ≡ true) × (has x (v .group .set) ≡ false)) → has x (v .view) ≡ true
+    shown x (inl h) = seen x h
+    shown x (inr h) = h .0
+
+-- a vote that keeps the set leaves the group at rest
+same-set-rests : (v : Vote) → groupWith v (v .group .set) ≡ rests (v .group)
+unfolding groupWith
+same-set-rests v = λ i. record { number = number i; set = v .group .set; base = base i }
+  where
+    number : cond (eqb (v .group .set) (v .group .set)) (v .group .number) (nextNumber (v .group .number)) ≡ v .group .number
+    number = rw (eqb-self (v .group .set))
+
+    twice : (m : Bool) → (m || m) ≡ m
+    twice true = refl
+    twice false = refl
+
+    base : v .group .set ∪ v .group .set ≡ v .group .set
+    base = set-ext (λ x. has-union x (v .group .set) (v .group .set) ∙ twice (has x (v .group .set)))
+
+-- in a quiet press whoever stays and does not request kept its set
+pub no-request-rests : (C : Config) (b : Ballots) (v : Vote) → C .quiet ≡ true → requestAfter C b v ≡ false → newGroup (C .nodes) b v ≡ rests (v .group)
+unfolding requestAfter requestWith newGroup
+no-request-rests C b v y e =
+    let differs = not (eqb (v .view) (v .group .set)) in
+    let same = eqb (newSet (C .nodes) b v) (v .group .set) in
+    let kept : same ≡ true = not-f same (or-f-r differs (not same) (ap (λ (x : Bool). x && (differs || not same)) (sym y) ∙ e)) in
+    ap (groupWith v) (eqb-true kept) ∙ same-set-rests v
 
 -- ---- equal ballots give equal groups
 

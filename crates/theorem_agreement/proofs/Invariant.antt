@@ -15,17 +15,18 @@ use Rattle.state.specs.declared.State.the-variants.{Joining, Member}
 use Rattle.state.specs.State.{groupOf, halted, foundingGroup, initial}
 use Rattle.rules.specs.declared.Faults.{Faults}
 use Rattle.rules.specs.declared.Config.{Config}
-use Rattle.rules.specs.OneCycle.{stopped, stopAndStart}
+use Rattle.rules.specs.OneCycle.{stopped, stopAndStart, sendsMember, asks}
 use Rattle.rules.specs.Faults.{Row, at, founding, disturbed, ruleOne, cycle}
 use Rattle.rules.specs.Reference.{Cluster, beginning, steady, keepsWith, keeps, referenceAfter, step}
 use Rattle.rules.proofs.Rows.{get-tabulate}
 use Rattle.rules.proofs.Undisturbed.{undisturbed}
-use Rattle.rules.proofs.States.{none-some, some-inj, rule1-member, rule1-joining, rule1-back}
-use Rattle.theorem_agreement.proofs.OneVote.{done, voted, Overruled, Given}
+use Rattle.rules.proofs.States.{none-some, some-inj, sends-held, rule1-member, rule1-joining, rule1-back}
+use Rattle.theorem_agreement.proofs.OneVote.{done, Overruled, Caller, Stirs, Given}
 use Rattle.theorem_agreement.proofs.Outcome.{Done, whole}
 
 -- `g` is the reference group. Each member's set lies in its base; a member that was not disturbed lately holds `g`, and so does every node of `g` that was
--- not; a member that holds another group is overruled by whatever quorum holds `g`. (Nothing is said of all members having one base.)
+-- not; a member that holds another group is overruled by whatever quorum holds `g`, and called to vote in a quiet press. (Nothing is said of all members having
+-- one base.)
 pub record Agreed (C : Config) (k : Cluster) (g : Group) : Type 0 where
   pub defined : k .reference ≡ some g
   pub inside : _⊆_ (g .set) (g .base)
@@ -34,6 +35,7 @@ pub record Agreed (C : Config) (k : Cluster) (g : Group) : Type 0 where
       → (W : ℕ) → _⊆_ W (g .base) → quorum W (g .base) ≡ true → ((x : ℕ) → has x W ≡ true → groupOf (at (k .row) x) ≡ some g) → Overruled C (k .row) h
   pub calm : (q : ℕ) (h : Group) → q < C .nodes → has q (k .lately) ≡ false → groupOf (at (k .row) q) ≡ some h → h ≡ g
   pub hold : (q : ℕ) → q < C .nodes → has q (g .set) ≡ true → has q (k .lately) ≡ false → groupOf (at (k .row) q) ≡ some g
+  pub stirs : Stirs C (k .row) g
 
 -- ---- at the beginning
 
@@ -50,13 +52,14 @@ at-first C G F =
       formed = λ q h l e. subst (λ (x : Group). _⊆_ (x .set) (x .base)) (sym (is-first q h l e)) (λ z u. u);
       overruled = λ q h l e d W i m a. absurd (d (is-first q h l e));
       calm = λ q h l t e. is-first q h l e;
-      hold = λ q l m t. ap groupOf (founded (C .nodes) G F q l ∙ ap (λ (b : Bool). cond b (Member (foundingGroup G F)) stopped) m);
+      hold = λ q l m t. ap groupOf (founded (C .nodes) G F q l ∙ ap (λ (b : Bool). cond b (Member (foundingGroup G F) false) stopped) m);
+      stirs = λ y q h l e d. absurd (d (is-first q h l e));
     }
   where
     is-first : (q : ℕ) (h : Group) → q < C .nodes → groupOf (at (founding (C .nodes) G F) q) ≡ some h → h ≡ foundingGroup G F
     is-first q h l e = go (has q F) (sym (ap groupOf (founded (C .nodes) G F q l)) ∙ e)
       where
-        go : (b : Bool) → groupOf (cond b (Member (foundingGroup G F)) stopped) ≡ some h → h ≡ foundingGroup G F
+        go : (b : Bool) → groupOf (cond b (Member (foundingGroup G F) false) stopped) ≡ some h → h ≡ foundingGroup G F
         go true f = some-inj (sym f)
         go false f = absurd (none-some f)
 
@@ -116,11 +119,13 @@ module _ (C : Config) (k : Cluster) (c : Faults) (g : Group) (a : Agreed C k g) 
   still q h l s e =
       ap groupOf (after-rule1 (C .nodes) c (k .row) q l ∙ rule1-member (has q (c .stop)) (has q (c .start)) (at (k .row) q) h s e) ∙ e
 
-  held : (q : ℕ) (h : Group) → q < C .nodes → groupOf (at now q) ≡ some h → groupOf (at (k .row) q) ≡ some h
-  held q h l e =
+  was : (q : ℕ) (h : Group) → q < C .nodes → groupOf (at now q) ≡ some h → at now q ≡ at (k .row) q
+  was q h l e =
       let f = after-rule1 (C .nodes) c (k .row) q l in
-      let back = rule1-back (has q (c .stop)) (has q (c .start)) (at (k .row) q) h (sym (ap groupOf f) ∙ e) in
-      sym (ap groupOf (f ∙ back)) ∙ e
+      f ∙ rule1-back (has q (c .stop)) (has q (c .start)) (at (k .row) q) h (sym (ap groupOf f) ∙ e)
+
+  held : (q : ℕ) (h : Group) → q < C .nodes → groupOf (at now q) ≡ some h → groupOf (at (k .row) q) ≡ some h
+  held q h l e = sym (ap groupOf (was q h l e)) ∙ e
 
   steady-held : (q : ℕ) → has q U ≡ true → groupOf (at (k .row) q) ≡ some g
   steady-held q u = let s = of-steady C k c g q u in a .hold q (s .below) (s .part) (s .before)
@@ -133,6 +138,20 @@ module _ (C : Config) (k : Cluster) (c : Faults) (g : Group) (a : Agreed C k g) 
       let o = a .overruled q h l (held q h l e) d U steady-inside premise steady-held in
       record { rest = o .rest; inside = o .inside; most = o .most; others = λ x b u f. o .others x b u (held x h b f) }
 
+  -- whoever called a member and still sends as one requests as it did
+  stirs : Stirs C now g
+  stirs y q h l e d = go (a .stirs y q h l (held q h l e) d)
+    where
+      go : (asks (at (k .row) q) ≡ true) ⊎ Caller C (k .row) g h → (asks (at now q) ≡ true) ⊎ Caller C now g h
+      go (inl t) = inl (ap asks (was q h l e) ∙ t)
+      go (inr w) = inr (record { node = w .node; below = w .below; own = w .own; reference = w .reference; requests = again })
+        where
+          again : sendsMember (at now (w .node)) ≡ true → asks (at now (w .node)) ≡ true
+          again s =
+              let m = sends-held (at now (w .node)) s in
+              let same = was (w .node) (m .0) (w .below) (m .1) in
+              ap asks same ∙ w .requests (sym (ap sendsMember same) ∙ s)
+
   given : Given C c now g U
   given =
       record {
@@ -144,14 +163,16 @@ module _ (C : Config) (k : Cluster) (c : Faults) (g : Group) (a : Agreed C k g) 
         most = premise;
         formed = λ q h l e. a .formed q h l (held q h l e);
         overruled = overruled;
+        stirs = stirs;
       }
 
   -- the next reference group
-  abbrev pub next : Group
-  next = voted C c now g
+  pub next : Group
+  next = whole C c now g U given .0
 
   its : Done C c now g U next
-  its = whole C c now g U given
+  unfolding next
+  its = whole C c now g U given .1
 
   row-is : step C k c .row ≡ done C c now
   unfolding step cycle
@@ -180,6 +201,7 @@ module _ (C : Config) (k : Cluster) (c : Faults) (g : Group) (a : Agreed C k g) 
         overruled = its .overruled;
         calm = λ q h l t e. its .calm q h l (undisturbed c q (sym (lately-is q l) ∙ t)) e;
         hold = λ q l m t. its .hold q (undisturbed c q (sym (lately-is q l) ∙ t)) m;
+        stirs = its .stirs;
       }
 
   -- a member that does not hold the reference group halts, or is stopped

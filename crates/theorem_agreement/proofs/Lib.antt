@@ -1,4 +1,5 @@
 mod OneVote
+mod Resting
 mod Outcome
 pub mod Invariant
 pub mod Histories

@@ -2,7 +2,7 @@
 -- Who else votes is left open. Assumes nothing.
 use mathlib.Core.Path.{_≡_, refl, sym, ap, ap₂, _∙_, subst}
 use mathlib.Core.Logic.{_⊎_, inl, inr, _≢_}
-use mathlib.Core.Bool.{Bool, true, false, not, _&&_, _||_, cond, false≢true}
+use mathlib.Core.Bool.{Bool, true, false, not, _&&_, _||_, cond, true≢false, false≢true}
 use mathlib.Core.Option.{Option, none, some}
 use Prim.Native.Nat.{ℕ, _<_}
 use lib.Dec.{eqb, ltb}
@@ -16,17 +16,23 @@ use Rattle.sets.proofs.Quorum.{quorum-meet, quorum-mono}
 use Rattle.state.specs.declared.Reason.the-variants.{NoQuorum, Outvoted}
 use Rattle.state.specs.declared.Group.{Group}
 use Rattle.state.specs.declared.State.{State}
-use Rattle.state.specs.declared.State.the-variants.{Out, Joining, Member}
+use Rattle.state.specs.declared.State.the-variants.{Out, Joining}
 use Rattle.state.specs.State.{groupOf, halted}
 use Rattle.rules.specs.declared.Vote.{Vote}
 use Rattle.rules.specs.declared.Faults.{Faults}
 use Rattle.rules.specs.declared.Config.{Config}
-use Rattle.rules.specs.OneCycle.{Ballots, stopped, sendsMember, sendsJoin, is, voters, wins, newGroup, memberOn, withOwn, rival, memberDecides, fits, enterOn, joinerDecides}
+use Rattle.rules.specs.OneCycle.{Ballots, stopped, sendsMember, sendsJoin, asks, is, voters, wins, newGroup, requestAfter, memberOn, withOwn, rival, memberDecides, rests, fits, entersWith, enterOn, joinerDecides}
 use Rattle.rules.specs.Faults.{Row, at, heartbeatReaches, voteReaches, heard, ownVote, voteOf, votes, arriveIf, arrivedAt, decides, decisions}
 use Rattle.rules.proofs.Rows.{get-tabulate, get-tabulate-out}
-use Rattle.rules.proofs.Votes.{group-same, is-self, has-view, voters-sub, voters-is, in-voters, base-is, new-inside, in-new, new-in, wins-ext, group-ext}
+use Rattle.rules.proofs.Counting.{quorum-node}
+use Rattle.rules.proofs.Votes.{group-same, is-self, has-view, voters-sub, voters-is, in-voters, base-is, new-inside, in-new, new-in, voters-in, no-request-rests, wins-ext, group-ext, member-ext, enters-ext}
 use Rattle.rules.proofs.Undisturbed.{Undisturbed, reach-heartbeat, reach-vote}
 use Rattle.rules.proofs.States.{none-some, some-inj, is-joining, held-sends, not-halted, vote-group, vote-decides}
+
+-- a test that cannot fail passes
+pub passes : (b : Bool) → (b ≡ false → ⊥) → b ≡ true
+passes true f = refl
+passes false f = absurd (f refl)
 
 -- ---- the vote of the steady nodes, and what a node that misses nothing gets
 
@@ -130,6 +136,44 @@ outcome-vote C c r q own e =
 pub outcome-joining : (C : Config) (c : Faults) (r : Row) (q : ℕ) → q < C .nodes → at r q ≡ Joining → at (done C c r) q ≡ joinerDecides C q (got C c r q)
 outcome-joining C c r q l e = outcome C c r q l ∙ ap (λ (s : State). decides C c r q s (got C c r q)) e
 
+-- ---- rules 5 and 6
+
+-- a member that votes goes on with its own vote, which has a quorum then, or halts
+abbrev pub GoesOrHalts : Config → ℕ → Vote → Ballots → State → Type 0
+GoesOrHalts C q own b s = ((wins (C .nodes) (withOwn q own b) own ≡ true) × (s ≡ memberOn C (withOwn q own b) own)) ⊎ (halted s ≡ true)
+
+pub goes-or-halts : (C : Config) (q : ℕ) (own : Vote) (b : Ballots) → GoesOrHalts C q own b (memberDecides C q own b)
+unfolding memberDecides
+goes-or-halts C q own b = go (wins (C .nodes) box own) (any (C .nodes) (λ p. rival (C .nodes) box (own .group) (box p))) refl
+  where
+    box : Ballots
+    box = withOwn q own b
+
+    go : (w a : Bool) → wins (C .nodes) box own ≡ w → GoesOrHalts C q own b (cond w (memberOn C box own) (cond a (Out Outvoted) (Out NoQuorum)))
+    go true a f = inl (f, refl)
+    go false true f = inr refl
+    go false false f = inr refl
+
+-- a joining node enters on a vote that fits it, or stays joining
+abbrev pub EntersOrStays : Config → ℕ → Ballots → State → Type 0
+EntersOrStays C q b s = ((p : ℕ) × (v : Vote) × (b p ≡ some v) × (fits (C .nodes) q b (some v) ≡ true) × (s ≡ entersWith C b v)) ⊎ (s ≡ Joining)
+
+pub enters-or-stays : (C : Config) (q : ℕ) (b : Ballots) → EntersOrStays C q b (joinerDecides C q b)
+unfolding joinerDecides
+enters-or-stays C q b = go (b low) refl
+  where
+    low : ℕ
+    low = lowest (C .nodes) (λ p. fits (C .nodes) q b (b p))
+
+    go : (o : Option Vote) → b low ≡ o → EntersOrStays C q b (enterOn C q b o)
+    go none e = inr refl
+    go (some v) e = pick (fits (C .nodes) q b (some v)) (every (C .nodes) (λ p. not (fits (C .nodes) q b (b p)) || is v (b p))) refl
+      where
+        pick : (f a : Bool) → fits (C .nodes) q b (some v) ≡ f → EntersOrStays C q b (cond (f && a) (entersWith C b v) Joining)
+        pick true true f = inl (low, v, e, f, refl)
+        pick true false f = inr refl
+        pick false a f = inr refl
+
 -- ---- views
 
 pub heard-sent : (N : ℕ) (c : Faults) (r : Row) (sends : State → Bool) (x q : ℕ) → Undisturbed c q → eqb x q ≡ false
@@ -206,6 +250,19 @@ pub record Overruled (C : Config) (r : Row) (h : Group) : Type 0 where
   pub most : quorum rest (h .base) ≡ true
   pub others : (x : ℕ) → x < C .nodes → has x rest ≡ true → groupOf (at r x) ≢ some h
 
+-- a node of h's set and of g's that requests, if it is a member at all
+pub record Caller (C : Config) (r : Row) (g h : Group) : Type 0 where
+  pub node : ℕ
+  pub below : node < C .nodes
+  pub own : has node (h .set) ≡ true
+  pub reference : has node (g .set) ≡ true
+  pub requests : sendsMember (at r node) ≡ true → asks (at r node) ≡ true
+
+-- in a quiet press whoever holds another group than g is called to vote: it requests, or such a node does
+abbrev pub Stirs : Config → Row → Group → Type 0
+Stirs C r g =
+    C .quiet ≡ true → (q : ℕ) (h : Group) → q < C .nodes → groupOf (at r q) ≡ some h → h ≢ g → (asks (at r q) ≡ true) ⊎ Caller C r g h
+
 pub record Given (C : Config) (c : Faults) (r : Row) (g : Group) (U : ℕ) : Type 0 where
   pub inside : _⊆_ (g .set) (g .base)
   pub below : (q : ℕ) → has q U ≡ true → q < C .nodes
@@ -215,6 +272,30 @@ pub record Given (C : Config) (c : Faults) (r : Row) (g : Group) (U : ℕ) : Typ
   pub most : quorum U (g .base) ≡ true
   pub formed : (q : ℕ) (h : Group) → q < C .nodes → groupOf (at r q) ≡ some h → _⊆_ (h .set) (h .base)
   pub overruled : (q : ℕ) (h : Group) → q < C .nodes → groupOf (at r q) ≡ some h → h ≢ g → Overruled C r h
+  pub stirs : Stirs C r g
+
+-- a vote that wins anywhere is a steady node's: its voters share a node with the steady nodes, or would with those that overrule it
+pub shared : (C : Config) (c : Faults) (r : Row) (g : Group) (U : ℕ) → Given C c r g U → (b : Ballots) (p : ℕ) (v : Vote)
+    → ((q : ℕ) (w : Vote) → b q ≡ some w → cast C c r q ≡ some w) → cast C c r p ≡ some v → wins (C .nodes) b v ≡ true
+    → (q : ℕ) × (has q U ≡ true) × (cast C c r q ≡ some v)
+unfolding wins
+shared C c r g U k b p v sound e w = go (group-same (v .group) g)
+  where
+    inB : _⊆_ (voters (C .nodes) b v) (v .group .base)
+    inB q x = k .formed p (v .group) (cast-lt C c r p v e) (voter C c r p v e) q (voters-sub (C .nodes) b v q x)
+
+    its : (x : ℕ) → has x (voters (C .nodes) b v) ≡ true → cast C c r x ≡ some v
+    its x y = sound x v (voters-is (C .nodes) b v x y .1)
+
+    go : (v .group ≡ g) ⊎ (v .group ≢ g) → (q : ℕ) × (has q U ≡ true) × (cast C c r q ≡ some v)
+    go (inl s) =
+        let base : v .group .base ≡ g .base = ap (λ (x : Group). x .base) s in
+        let m = quorum-meet (voters (C .nodes) b v) U (v .group .base) inB (λ q x. subst (λ (B : ℕ). has q B ≡ true) (sym base) (k .inside q (k .part q x))) w (subst (λ (B : ℕ). quorum U B ≡ true) (sym base) (k .most)) in
+        (m .0, m .2, its (m .0) (m .1))
+    go (inr s) =
+        let o = k .overruled p (v .group) (cast-lt C c r p v e) (voter C c r p v e) s in
+        let m = quorum-meet (voters (C .nodes) b v) (o .rest) (v .group .base) inB (o .inside) w (o .most) in
+        absurd (o .others (m .0) (cast-lt C c r (m .0) v (its (m .0) (m .1))) (m .2) (voter C c r (m .0) v (its (m .0) (m .1))))
 
 -- ---- the one vote
 
@@ -223,27 +304,10 @@ module _ (C : Config) (c : Faults) (r : Row) (g : Group) (U : ℕ) (k : Given C 
   abbrev common : Vote
   common = commonVote (C .nodes) c r g
 
-  -- no other vote wins anywhere: its voters would share a node with the steady nodes, or with those that outvote it
+  -- no other vote wins anywhere
   only : (b : Ballots) (p : ℕ) (v : Vote) → ((q : ℕ) (w : Vote) → b q ≡ some w → cast C c r q ≡ some w) → cast C c r p ≡ some v → wins (C .nodes) b v ≡ true
       → v ≡ common
-  unfolding wins
-  only b p v sound e w = go (group-same (v .group) g)
-    where
-      inB : _⊆_ (voters (C .nodes) b v) (v .group .base)
-      inB q x = k .formed p (v .group) (cast-lt C c r p v e) (voter C c r p v e) q (voters-sub (C .nodes) b v q x)
-
-      its : (x : ℕ) → has x (voters (C .nodes) b v) ≡ true → cast C c r x ≡ some v
-      its x y = sound x v (voters-is (C .nodes) b v x y .1)
-
-      go : (v .group ≡ g) ⊎ (v .group ≢ g) → v ≡ common
-      go (inl s) =
-          let base : v .group .base ≡ g .base = ap (λ (x : Group). x .base) s in
-          let m = quorum-meet (voters (C .nodes) b v) U (v .group .base) inB (λ q x. subst (λ (B : ℕ). has q B ≡ true) (sym base) (k .inside q (k .part q x))) w (subst (λ (B : ℕ). quorum U B ≡ true) (sym base) (k .most)) in
-          some-inj (sym (its (m .0) (m .1)) ∙ speak (m .0) (m .2))
-      go (inr s) =
-          let o = k .overruled p (v .group) (cast-lt C c r p v e) (voter C c r p v e) s in
-          let m = quorum-meet (voters (C .nodes) b v) (o .rest) (v .group .base) inB (o .inside) w (o .most) in
-          absurd (o .others (m .0) (cast-lt C c r (m .0) v (its (m .0) (m .1))) (m .2) (voter C c r (m .0) v (its (m .0) (m .1))))
+  only b p v sound e w = let m = shared C c r g U k b p v sound e w in some-inj (sym (m .2) ∙ speak (m .0) (m .1))
 
   -- a node that misses nothing sees that vote win
   public-steady : (q : ℕ) → has q U ≡ true → public C c r q ≡ some common
@@ -260,20 +324,17 @@ module _ (C : Config) (c : Faults) (r : Row) (g : Group) (U : ℕ) (k : Given C 
   rule5-is : (q : ℕ) (own : Vote) → cast C c r q ≡ some own
       → ((own ≡ common) × (memberDecides C q own (got C c r q) ≡ memberOn C (withOwn q own (got C c r q)) common))
       ⊎ (halted (memberDecides C q own (got C c r q)) ≡ true)
-  unfolding memberDecides
-  rule5-is q own e = go (wins (C .nodes) b own) (any (C .nodes) (λ p. rival (C .nodes) b (own .group) (b p))) refl
+  rule5-is q own e = go (goes-or-halts C q own (got C c r q))
     where
       b : Ballots
       b = withOwn q own (got C c r q)
 
-      go : (w a : Bool) → wins (C .nodes) b own ≡ w
-          → ((own ≡ common) × (cond w (memberOn C b own) (cond a (Out Outvoted) (Out NoQuorum)) ≡ memberOn C b common))
-          ⊎ (halted (cond w (memberOn C b own) (cond a (Out Outvoted) (Out NoQuorum))) ≡ true)
-      go true a f =
-          let same : own ≡ common = only b q own (λ p w. own-cast C c r q p own w e) e f in
-          inl (same, ap (λ (v : Vote). memberOn C b v) same)
-      go false true f = inr refl
-      go false false f = inr refl
+      go : GoesOrHalts C q own (got C c r q) (memberDecides C q own (got C c r q))
+          → ((own ≡ common) × (memberDecides C q own (got C c r q) ≡ memberOn C b common)) ⊎ (halted (memberDecides C q own (got C c r q)) ≡ true)
+      go (inl w) =
+          let same : own ≡ common = only b q own (λ p v. own-cast C c r q p own v e) e (w .0) in
+          inl (same, w .1 ∙ ap (λ (v : Vote). memberOn C b v) same)
+      go (inr w) = inr w
 
   -- rule 6: either on the one vote, which has the node in V and not in M, or the node stays joining
   fits-is : (q p : ℕ) (o : Option Vote) → got C c r q p ≡ o → fits (C .nodes) q (got C c r q) o ≡ true
@@ -290,29 +351,20 @@ module _ (C : Config) (c : Faults) (r : Row) (g : Group) (U : ℕ) (k : Given C 
       )
 
   abbrev Entered : ℕ → State → Type 0
-  Entered q s = ((has q (common .view) ≡ true) × (has q (g .set) ≡ false) × (s ≡ memberOn C (got C c r q) common)) ⊎ (s ≡ Joining)
+  Entered q s = ((has q (common .view) ≡ true) × (has q (g .set) ≡ false) × (s ≡ entersWith C (got C c r q) common)) ⊎ (s ≡ Joining)
 
   rule6-is : (q : ℕ) → Entered q (joinerDecides C q (got C c r q))
-  unfolding joinerDecides
-  rule6-is q = go (got C c r q low) refl
+  rule6-is q = go (enters-or-stays C q (got C c r q))
     where
-      low : ℕ
-      low = lowest (C .nodes) (λ p. fits (C .nodes) q (got C c r q) (got C c r q p))
-
-      go : (o : Option Vote) → got C c r q low ≡ o → Entered q (enterOn C q (got C c r q) o)
-      go none e = inr refl
-      go (some v) e = pick (fits (C .nodes) q (got C c r q) (some v)) (every (C .nodes) (λ p. not (fits (C .nodes) q (got C c r q) (got C c r q p)) || is v (got C c r q p))) refl
-        where
-          pick : (a b : Bool) → fits (C .nodes) q (got C c r q) (some v) ≡ a → Entered q (cond (a && b) (memberOn C (got C c r q) v) Joining)
-          pick true true f =
-              let z = fits-is q low (some v) e f in
-              inl (z .1, z .2, ap (λ (x : Vote). memberOn C (got C c r q) x) (some-inj (z .0)))
-          pick true false f = inr refl
-          pick false b f = inr refl
+      go : EntersOrStays C q (got C c r q) (joinerDecides C q (got C c r q)) → Entered q (joinerDecides C q (got C c r q))
+      go (inl w) =
+          let z = fits-is q (w .0) (some (w .1)) (w .2) (w .3) in
+          inl (z .1, z .2, w .4 ∙ ap (λ (x : Vote). entersWith C (got C c r q) x) (some-inj (z .0)))
+      go (inr w) = inr w
 
   -- a joining node that is in V and not in M, and is not disturbed, enters
   rule6-in : (q : ℕ) → Undisturbed c q → cast C c r q ≡ none → has q (common .view) ≡ true → has q (g .set) ≡ false
-      → joinerDecides C q (got C c r q) ≡ memberOn C (public C c r) common
+      → joinerDecides C q (got C c r q) ≡ entersWith C (public C c r) common
   unfolding joinerDecides
   rule6-in q u n s m =
       let b = got C c r q in
@@ -326,8 +378,8 @@ module _ (C : Config) (c : Faults) (r : Row) (g : Group) (U : ℕ) (k : Given C 
       let low : b (lowest (C .nodes) (λ p. fits (C .nodes) q b (b p))) ≡ some common = fits-is q (lowest (C .nodes) (λ p. fits (C .nodes) q b (b p))) (b (lowest (C .nodes) (λ p. fits (C .nodes) q b (b p)))) refl (least .1) .0 in
       let all : every (C .nodes) (λ p. not (fits (C .nodes) q b (b p)) || is common (b p)) ≡ true = every-i (C .nodes) (λ p. not (fits (C .nodes) q b (b p)) || is common (b p)) (λ p h. agree p (bool (fits (C .nodes) q b (b p)))) in
       ap (enterOn C q b) low
-      ∙ ap (λ (x : Bool). cond x (memberOn C b common) Joining) (and-i (fits (C .nodes) q b (some common)) (every (C .nodes) (λ p. not (fits (C .nodes) q b (b p)) || is common (b p))) fit all)
-      ∙ ap Member (group-ext (C .nodes) b (public C c r) common same)
+      ∙ ap (λ (x : Bool). cond x (entersWith C b common) Joining) (and-i (fits (C .nodes) q b (some common)) (every (C .nodes) (λ p. not (fits (C .nodes) q b (b p)) || is common (b p))) fit all)
+      ∙ enters-ext C b (public C c r) common same
     where
       agree : (p : ℕ) → (fits (C .nodes) q (got C c r q) (got C c r q p) ≡ true) ⊎ (fits (C .nodes) q (got C c r q) (got C c r q p) ≡ false)
           → (not (fits (C .nodes) q (got C c r q) (got C c r q p)) || is common (got C c r q p)) ≡ true
@@ -345,7 +397,7 @@ module _ (C : Config) (c : Faults) (r : Row) (g : Group) (U : ℕ) (k : Given C 
       let won : wins (C .nodes) b common ≡ true = wins-ext (C .nodes) b (public C c r) common same ∙ public-wins in
       outcome-vote C c r q common e
       ∙ ap (λ (x : Bool). cond x (memberOn C b common) (cond (any (C .nodes) (λ p. rival (C .nodes) b g (b p))) (Out Outvoted) (Out NoQuorum))) won
-      ∙ ap Member (group-ext (C .nodes) b (public C c r) common same)
+      ∙ member-ext C b (public C c r) common same
 
   holds-voted : (q : ℕ) → Undisturbed c q → cast C c r q ≡ some common → groupOf (at (done C c r) q) ≡ some (voted C c r g)
   unfolding voted
@@ -354,6 +406,22 @@ module _ (C : Config) (c : Faults) (r : Row) (g : Group) (U : ℕ) (k : Given C 
   -- a steady node goes on
   pub steady-stays : (q : ℕ) → has q U ≡ true → groupOf (at (done C c r) q) ≡ some (voted C c r g)
   steady-stays q u = holds-voted q (k .calm q u) (speak q u)
+
+  -- and calls, in a quiet press, whoever has g at rest where that is not the new group: its set changed then
+  pub steady-calls : C .quiet ≡ true → (h : Group) → h ≡ rests g → voted C c r g ≢ rests g → Caller C (done C c r) (voted C c r g) h
+  unfolding voted
+  steady-calls y h e d =
+      let one = quorum-node U (g .base) (k .most) in
+      let u : has (one .0) U ≡ true = one .1 in
+      record {
+        node = one .0;
+        below = k .below (one .0) u;
+        own = ap (λ (x : Group). has (one .0) (x .set)) e ∙ k .part (one .0) u;
+        reference = voters-in (C .nodes) (public C c r) common (one .0) (public-voters (one .0) u);
+        requests = λ m.
+            ap asks (stays (one .0) (k .calm (one .0) u) (speak (one .0) u))
+            ∙ passes (requestAfter C (public C c r) common) (λ n. d (no-request-rests C (public C c r) common y n));
+      }
 
   -- a joining node outside M that is not disturbed enters, and is in the new set
   pub enters : (q : ℕ) → q < C .nodes → Undisturbed c q → at r q ≡ Joining → has q (g .set) ≡ false
@@ -403,22 +471,27 @@ module _ (C : Config) (c : Faults) (r : Row) (g : Group) (U : ℕ) (k : Given C 
           no-way (inr v) = false≢true (sym (v .1) ∙ m)
       stays-out (inr h) = h
 
-  -- ---- a member after the cycle that voted or was joining is one on the one vote; what it heard decides only the set
+  -- ---- a member after the cycle that voted or was joining is one on the one vote; what it heard decides only the set; if it does not request it kept that
 
   pub record OnVote (q : ℕ) (h : Group) : Type 0 where
     pub box : Ballots
     pub is-new : h ≡ newGroup (C .nodes) box common
     pub same : Undisturbed c q → (p : ℕ) → box p ≡ public C c r p
+    pub kept : C .quiet ≡ true → asks (at (done C c r) q) ≡ false → h ≡ rests g
 
   pub from-vote : (q : ℕ) (own : Vote) (h : Group) → cast C c r q ≡ some own → groupOf (at (done C c r) q) ≡ some h → OnVote q h
   from-vote q own h e f = go (rule5-is q own e)
     where
       go : ((own ≡ common) × (memberDecides C q own (got C c r q) ≡ memberOn C (withOwn q own (got C c r q)) common)) ⊎ (halted (memberDecides C q own (got C c r q)) ≡ true) → OnVote q h
       go (inl w) =
+          let b = withOwn q own (got C c r q) in
+          let now : at (done C c r) q ≡ memberOn C b common = outcome-vote C c r q own e ∙ w .1 in
+          let new : h ≡ newGroup (C .nodes) b common = some-inj (sym f ∙ ap groupOf now) in
           record {
-            box = withOwn q own (got C c r q);
-            is-new = some-inj (sym f ∙ ap groupOf (outcome-vote C c r q own e ∙ w .1));
+            box = b;
+            is-new = new;
             same = λ u p. own-public C c r q own u e p;
+            kept = λ y n. new ∙ no-request-rests C b common y (sym (ap asks now) ∙ n);
           }
       go (inr w) = absurd (not-halted (at (done C c r) q) h f (ap halted (outcome-vote C c r q own e) ∙ w))
 
@@ -427,10 +500,12 @@ module _ (C : Config) (c : Faults) (r : Row) (g : Group) (U : ℕ) (k : Given C 
     where
       go : Entered q (joinerDecides C q (got C c r q)) → OnVote q h
       go (inl w) =
+          let now : at (done C c r) q ≡ entersWith C (got C c r q) common = outcome-joining C c r q l e ∙ w .2 in
           record {
             box = got C c r q;
-            is-new = some-inj (sym f ∙ ap groupOf (outcome-joining C c r q l e ∙ w .2));
+            is-new = some-inj (sym f ∙ ap groupOf now);
             same = λ u p. arrived-public C c r q u (silent-joiner C c r q l e) p;
+            kept = λ y n. absurd (true≢false (sym y ∙ sym (ap asks now) ∙ n));
           }
       go (inr w) = absurd (none-some (sym (ap groupOf (outcome-joining C c r q l e ∙ w)) ∙ f))
 
