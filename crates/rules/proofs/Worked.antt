@@ -18,7 +18,7 @@ use Rattle.state.specs.Image.{reasonOf}
 use Rattle.rules.specs.OneCycle.{stopAndStart, viewOf, sameGroup, sameVote, voters, wins, newSet, groupWith, newGroup, called, willVote, requestWith, requestAfter, memberDecides, silentDecides, joinerDecides}
 use Rattle.rules.specs.Faults.{tabulate, founding, reaches, disturbed, ruleOne, heard, ownVote, votesNow, votes, decisions, cycle}
 use Rattle.rules.specs.Reference.{beginning, steady, keeps, step, haltedIn, enteredIn}
-use Rattle.rules.specs.Examples.{Seen, Example, examples, watch, seen, Join, joins, decided}
+use Rattle.rules.specs.Examples.{Seen, Example, examples, watch, seen, Turn, Lent, lent, turns, turned, Join, joins, decided, Silent, silents, rested}
 use Rattle.rules.proofs.Failing.{both, equal-numbers, equal-lists, failing, all-hold}
 
 -- ---- that two things seen are equal, where they are
@@ -63,6 +63,11 @@ equal-seen a b =
     (both (equal-tests (a .kept) (b .kept)) (both (equal-references (a .reference) (b .reference)) (both (equal-numbers (a .halted) (b .halted))
     (both (equal-numbers (a .entered) (b .entered)) (equal-lists State equal-states (a .row) (b .row))))))
 
+abbrev equal-turns : (a b : Turn) → Option (a ≡ b)
+equal-turns a b =
+    Option·map (λ (e : (a .voted ≡ b .voted) × (a .row ≡ b .row)). λ i. record { voted = e .0 i; row = e .1 i })
+    (both (equal-numbers (a .voted) (b .voted)) (equal-lists State equal-states (a .row) (b .row)))
+
 -- ---- no example fails, by computation. Where one does, the error says at which number `failed` is not 0: that of the example, two digits for each.
 abbrev number : Example → ℕ
 number e = e .example
@@ -77,6 +82,19 @@ none-fails failed e = omega arith
 pub examples-hold : map seen examples ≡ map expected examples
 examples-hold = all-hold Example (List Seen) number seen expected (equal-lists Seen equal-seen) examples (none-fails _ refl)
 
+abbrev lent-number : Lent → ℕ
+lent-number l = l .example
+
+abbrev turns-due : Lent → List Turn
+turns-due l = l .expected
+
+no-lent-fails : (failed : ℕ) → failed ≡ failing Lent (List Turn) lent-number turned turns-due (equal-lists Turn equal-turns) lent → failed ≡ 0
+unfolding ones has single _∪_ _∩_ _∖_ those below size any quorum nextNumber stopAndStart viewOf sameGroup sameVote voters wins newSet groupWith newGroup called willVote requestWith requestAfter memberDecides silentDecides tabulate reaches ruleOne heard ownVote votesNow votes decisions cycle turns turned
+no-lent-fails failed e = omega arith
+
+pub lent-hold : map turned lent ≡ map turns-due lent
+lent-hold = all-hold Lent (List Turn) lent-number turned turns-due (equal-lists Turn equal-turns) lent (no-lent-fails _ refl)
+
 abbrev joins-number : Join → ℕ
 joins-number j = j .example
 
@@ -89,3 +107,16 @@ no-join-fails failed e = omega arith
 
 pub joins-hold : map decided joins ≡ map decision joins
 joins-hold = all-hold Join State joins-number decided decision equal-states joins (no-join-fails _ refl)
+
+abbrev silents-number : Silent → ℕ
+silents-number s = s .example
+
+abbrev rest-due : Silent → State
+rest-due s = s .expected
+
+no-silent-fails : (failed : ℕ) → failed ≡ failing Silent State silents-number rested rest-due equal-states silents → failed ≡ 0
+unfolding ones has those size any quorum sameGroup sameVote voters wins silentDecides rested
+no-silent-fails failed e = omega arith
+
+pub silents-hold : map rested silents ≡ map rest-due silents
+silents-hold = all-hold Silent State silents-number rested rest-due equal-states silents (no-silent-fails _ refl)

@@ -1,5 +1,5 @@
--- Paper 01, "Proved examples": P1 to P10 in one table, with the mistakes that P1 to P10 do not show; all that is printed of every cycle, and every state
--- after it. Then what a joining node makes of given votes.
+-- Paper 01, "Proved examples": P1 to P10 in one table, with the mistakes that P1 to P10 do not show, and request 3 in quiet presses; all that is printed of
+-- every cycle, and every state after it. Then quiet cycles from given states, and what a joining node, and a member that did not vote, make of given votes.
 -- Assumes nothing.
 use mathlib.Core.Bool.{Bool, true, false, cond}
 use mathlib.Core.List.{List, [], _∷_, _++_}
@@ -7,6 +7,7 @@ use mathlib.Core.Option.{Option, none, some}
 use Prim.Native.Nat.{ℕ, zero, suc}
 use lib.Dec.{ltb, eqb}
 use lib.ListN.{getD}
+use Rattle.sets.specs.Sets.{those}
 use Rattle.state.specs.declared.Reason.the-variants.{Stopped, NoQuorum, Outvoted}
 use Rattle.state.specs.declared.Group.{Group}
 use Rattle.state.specs.declared.State.{State}
@@ -14,8 +15,8 @@ use Rattle.state.specs.declared.State.the-variants.{Out, Joining, Member}
 use Rattle.rules.specs.declared.Vote.{Vote}
 use Rattle.rules.specs.declared.Faults.{Faults}
 use Rattle.rules.specs.declared.Config.{Config}
-use Rattle.rules.specs.OneCycle.{ofNodes, joinerDecides}
-use Rattle.rules.specs.Faults.{Row, tabulate}
+use Rattle.rules.specs.OneCycle.{ofNodes, quietly, silentDecides, joinerDecides}
+use Rattle.rules.specs.Faults.{Row, tabulate, ruleOne, votes, cycle}
 use Rattle.rules.specs.Reference.{Cluster, beginning, keeps, step, haltedIn, enteredIn}
 
 -- what is seen of a cycle: whether it met the premise, the reference group after it, who halted and who entered, and the states after it
@@ -69,6 +70,10 @@ times (suc n) s = s ∷ times n s
 
 abbrev member : ℕ → ℕ → ℕ → State
 member g m b = Member (group g m b) false
+
+-- a member that requests in the next cycle
+abbrev requesting : ℕ → ℕ → ℕ → State
+requesting g m b = Member (group g m b) true
 
 -- a cycle that met the premise, with the reference group after it; and one that did not, after which there is none
 abbrev kept : Group → ℕ → ℕ → Row → Seen
@@ -227,6 +232,134 @@ examples =
           ∷ broken 0x4 0 (times 2 (member 2 0xb 0xf) ++ (Out Outvoted ∷ member 2 0xb 0xf ∷ []))
           ∷ [];
     }
+    -- Request 3: "agreement, the halting of strays and the two-cycle join hold in it under the same premise": P1 on a quiet press, where the same is printed.
+    ∷ record {
+      example = 16;
+      config = quietly 5;
+      founders = 0x1f;
+      number = 0;
+      cycles = clean ∷ faults 0 0 0x10 0 ∷ faults 0 0x10 0 0 ∷ faults 0 0 0 0x01 ∷ clean ∷ [];
+      expected =
+          kept (group 0 0x1f 0x1f) 0 0 (times 5 (member 0 0x1f 0x1f))
+          ∷ kept (group 1 0x0f 0x1f) 0x10 0 (times 4 (requesting 1 0x0f 0x1f) ++ (Out Outvoted ∷ []))
+          ∷ kept (group 2 0x1f 0x1f) 0 0x10 (times 5 (requesting 2 0x1f 0x1f))
+          ∷ kept (group 3 0x1e 0x1f) 0 0 (member 2 0x1f 0x1f ∷ times 4 (requesting 3 0x1e 0x1f))
+          ∷ kept (group 3 0x1e 0x1e) 0x01 0 (Out NoQuorum ∷ times 4 (member 3 0x1e 0x1e))
+          ∷ [];
+    }
+    -- "A member that did not vote halts with reason 2 if it heard a quorum of equal votes with its own G, M and B": three nodes, heartbeat of node 1 lost.
+    -- Nodes 0 and 2 vote, since their V differs from M; node 1 heard all, and did not.
+    ∷ record {
+      example = 17;
+      config = quietly 3;
+      founders = 0x7;
+      number = 0;
+      cycles = faults 0 0 0x2 0 ∷ [];
+      expected = kept (group 1 0x5 0x7) 0x2 0 (requesting 1 0x5 0x7 ∷ Out Outvoted ∷ requesting 1 0x5 0x7 ∷ []) ∷ [];
+    }
+    -- "It requests in the cycle after one in which its V differed from M, its set changed, or rule 6 made it a member", and in no other: two nodes, founding
+    -- set 2. Node 0 starts; both request in cycle 2, and not in 3.
+    ∷ record {
+      example = 18;
+      config = quietly 2;
+      founders = 0x2;
+      number = 0;
+      cycles = faults 0 0x1 0 0 ∷ clean ∷ clean ∷ [];
+      expected =
+          kept (group 1 0x3 0x3) 0 0x1 (times 2 (requesting 1 0x3 0x3))
+          ∷ kept (group 1 0x3 0x3) 0 0 (times 2 (member 1 0x3 0x3))
+          ∷ kept (group 1 0x3 0x3) 0 0 (times 2 (member 1 0x3 0x3))
+          ∷ [];
+    }
+    -- "A member votes exactly when .. a member of M heard .. requests": three nodes, heartbeat of node 2 lost, and node 2 misses the vote of node 1. It did
+    -- not vote, heard no quorum and stays behind; the requests of the others then make it vote, and it halts.
+    ∷ record {
+      example = 19;
+      config = quietly 3;
+      founders = 0x7;
+      number = 0;
+      cycles = missing 0 0 0x4 0 nobody's (λ q. cond (eqb q 2) 0x2 0) ∷ clean ∷ [];
+      expected =
+          kept (group 1 0x3 0x7) 0 0 (times 2 (requesting 1 0x3 0x7) ++ (member 0 0x7 0x7 ∷ []))
+          ∷ kept (group 1 0x3 0x3) 0x4 0 (times 2 (member 1 0x3 0x3) ++ (Out NoQuorum ∷ []))
+          ∷ [];
+    }
+    -- "or it itself, requests": three nodes, node 1 stopped and then started. Node 2 misses its vote in cycle 3 and holds 5, of which nobody else requests:
+    -- its own request makes it vote, and it halts.
+    ∷ record {
+      example = 20;
+      config = quietly 3;
+      founders = 0x7;
+      number = 0;
+      cycles = faults 0x2 0 0 0 ∷ faults 0 0x2 0 0 ∷ missing 0 0 0 0 nobody's (λ q. cond (eqb q 2) 0x2 0) ∷ clean ∷ [];
+      expected =
+          kept (group 1 0x5 0x7) 0 0 (requesting 1 0x5 0x7 ∷ Out Stopped ∷ requesting 1 0x5 0x7 ∷ [])
+          ∷ kept (group 2 0x7 0x7) 0 0x2 (times 3 (requesting 2 0x7 0x7))
+          ∷ kept (group 2 0x7 0x7) 0 0 (times 2 (member 2 0x7 0x7) ++ (requesting 3 0x5 0x7 ∷ []))
+          ∷ kept (group 3 0x3 0x7) 0x4 0 (times 2 (requesting 3 0x3 0x7) ++ (Out NoQuorum ∷ []))
+          ∷ [];
+    }
+    ∷ []
+
+-- ---- cycles from given states
+
+-- what is seen of such a cycle: who voted in it, and the states after it
+pub record Turn : Type 0 where
+  pub voted : ℕ
+  pub row : Row
+
+-- the example's own number; the states of N nodes, the cycles, and what is to be seen of each
+pub record Lent : Type 0 where
+  pub example : ℕ
+  pub config : Config
+  pub row : Row
+  pub cycles : List Faults
+  pub expected : List Turn
+
+abbrev pub sentOne : Option Vote → Bool
+sentOne none = false
+sentOne (some v) = true
+
+unfoldable pub turns : Config → Row → List Faults → List Turn
+turns C row [] = []
+turns C row (c ∷ cs) =
+    let sent = votes C c (ruleOne (C .nodes) c row) in
+    let next = cycle C c row in
+    record { voted = those (C .nodes) (λ q. sentOne (getD sent q none)); row = next } ∷ turns C next cs
+
+unfoldable pub turned : Lent → List Turn
+turned l = turns (l .config) (l .row) (l .cycles)
+
+abbrev turn : ℕ → Row → Turn
+turn voted r = record { voted = voted; row = r }
+
+abbrev pub lent : List Lent
+lent =
+    -- "Otherwise it keeps G and M, and B becomes M": nodes 0 and 1 of a group whose base still holds node 2.
+    record {
+      example = 21;
+      config = quietly 3;
+      row = times 2 (member 5 0x3 0x7) ++ (Out Stopped ∷ []);
+      cycles = clean ∷ [];
+      expected = turn 0 (times 2 (member 5 0x3 0x3) ++ (Out Stopped ∷ [])) ∷ [];
+    }
+    -- "A member of M heard": two groups of two nodes each. Node 0 hears nodes 2 and 3 request, node 1 misses them. They are not of M, and neither votes; node
+    -- 0 alone would have halted.
+    ∷ record {
+      example = 22;
+      config = quietly 4;
+      row = times 2 (member 7 0x3 0x3) ++ times 2 (requesting 7 0xc 0xc);
+      cycles = missing 0 0 0 0 (λ q. cond (eqb q 1) 0xc 0) nobody's ∷ [];
+      expected = turn 0xc (times 2 (member 7 0x3 0x3) ++ times 2 (member 7 0xc 0xc)) ∷ [];
+    }
+    -- "Lets votes rest while nothing happens": the votes of a request are the last.
+    ∷ record {
+      example = 25;
+      config = quietly 2;
+      row = times 2 (requesting 1 0x3 0x3);
+      cycles = clean ∷ clean ∷ [];
+      expected = turn 0x3 (times 2 (member 1 0x3 0x3)) ∷ turn 0 (times 2 (member 1 0x3 0x3)) ∷ [];
+    }
     ∷ []
 
 -- ---- a joining node
@@ -262,5 +395,41 @@ joins =
       node = 4;
       votes = vote 7 0x03 0x03 0x13 ∷ vote 7 0x03 0x03 0x13 ∷ vote 7 0x0c 0x0c 0x1c ∷ none ∷ [];
       expected = member 8 0x13 0x13;
+    }
+    ∷ []
+
+-- ---- a member that did not vote
+
+-- the example's own number; N nodes, the member and the group that it holds, the votes that arrived, by sender, and what it decides
+pub record Silent : Type 0 where
+  pub example : ℕ
+  pub config : Config
+  pub node : ℕ
+  pub held : Group
+  pub votes : List (Option Vote)
+  pub expected : State
+
+unfoldable pub rested : Silent → State
+rested s = silentDecides (s .config) (s .node) (s .held) (λ p. getD (s .votes) p none)
+
+abbrev pub silents : List Silent
+silents =
+    -- "If it heard a quorum of equal votes with its own G, M and B": also where their V is its own.
+    record {
+      example = 23;
+      config = quietly 3;
+      node = 0;
+      held = group 4 0x7 0x7;
+      votes = none ∷ vote 4 0x7 0x7 0x7 ∷ vote 4 0x7 0x7 0x7 ∷ [];
+      expected = Out Outvoted;
+    }
+    -- One vote of three is no quorum, and node 0 "did not vote": it adds none of its own.
+    ∷ record {
+      example = 24;
+      config = quietly 3;
+      node = 0;
+      held = group 4 0x7 0x7;
+      votes = none ∷ vote 4 0x7 0x7 0x7 ∷ none ∷ [];
+      expected = member 4 0x7 0x7;
     }
     ∷ []

@@ -1,4 +1,4 @@
--- Every state that the rules give is well formed, whether the premise is met or not. Assumes nothing.
+-- Every state that the rules give is well formed, in both modes, whether the premise is met or not. Assumes nothing.
 use mathlib.Core.Path.{_≡_, refl, sym, ap, _∙_, subst}
 use mathlib.Core.Logic.{_⊎_, inl, inr}
 use mathlib.Core.Bool.{Bool, true, false, not, _&&_, _||_, cond, true≢false}
@@ -22,15 +22,15 @@ use Rattle.state.specs.State.{groupOf, formedSets, formedState, foundingGroup, 
 use Rattle.rules.specs.declared.Vote.{Vote}
 use Rattle.rules.specs.declared.Faults.{Faults}
 use Rattle.rules.specs.declared.Config.{Config}
-use Rattle.rules.specs.OneCycle.{Ballots, stopped, stopAndStart, sendsMember, sendsJoin, viewOf, is, voters, wins, newSet, groupWith, newGroup, memberOn, withOwn, rival, memberDecides, fits, enterOn, joinerDecides}
-use Rattle.rules.specs.Faults.{Row, at, tabulate, founding, voteReaches, heard, ownVote, voteOf, votes, arriveIf, arrivedAt, decides, decisions, ruleOne, cycle}
+use Rattle.rules.specs.OneCycle.{Ballots, stopped, stopAndStart, sendsMember, sendsJoin, asks, viewOf, is, voters, wins, newSet, groupWith, newGroup, requestWith, requestAfter, memberOn, withOwn, without, rival, memberDecides, rests, silentDecides, fits, entersWith, enterOn, joinerDecides}
+use Rattle.rules.specs.Faults.{Row, at, tabulate, founding, voteReaches, heard, ownVote, votesNow, voteOf, votes, arriveIf, arrivedAt, decides, decisions, ruleOne, cycle}
 use Rattle.rules.specs.Reference.{Cluster, step, after}
 use Rattle.rules.proofs.Rows.{get-tabulate, length-tabulate}
 use Rattle.rules.proofs.Votes.{has-view, in-voters, base-is, new-inside, new-in}
-use Rattle.rules.proofs.States.{none-some, some-inj, which, idle, own-group, vote-group, vote-decides, member-votes, idle-decides}
+use Rattle.rules.proofs.States.{none-some, some-inj}
 
-abbrev pub FormedRow : ℕ → Row → Type 0
-FormedRow n row = (q : ℕ) → q < n → formedState q n (at row q) ≡ true
+abbrev pub FormedRow : Config → Row → Type 0
+FormedRow C row = (q : ℕ) → q < C .nodes → formedState (C .quiet) q (C .nodes) (at row q) ≡ true
 
 -- ---- the test of a state, as laws of the group that it holds
 
@@ -61,9 +61,18 @@ record Sound (n q : ℕ) (g : Group) : Type 0 where
 abbrev SoundState : ℕ → ℕ → State → Type 0
 SoundState n q s = (g : Group) → groupOf s ≡ some g → Sound n q g
 
-sound-group : (n q : ℕ) (g : Group) → formedState q n (Member g) ≡ true → Sound n q g
+-- it requests in a quiet press alone
+abbrev Allowed : Bool → State → Type 0
+Allowed quiet s = (quiet || not (asks s)) ≡ true
+
+allowed-none : (quiet : Bool) → (quiet || not false) ≡ true
+allowed-none true = refl
+allowed-none false = refl
+
+sound-group : (quiet : Bool) (n q : ℕ) (g : Group) (a : Bool) → formedState quiet q n (Member g a) ≡ true → Sound n q g
 unfolding formedSets
-sound-group n q g e =
+sound-group quiet n q g a f =
+    let e = and-r (quiet || not a) (ltb (g .number) (2 ^ 32) && formedSets q n (g .set) (g .base)) f in
     let sets = and-r (ltb (g .number) (2 ^ 32)) (formedSets q n (g .set) (g .base)) e in
     let both = and-l (has q (g .set) && subset (g .set) (g .base)) (eqb (below n (g .base)) (g .base)) sets in
     record {
@@ -73,23 +82,33 @@ sound-group n q g e =
       bound = bound-of n (g .base) (eqb-true (and-r (has q (g .set) && subset (g .set) (g .base)) (eqb (below n (g .base)) (g .base)) sets));
     }
 
-formed-group : (n q : ℕ) (g : Group) → Sound n q g → formedState q n (Member g) ≡ true
+formed-group : (quiet : Bool) (n q : ℕ) (g : Group) (a : Bool) → Sound n q g → Allowed quiet (Member g a) → formedState quiet q n (Member g a) ≡ true
 unfolding formedSets
-formed-group n q g s =
-    and-i (ltb (g .number) (2 ^ 32)) (formedSets q n (g .set) (g .base)) (ltb-true (s .number))
+formed-group quiet n q g a s w =
+    and-i (quiet || not a) (ltb (g .number) (2 ^ 32) && formedSets q n (g .set) (g .base)) w
+    (and-i (ltb (g .number) (2 ^ 32)) (formedSets q n (g .set) (g .base)) (ltb-true (s .number))
     (and-i (has q (g .set) && subset (g .set) (g .base)) (eqb (below n (g .base)) (g .base))
     (and-i (has q (g .set)) (subset (g .set) (g .base)) (s .self) (subset-of (g .set) (g .base) (s .inside)))
-    (ap (λ (x : ℕ). eqb x (g .base)) (below-of n (g .base) (s .bound)) ∙ eqb-self (g .base)))
+    (ap (λ (x : ℕ). eqb x (g .base)) (below-of n (g .base) (s .bound)) ∙ eqb-self (g .base))))
 
-sound-state : (n q : ℕ) (s : State) → formedState q n s ≡ true → SoundState n q s
-sound-state n q (Out r) f g e = absurd (none-some e)
-sound-state n q Joining f g e = absurd (none-some e)
-sound-state n q (Member h) f g e = subst (λ (x : Group). Sound n q x) (some-inj e) (sound-group n q h f)
+formed-state : (quiet : Bool) (n q : ℕ) (s : State) → SoundState n q s → Allowed quiet s → formedState quiet q n s ≡ true
+formed-state quiet n q (Out r) f w = refl
+formed-state quiet n q Joining f w = refl
+formed-state quiet n q (Member g a) f w = formed-group quiet n q g a (f g refl) w
 
-formed-state : (n q : ℕ) (s : State) → SoundState n q s → formedState q n s ≡ true
-formed-state n q (Out r) f = refl
-formed-state n q Joining f = refl
-formed-state n q (Member g) f = formed-group n q g (f g refl)
+-- ---- the beginning
+
+pub founding-formed : (C : Config) (G F : ℕ) → G < 2 ^ 32 → below (C .nodes) F ≡ F → FormedRow C (founding (C .nodes) G F)
+unfolding founding
+founding-formed C G F l b q k = ap (formedState (C .quiet) q n) (get-tabulate n q (initial G F) stopped k) ∙ go (has q F) refl
+  where
+    n : ℕ
+    n = C .nodes
+
+    go : (t : Bool) → has q F ≡ t → formedState (C .quiet) q n (cond t (Member (foundingGroup G F) false) (Out Stopped)) ≡ true
+    go true h =
+        formed-group (C .quiet) n q (foundingGroup G F) false (record { number = l; self = h; inside = λ x e. e; bound = bound-of n F b }) (allowed-none (C .quiet))
+    go false h = refl
 
 -- ---- the group that a vote gives
 
@@ -175,6 +194,17 @@ member-sound C q own arrived l w f g e = go (wins n b own) (any n (λ p. rival n
     go false true e = absurd (none-some e)
     go false false e = absurd (none-some e)
 
+rests-sound : (n q : ℕ) (g : Group) → Sound n q g → Sound n q (rests g)
+rests-sound n q g s = record { number = s .number; self = s .self; inside = λ x h. h; bound = λ x h. s .bound x (s .inside x h) }
+
+silent-sound : (C : Config) (q : ℕ) (g : Group) (arrived : Ballots) → Sound (C .nodes) q g → SoundState (C .nodes) q (silentDecides C q g arrived)
+unfolding silentDecides
+silent-sound C q g arrived s h e = go (any (C .nodes) (λ p. rival (C .nodes) (without q arrived) g (without q arrived p))) e
+  where
+    go : (beaten : Bool) → groupOf (cond beaten (Out Outvoted) (Member (rests g) false)) ≡ some h → Sound (C .nodes) q h
+    go true e = absurd (none-some e)
+    go false e = subst (λ (x : Group). Sound (C .nodes) q x) (some-inj e) (rests-sound (C .nodes) q g s)
+
 joiner-sound : (C : Config) (q : ℕ) (b : Ballots) → ((p : ℕ) (v : Vote) → b p ≡ some v → Fair (C .nodes) v) → SoundState (C .nodes) q (joinerDecides C q b)
 unfolding joinerDecides
 joiner-sound C q b fair g e = go (lowest n (λ p. fits n q b (b p))) (b (lowest n (λ p. fits n q b (b p)))) refl e
@@ -187,7 +217,7 @@ joiner-sound C q b fair g e = go (lowest n (λ p. fits n q b (b p))) (b (lowest 
     go p (some v) k e = turn (fits n q b (some v) && every n (λ x. not (fits n q b (b x)) || is v (b x))) refl e
       where
         turn : (t : Bool) → (fits n q b (some v) && every n (λ x. not (fits n q b (b x)) || is v (b x))) ≡ t
-            → groupOf (cond t (memberOn C b v) Joining) ≡ some g → Sound n q g
+            → groupOf (cond t (entersWith C b v) Joining) ≡ some g → Sound n q g
         turn true f e =
             let fit = and-l (fits n q b (some v)) (every n (λ x. not (fits n q b (b x)) || is v (b x))) f in
             let new = and-l (has q (v .view) && not (has q (v .group .set))) (wins n b v) fit in
@@ -196,16 +226,71 @@ joiner-sound C q b fair g e = go (lowest n (λ p. fits n q b (b p))) (b (lowest 
             subst (λ (x : Group). Sound n q x) (some-inj e) (new-sound n q b v (fair p v k) (entered-number n q b v enters outside) enters)
         turn false f e = absurd (none-some e)
 
--- one node alone, from whatever votes of nodes that there are arrived
-pub member-formed : (C : Config) (q h0 h1 : ℕ) (g : Group) (arrived : Ballots) → q < C .nodes → formedState q (C .nodes) (Member g) ≡ true
-    → formedState q (C .nodes) (memberDecides C q (record { group = g; view = viewOf (C .nodes) q (g .set) h0 h1 }) arrived) ≡ true
-member-formed C q h0 h1 g arrived l f =
-    let own : Vote = record { group = g; view = viewOf (C .nodes) q (g .set) h0 h1 } in
-    let s = sound-group (C .nodes) q g f in
-    formed-state (C .nodes) q (memberDecides C q own arrived) (member-sound C q own arrived l s (own-fair (C .nodes) q h0 h1 g l s))
+-- ---- who requests: whatever arrived, nobody in a press that votes in every cycle
 
-pub joiner-formed : (C : Config) (q : ℕ) (b : Ballots) → ((p : ℕ) (v : Vote) → b p ≡ some v → Fair (C .nodes) v) → formedState q (C .nodes) (joinerDecides C q b) ≡ true
-joiner-formed C q b fair = formed-state (C .nodes) q (joinerDecides C q b) (joiner-sound C q b fair)
+member-allowed : (C : Config) (q : ℕ) (own : Vote) (arrived : Ballots) → Allowed (C .quiet) (memberDecides C q own arrived)
+unfolding memberDecides requestAfter requestWith
+member-allowed C q own arrived = go (wins n b own) (any n (λ p. rival n b (own .group) (b p)))
+  where
+    n : ℕ
+    n = C .nodes
+
+    b : Ballots
+    b = withOwn q own arrived
+
+    if-quiet : (quiet x : Bool) → (quiet || not (quiet && x)) ≡ true
+    if-quiet true x = refl
+    if-quiet false x = refl
+
+    go : (won beaten : Bool) → Allowed (C .quiet) (cond won (memberOn C b own) (cond beaten (Out Outvoted) (Out NoQuorum)))
+    go true beaten = if-quiet (C .quiet) (not (eqb (own .view) (own .group .set)) || not (eqb (newSet n b own) (own .group .set)))
+    go false true = allowed-none (C .quiet)
+    go false false = allowed-none (C .quiet)
+
+silent-allowed : (C : Config) (q : ℕ) (g : Group) (arrived : Ballots) → Allowed (C .quiet) (silentDecides C q g arrived)
+unfolding silentDecides
+silent-allowed C q g arrived = go (any (C .nodes) (λ p. rival (C .nodes) (without q arrived) g (without q arrived p)))
+  where
+    go : (beaten : Bool) → Allowed (C .quiet) (cond beaten (Out Outvoted) (Member (rests g) false))
+    go true = allowed-none (C .quiet)
+    go false = allowed-none (C .quiet)
+
+joiner-allowed : (C : Config) (q : ℕ) (b : Ballots) → Allowed (C .quiet) (joinerDecides C q b)
+unfolding joinerDecides
+joiner-allowed C q b = go (b (lowest n (λ p. fits n q b (b p))))
+  where
+    n : ℕ
+    n = C .nodes
+
+    if-quiet : (quiet : Bool) → (quiet || not quiet) ≡ true
+    if-quiet true = refl
+    if-quiet false = refl
+
+    go : (o : Option Vote) → Allowed (C .quiet) (enterOn C q b o)
+    go none = allowed-none (C .quiet)
+    go (some v) = turn (fits n q b (some v) && every n (λ x. not (fits n q b (b x)) || is v (b x)))
+      where
+        turn : (t : Bool) → Allowed (C .quiet) (cond t (entersWith C b v) Joining)
+        turn true = if-quiet (C .quiet)
+        turn false = allowed-none (C .quiet)
+
+-- ---- one node alone, from whatever votes of nodes that there are arrived
+
+pub member-formed : (C : Config) (q h0 h1 : ℕ) (g : Group) (a : Bool) (arrived : Ballots) → q < C .nodes → formedState (C .quiet) q (C .nodes) (Member g a) ≡ true
+    → formedState (C .quiet) q (C .nodes) (memberDecides C q (record { group = g; view = viewOf (C .nodes) q (g .set) h0 h1 }) arrived) ≡ true
+member-formed C q h0 h1 g a arrived l f =
+    let own : Vote = record { group = g; view = viewOf (C .nodes) q (g .set) h0 h1 } in
+    let s = sound-group (C .quiet) (C .nodes) q g a f in
+    formed-state (C .quiet) (C .nodes) q (memberDecides C q own arrived) (member-sound C q own arrived l s (own-fair (C .nodes) q h0 h1 g l s)) (member-allowed C q own arrived)
+
+pub silent-formed : (C : Config) (q : ℕ) (g : Group) (a : Bool) (arrived : Ballots) → formedState (C .quiet) q (C .nodes) (Member g a) ≡ true
+    → formedState (C .quiet) q (C .nodes) (silentDecides C q g arrived) ≡ true
+silent-formed C q g a arrived f =
+    formed-state (C .quiet) (C .nodes) q (silentDecides C q g arrived) (silent-sound C q g arrived (sound-group (C .quiet) (C .nodes) q g a f)) (silent-allowed C q g arrived)
+
+pub joiner-formed : (C : Config) (q : ℕ) (b : Ballots) → ((p : ℕ) (v : Vote) → b p ≡ some v → Fair (C .nodes) v)
+    → formedState (C .quiet) q (C .nodes) (joinerDecides C q b) ≡ true
+joiner-formed C q b fair = formed-state (C .quiet) (C .nodes) q (joinerDecides C q b) (joiner-sound C q b fair) (joiner-allowed C q b)
 
 -- ---- the whole cycle
 
@@ -216,7 +301,7 @@ read-tabulate P zero q f d o i = o
 read-tabulate P (suc n) zero f d o i = i 0 (omega arith)
 read-tabulate P (suc n) (suc q) f d o i = read-tabulate P n q (λ x. f (suc x)) d o (λ x l. i (suc x) (omega arith))
 
-module _ (C : Config) (c : Faults) (r : Row) (w : (q : ℕ) → q < C .nodes → SoundState (C .nodes) q (at r q)) where
+module _ (C : Config) (c : Faults) (r : Row) (w : FormedRow C r) where
   abbrev n : ℕ
   n = C .nodes
 
@@ -226,14 +311,18 @@ module _ (C : Config) (c : Faults) (r : Row) (w : (q : ℕ) → q < C .nodes →
   abbrev FairVote : Option Vote → Type 0
   FairVote o = (v : Vote) → o ≡ some v → Fair n v
 
-  own-vote-fair : (p : ℕ) (g : Group) → p < n → Sound n p g → Fair n (ownVote n c r p g)
-  unfolding ownVote
-  own-vote-fair p g l s = own-fair n p (heard n c r sendsMember p) (heard n c r sendsJoin p) g l s
-
   vote-fair : (p : ℕ) → p < n → FairVote (voteOf C c r p (at r p))
-  vote-fair p l v e =
-      let held = vote-group C c r p (at r p) v e in
-      subst (Fair n) (some-inj (sym (member-votes C c r p (at r p) (v .group) held) ∙ e)) (own-vote-fair p (v .group) l (w p l (v .group) held))
+  unfolding ownVote
+  vote-fair p l v e = go (at r p) (w p l) e
+    where
+      go : (s : State) → formedState (C .quiet) p n s ≡ true → voteOf C c r p s ≡ some v → Fair n v
+      go (Out z) f e = absurd (none-some e)
+      go Joining f e = absurd (none-some e)
+      go (Member g a) f e = turn (votesNow C c r p g a) e
+        where
+          turn : (t : Bool) → cond t (some (ownVote n c r p g)) none ≡ some v → Fair n v
+          turn true e = subst (Fair n) (some-inj e) (own-fair n p (heard n c r sendsMember p) (heard n c r sendsJoin p) g l (sound-group (C .quiet) n p g a f))
+          turn false e = absurd (none-some e)
 
   arrived-fair : (q p : ℕ) → FairVote (got q p)
   unfolding votes
@@ -245,58 +334,46 @@ module _ (C : Config) (c : Faults) (r : Row) (w : (q : ℕ) → q < C .nodes →
       go true o f = f
       go false o f = λ v e. absurd (none-some e)
 
-  decides-sound : (q : ℕ) → q < n → SoundState n q (decides C c r q (at r q) (got q))
-  decides-sound q l h e = go (which (at r q))
+  decides-formed : (q : ℕ) → q < n → formedState (C .quiet) q n (decides C c r q (at r q) (got q)) ≡ true
+  unfolding ownVote
+  decides-formed q l = go (at r q) (w q l)
     where
-      go : (idle (at r q) ≡ true) ⊎ ((at r q ≡ Joining) ⊎ ((g : Group) × (groupOf (at r q) ≡ some g))) → Sound n q h
-      go (inl i) = absurd (none-some (sym (idle-decides C c r q (at r q) (got q) i) ∙ e))
-      go (inr (inl j)) =
-          joiner-sound C q (got q) (arrived-fair q) h (sym (ap (λ (s : State). groupOf (decides C c r q s (got q))) j) ∙ e)
-      go (inr (inr m)) =
-          let g = m .0 in
-          let s = w q l g (m .1) in
-          member-sound C q (ownVote n c r q g) (got q) l (subst (λ (x : Group). Sound n q x) (own-group n c r q g) s) (own-vote-fair q g l s) h
-          (sym (ap groupOf (vote-decides C c r q (at r q) (ownVote n c r q g) (got q) (member-votes C c r q (at r q) g (m .1)))) ∙ e)
+      go : (s : State) → formedState (C .quiet) q n s ≡ true → formedState (C .quiet) q n (decides C c r q s (got q)) ≡ true
+      go (Out z) f = refl
+      go Joining f = joiner-formed C q (got q) (arrived-fair q)
+      go (Member g a) f = turn (votesNow C c r q g a)
+        where
+          turn : (t : Bool) → formedState (C .quiet) q n (cond t (memberDecides C q (ownVote n c r q g) (got q)) (silentDecides C q g (got q))) ≡ true
+          turn true = member-formed C q (heard n c r sendsMember q) (heard n c r sendsJoin q) g a (got q) l f
+          turn false = silent-formed C q g a (got q) f
 
-  decisions-formed : FormedRow n (decisions C c r (votes C c r))
+  decisions-formed : FormedRow C (decisions C c r (votes C c r))
   unfolding decisions
-  decisions-formed q l =
-      ap (formedState q n) (get-tabulate n q (λ x. decides C c r x (at r x) (got x)) stopped l)
-      ∙ formed-state n q (decides C c r q (at r q) (got q)) (decides-sound q l)
+  decisions-formed q l = ap (formedState (C .quiet) q n) (get-tabulate n q (λ x. decides C c r x (at r x) (got x)) stopped l) ∙ decides-formed q l
 
 -- rule 1 keeps what is well formed
-pub stop-start-formed : (stop start : Bool) (n q : ℕ) (s : State) → formedState q n s ≡ true → formedState q n (stopAndStart stop start s) ≡ true
+pub stop-start-formed : (stop start quiet : Bool) (n q : ℕ) (s : State) → formedState quiet q n s ≡ true → formedState quiet q n (stopAndStart stop start s) ≡ true
 unfolding stopAndStart
-stop-start-formed true true n q s e = refl
-stop-start-formed true false n q s e = refl
-stop-start-formed false true n q (Out r) e = refl
-stop-start-formed false true n q Joining e = refl
-stop-start-formed false true n q (Member g) e = e
-stop-start-formed false false n q s e = e
+stop-start-formed true true quiet n q s e = refl
+stop-start-formed true false quiet n q s e = refl
+stop-start-formed false true quiet n q (Out r) e = refl
+stop-start-formed false true quiet n q Joining e = refl
+stop-start-formed false true quiet n q (Member g a) e = e
+stop-start-formed false false quiet n q s e = e
 
-pub rule-one-formed : (n : ℕ) (c : Faults) (row : Row) → FormedRow n row → FormedRow n (ruleOne n c row)
+pub rule-one-formed : (C : Config) (c : Faults) (row : Row) → FormedRow C row → FormedRow C (ruleOne (C .nodes) c row)
 unfolding ruleOne
-rule-one-formed n c row w q l =
-    ap (formedState q n) (get-tabulate n q (λ x. stopAndStart (has x (c .stop)) (has x (c .start)) (at row x)) stopped l)
-    ∙ stop-start-formed (has q (c .stop)) (has q (c .start)) n q (at row q) (w q l)
+rule-one-formed C c row w q l =
+    ap (formedState (C .quiet) q (C .nodes)) (get-tabulate (C .nodes) q (λ x. stopAndStart (has x (c .stop)) (has x (c .start)) (at row x)) stopped l)
+    ∙ stop-start-formed (has q (c .stop)) (has q (c .start)) (C .quiet) (C .nodes) q (at row q) (w q l)
 
 -- ---- every row of a history
 
-pub cycle-formed : (C : Config) (c : Faults) (row : Row) → FormedRow (C .nodes) row → FormedRow (C .nodes) (cycle C c row)
+pub cycle-formed : (C : Config) (c : Faults) (row : Row) → FormedRow C row → FormedRow C (cycle C c row)
 unfolding cycle
-cycle-formed C c row w =
-    let n = C .nodes in
-    decisions-formed C c (ruleOne n c row) (λ q l. sound-state n q (at (ruleOne n c row) q) (rule-one-formed n c row w q l))
+cycle-formed C c row w = decisions-formed C c (ruleOne (C .nodes) c row) (rule-one-formed C c row w)
 
-pub founding-formed : (n G F : ℕ) → G < 2 ^ 32 → below n F ≡ F → FormedRow n (founding n G F)
-unfolding founding
-founding-formed n G F l b q k = ap (formedState q n) (get-tabulate n q (initial G F) stopped k) ∙ go (has q F) refl
-  where
-    go : (t : Bool) → has q F ≡ t → formedState q n (cond t (Member (foundingGroup G F)) (Out Stopped)) ≡ true
-    go true h = formed-group n q (foundingGroup G F) (record { number = l; self = h; inside = λ x e. e; bound = bound-of n F b })
-    go false h = refl
-
-pub after-formed : (C : Config) (k : Cluster) (cs : List Faults) → FormedRow (C .nodes) (k .row) → FormedRow (C .nodes) (after C k cs .row)
+pub after-formed : (C : Config) (k : Cluster) (cs : List Faults) → FormedRow C (k .row) → FormedRow C (after C k cs .row)
 unfolding after step
 after-formed C k [] w = w
 after-formed C k (c ∷ cs) w = after-formed C (step C k c) cs (cycle-formed C c (k .row) w)

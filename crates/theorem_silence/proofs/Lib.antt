@@ -1,0 +1,3 @@
+pub mod Silence
+pub mod There
+pub mod Based

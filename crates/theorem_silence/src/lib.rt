@@ -1,0 +1,1 @@
+// A quiet press that is left alone sends no vote; no code.
