@@ -10,16 +10,16 @@ use Rattle.sets.specs.Quorum.{quorum}
 use Rattle.sets.proofs.Booleans.{eqb-self, eqb-true, ltb-lt, both, and-l, and-r, or-f-l, or-f-r}
 use Rattle.sets.proofs.Membership.{has-union, has-inter, has-diff, has-none, set-ext}
 use Rattle.sets.proofs.Nodes.{has-those, those-in, of-those, has-below, lowest-in, lowest-least}
-use Rattle.state.specs.declared.Reason.the-variants.{Stopped, NoQuorum, Outvoted}
+use Rattle.state.specs.declared.Reason.the-variants.{NoQuorum, Outvoted}
 use Rattle.state.specs.declared.Group.{Group}
 use Rattle.state.specs.declared.State.{State}
-use Rattle.state.specs.declared.State.the-variants.{Out, Joining, Member}
+use Rattle.state.specs.declared.State.the-variants.{Out, Member}
 use Rattle.state.specs.State.{groupOf, halted}
 use Rattle.rules.specs.declared.Faults.{Faults}
 use Rattle.rules.specs.declared.Vote.{Vote}
 use Rattle.rules.specs.declared.Config.{Config}
-use Rattle.rules.specs.OneCycle.{Ballots, stopped, sendsMember, sendsJoin, wins, newGroup, withOwn, rival, memberDecides}
-use Rattle.rules.specs.Faults.{Row, at, heartbeatsMissed, votesMissed, missesOther, disturbed, ruleOne, ownVote, votes, arrivedAt, decides, decisions, cycle}
+use Rattle.rules.specs.OneCycle.{Ballots, stopped, sendsMember, sendsJoin, wins, memberOn, withOwn, without, rival, memberDecides, rests, silentDecides}
+use Rattle.rules.specs.Faults.{Row, at, heartbeatsMissed, votesMissed, missesOther, disturbed, ruleOne, ownVote, votesNow, votes, arrivedAt, decides, decisions, cycle}
 use Rattle.rules.specs.Reference.{Cluster, steady, keepsWith, keeps, referenceAfter, step, haltedIn, enteredIn}
 use Rattle.rules.proofs.Rows.{get-tabulate}
 use Rattle.rules.proofs.Counting.{quorum-node}
@@ -27,7 +27,7 @@ use Rattle.cluster_states.specs.declared.Roles.{Roles}
 use Rattle.cluster_states.specs.declared.States.{States}
 use Rattle.cluster_states.specs.States.{rolesOf, groupAt, stateAt, rowOf}
 use Rattle.cluster_states.specs.Decided.{rolesAfter}
-use Rattle.cluster_states.proofs.Whole.{member-role, members-high, joining-high, sends-member, sends-join}
+use Rattle.cluster_states.proofs.Whole.{byRole, no-member, member-role, members-high, joining-high, sends-member, sends-join}
 use Rattle.cluster_watched.specs.declared.Watch.{Watch}
 use Rattle.cluster_watched.specs.Watched.{referenceOf, clusterOf, missesAt}
 
@@ -104,12 +104,9 @@ lowest-more n k q p l h e =
     omega arith
 
 -- the group that a state holds, by its role
-group-role : (m j u v : Bool) (g : Group) → groupOf (cond m (Member g) (cond j Joining (cond u (Out NoQuorum) (cond v (Out Outvoted) (Out Stopped))))) ≡ cond m (some g) none
-group-role true j u v g = refl
-group-role false true u v g = refl
-group-role false false true v g = refl
-group-role false false false true g = refl
-group-role false false false false g = refl
+group-role : (m j u v : Bool) (g : Group) (a : Bool) → groupOf (byRole m j u v g a) ≡ cond m (some g) none
+group-role true j u v g a = refl
+group-role false j u v g a = no-member groupOf none refl (λ r. refl) j u v g a
 
 module _ (C : Config) (s : States) (w : Watch) (f : Faults) where
   abbrev n : ℕ
@@ -161,7 +158,7 @@ module _ (C : Config) (s : States) (w : Watch) (f : Faults) where
       unfolding rowOf stateAt
       held q h =
           ap (λ (r : Row). groupOf (at r q)) (sym same) ∙ ap groupOf (get-tabulate n q (stateAt next) stopped h)
-          ∙ group-role (has q (next .members)) (has q (next .joining)) (has q (next .«no_quorum»)) (has q (next .outvoted)) (groupAt next q)
+          ∙ group-role (has q (next .members)) (has q (next .joining)) (has q (next .«no_quorum»)) (has q (next .outvoted)) (groupAt next q) (has q (next .asking))
 
       reference-is : cond defined (some (groupAt next first)) none ≡ referenceAfter C watched f (cycle C f (rowOf n s)) (referenceOf w)
       unfolding steady
@@ -193,21 +190,30 @@ module _ (C : Config) (s : States) (w : Watch) (f : Faults) where
 -- ---- who halted and entered
 
 -- a member that is none after the cycle has halted
-member-halts : (C : Config) (q : ℕ) (own : Vote) (arrived : Ballots) → halted (memberDecides C q own arrived) ≡ not (sendsMember (memberDecides C q own arrived))
+abbrev HaltsOrStays : State → Type 0
+HaltsOrStays s = halted s ≡ not (sendsMember s)
+
+either : (x : Bool) (s t : State) → HaltsOrStays s → HaltsOrStays t → HaltsOrStays (cond x s t)
+either true s t hs ht = hs
+either false s t hs ht = ht
+
+member-halts : (C : Config) (q : ℕ) (own : Vote) (arrived : Ballots) → HaltsOrStays (memberDecides C q own arrived)
 unfolding memberDecides
 member-halts C q own arrived =
     let b : Ballots = withOwn q own arrived in
-    go (wins (C .nodes) b own) (any (C .nodes) (λ p. rival (C .nodes) b (own .group) (b p))) (newGroup (C .nodes) b own)
-  where
-    go : (x y : Bool) (g : Group) → halted (cond x (Member g) (cond y (Out Outvoted) (Out NoQuorum))) ≡ not (sendsMember (cond x (Member g) (cond y (Out Outvoted) (Out NoQuorum))))
-    go true y g = refl
-    go false true g = refl
-    go false false g = refl
+    either (wins (C .nodes) b own) (memberOn C b own) _ refl (either (any (C .nodes) (λ p. rival (C .nodes) b (own .group) (b p))) (Out Outvoted) (Out NoQuorum) refl refl)
+
+silent-halts : (C : Config) (q : ℕ) (g : Group) (arrived : Ballots) → HaltsOrStays (silentDecides C q g arrived)
+unfolding silentDecides
+silent-halts C q g arrived =
+    let b : Ballots = without q arrived in
+    either (any (C .nodes) (λ p. rival (C .nodes) b g (b p))) (Out Outvoted) (Member (rests g) false) refl refl
 
 stays-or-halts : (C : Config) (c : Faults) (r : Row) (q : ℕ) (s : State) (b : Ballots) → (sendsMember s && halted (decides C c r q s b)) ≡ (sendsMember s && not (sendsMember (decides C c r q s b)))
 stays-or-halts C c r q (Out k) b = refl
 stays-or-halts C c r q Joining b = refl
-stays-or-halts C c r q (Member g) b = member-halts C q (ownVote (C .nodes) c r q g) b
+stays-or-halts C c r q (Member g a) b =
+    either (votesNow C c r q g a) (memberDecides C q (ownVote (C .nodes) c r q g) b) (silentDecides C q g b) (member-halts C q (ownVote (C .nodes) c r q g) b) (silent-halts C q g b)
 
 module _ (C : Config) (s : States) (f : Faults) (before : Roles) (next : States) (ruled : before ≡ rolesAfter (C .nodes) (rolesOf s) (f .stop) (f .start))
     (same : rowOf (C .nodes) next ≡ cycle C f (rowOf (C .nodes) s)) where
@@ -215,7 +221,7 @@ module _ (C : Config) (s : States) (f : Faults) (before : Roles) (next : States)
   unfolding rowOf stateAt
   member-next q h =
       ap (λ (r : Row). sendsMember (at r q)) (sym same) ∙ ap sendsMember (get-tabulate (C .nodes) q (stateAt next) stopped h)
-      ∙ member-role (has q (next .members)) (has q (next .joining)) (has q (next .«no_quorum»)) (has q (next .outvoted)) (groupAt next q)
+      ∙ member-role (has q (next .members)) (has q (next .joining)) (has q (next .«no_quorum»)) (has q (next .outvoted)) (groupAt next q) (has q (next .asking))
 
   gone : (q : ℕ) → q < C .nodes → (sendsMember (at (ruleOne (C .nodes) f (rowOf (C .nodes) s)) q) && halted (at (cycle C f (rowOf (C .nodes) s)) q)) ≡ (sendsMember (at (ruleOne (C .nodes) f (rowOf (C .nodes) s)) q) && not (sendsMember (at (cycle C f (rowOf (C .nodes) s)) q)))
   unfolding cycle decisions

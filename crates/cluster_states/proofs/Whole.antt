@@ -63,7 +63,7 @@ rule-roles stop start m j u v g a = go stop
     go false = rw (and-yes m, and-yes j, and-yes u, and-yes v) (runs start m j u v)
 
 -- who sends what, what each votes and decides, by roles
-no-member {ℓ} : {A : Type ℓ} (f : State → A) (x : A) → f Joining ≡ x → ((r : Reason) → f (Out r) ≡ x) → (j u v : Bool) (g : Group) (a : Bool) → f (byRole false j u v g a) ≡ x
+pub no-member {ℓ} : {A : Type ℓ} (f : State → A) (x : A) → f Joining ≡ x → ((r : Reason) → f (Out r) ≡ x) → (j u v : Bool) (g : Group) (a : Bool) → f (byRole false j u v g a) ≡ x
 no-member f x joining out true u v g a = joining
 no-member f x joining out false true v g a = out NoQuorum
 no-member f x joining out false false true g a = out Outvoted
