@@ -360,6 +360,14 @@ lent =
       cycles = clean ∷ clean ∷ [];
       expected = turn 0x3 (times 2 (member 1 0x3 0x3)) ∷ turn 0 (times 2 (member 1 0x3 0x3)) ∷ [];
     }
+    -- "Or it itself, requests": the heartbeat of node 0 is lost in sending. It heard node 1, and votes by its own request.
+    ∷ record {
+      example = 26;
+      config = quietly 2;
+      row = requesting 1 0x3 0x3 ∷ member 1 0x3 0x3 ∷ [];
+      cycles = faults 0 0 0x1 0 ∷ [];
+      expected = turn 0x3 (times 2 (Out NoQuorum)) ∷ [];
+    }
     ∷ []
 
 -- ---- a joining node
