@@ -18,7 +18,7 @@ use Rattle.state.specs.Image.{reasonOf}
 use Rattle.rules.specs.OneCycle.{stopAndStart, viewOf, sameGroup, sameVote, voters, wins, newSet, groupWith, newGroup, called, willVote, requestWith, requestAfter, memberDecides, silentDecides, joinerDecides}
 use Rattle.rules.specs.Faults.{tabulate, founding, reaches, disturbed, ruleOne, heard, ownVote, votesNow, votes, decisions, cycle}
 use Rattle.rules.specs.Reference.{beginning, steady, keeps, step, haltedIn, enteredIn}
-use Rattle.rules.specs.Examples.{Seen, Example, examples, watch, seen, Turn, Lent, lent, turns, turned, Join, joins, decided, Silent, silents, rested}
+use Rattle.rules.specs.Examples.{Seen, Example, examples, watch, seen, Turn, Lent, lent, turns, turned, Join, joins, decided, Given, given, ruled}
 use Rattle.rules.proofs.Failing.{both, equal-numbers, equal-lists, failing, all-hold}
 
 -- ---- that two things seen are equal, where they are
@@ -108,15 +108,15 @@ no-join-fails failed e = omega arith
 pub joins-hold : map decided joins ≡ map decision joins
 joins-hold = all-hold Join State joins-number decided decision equal-states joins (no-join-fails _ refl)
 
-abbrev silents-number : Silent → ℕ
-silents-number s = s .example
+abbrev given-number : Given → ℕ
+given-number g = g .example
 
-abbrev rest-due : Silent → State
-rest-due s = s .expected
+abbrev state-due : Given → State
+state-due g = g .expected
 
-no-silent-fails : (failed : ℕ) → failed ≡ failing Silent State silents-number rested rest-due equal-states silents → failed ≡ 0
-unfolding ones has those size any quorum sameGroup sameVote voters wins silentDecides rested
-no-silent-fails failed e = omega arith
+no-given-fails : (failed : ℕ) → failed ≡ failing Given State given-number ruled state-due equal-states given → failed ≡ 0
+unfolding ones has _∪_ _∖_ those size any quorum nextNumber sameGroup sameVote voters wins newSet groupWith newGroup requestWith requestAfter memberDecides silentDecides ruled
+no-given-fails failed e = omega arith
 
-pub silents-hold : map rested silents ≡ map rest-due silents
-silents-hold = all-hold Silent State silents-number rested rest-due equal-states silents (no-silent-fails _ refl)
+pub given-hold : map ruled given ≡ map state-due given
+given-hold = all-hold Given State given-number ruled state-due equal-states given (no-given-fails _ refl)

@@ -1,5 +1,5 @@
 -- Paper 01, "Proved examples": P1 to P10 in one table, with the mistakes that P1 to P10 do not show, and request 3 in quiet presses; all that is printed of
--- every cycle, and every state after it. Then quiet cycles from given states, and what a joining node, and a member that did not vote, make of given votes.
+-- every cycle, and every state after it. Then quiet cycles from given states, and what a joining node and a member make of given votes.
 -- Assumes nothing.
 use mathlib.Core.Bool.{Bool, true, false, cond}
 use mathlib.Core.List.{List, [], _∷_, _++_}
@@ -15,7 +15,7 @@ use Rattle.state.specs.declared.State.the-variants.{Out, Joining, Member}
 use Rattle.rules.specs.declared.Vote.{Vote}
 use Rattle.rules.specs.declared.Faults.{Faults}
 use Rattle.rules.specs.declared.Config.{Config}
-use Rattle.rules.specs.OneCycle.{ofNodes, quietly, silentDecides, joinerDecides}
+use Rattle.rules.specs.OneCycle.{ofNodes, quietly, Ballots, memberDecides, silentDecides, joinerDecides}
 use Rattle.rules.specs.Faults.{Row, tabulate, ruleOne, votes, cycle}
 use Rattle.rules.specs.Reference.{Cluster, beginning, keeps, step, haltedIn, enteredIn}
 
@@ -360,6 +360,14 @@ lent =
       cycles = clean ∷ clean ∷ [];
       expected = turn 0x3 (times 2 (member 1 0x3 0x3)) ∷ turn 0 (times 2 (member 1 0x3 0x3)) ∷ [];
     }
+    -- "Or it itself, requests": the heartbeat of node 0 is lost in sending. It heard node 1, and votes by its own request.
+    ∷ record {
+      example = 26;
+      config = quietly 2;
+      row = requesting 1 0x3 0x3 ∷ member 1 0x3 0x3 ∷ [];
+      cycles = faults 0 0 0x1 0 ∷ [];
+      expected = turn 0x3 (times 2 (Out NoQuorum)) ∷ [];
+    }
     ∷ []
 
 -- ---- a joining node
@@ -398,38 +406,39 @@ joins =
     }
     ∷ []
 
--- ---- a member that did not vote
+-- ---- a member alone
 
--- the example's own number; N nodes, the member and the group that it holds, the votes that arrived, by sender, and what it decides
-pub record Silent : Type 0 where
+-- the example's own number; what a member makes of votes, the votes that arrived, by sender, and what it decides
+pub record Given : Type 0 where
   pub example : ℕ
-  pub config : Config
-  pub node : ℕ
-  pub held : Group
+  pub rule : Ballots → State
   pub votes : List (Option Vote)
   pub expected : State
 
-unfoldable pub rested : Silent → State
-rested s = silentDecides (s .config) (s .node) (s .held) (λ p. getD (s .votes) p none)
+unfoldable pub ruled : Given → State
+ruled g = g .rule (λ p. getD (g .votes) p none)
 
-abbrev pub silents : List Silent
-silents =
+abbrev pub given : List Given
+given =
     -- "If it heard a quorum of equal votes with its own G, M and B": also where their V is its own.
     record {
       example = 23;
-      config = quietly 3;
-      node = 0;
-      held = group 4 0x7 0x7;
+      rule = silentDecides (quietly 3) 0 (group 4 0x7 0x7);
       votes = none ∷ vote 4 0x7 0x7 0x7 ∷ vote 4 0x7 0x7 0x7 ∷ [];
       expected = Out Outvoted;
     }
     -- One vote of three is no quorum, and node 0 "did not vote": it adds none of its own.
     ∷ record {
       example = 24;
-      config = quietly 3;
-      node = 0;
-      held = group 4 0x7 0x7;
+      rule = silentDecides (quietly 3) 0 (group 4 0x7 0x7);
       votes = none ∷ vote 4 0x7 0x7 0x7 ∷ none ∷ [];
       expected = member 4 0x7 0x7;
+    }
+    -- "It requests in the cycle after one in which its V differed from M": also where its set did not change, by a vote of node 1 that does not hold node 1.
+    ∷ record {
+      example = 27;
+      rule = memberDecides (quietly 2) 0 (record { group = group 4 0x3 0x3; view = 0x1 });
+      votes = none ∷ vote 4 0x3 0x3 0x1 ∷ [];
+      expected = requesting 4 0x3 0x3;
     }
     ∷ []
