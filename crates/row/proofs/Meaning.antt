@@ -1,26 +1,30 @@
 -- What the walks give, said of the row itself; and rows of states against rows of node structs. Assumes nothing.
 use mathlib.Core.Path.{_≡_, refl, sym, ap, ap₂, subst, _∙_}
-use mathlib.Core.Bool.{Bool, true, false, _&&_, cond}
+use mathlib.Core.Bool.{Bool, true, false, not, _&&_, _||_, cond, false≢true}
 use mathlib.Core.List.{List, [], _∷_}
-use Prim.Native.Nat.{ℕ, zero, suc, _+_, _≤_, _<_}
+use Prim.Native.Nat.{ℕ, zero, suc, _+_, _^_, _≤_, _<_}
 use native.Mathlib.Nat.{add-zero, zero-add}
 use native.Mathlib.Numerals.{add-one}
 use native.Mathlib.Omega.{arith}
-use lib.Dec.{eqb}
+use lib.Dec.{eqb, ltb}
 use lib.ListN.{length, replicate, length-replicate}
+use Rattle.sets.specs.Sets.{has, single, _∪_}
+use Rattle.sets.proofs.Membership.{has-union, has-single, has-none}
 use Rattle.sets.proofs.Booleans.{eqb-self, eqb-true, ltb-true, and-l, and-r, and-i}
 use Rattle.state.specs.declared.State.{State}
+use Rattle.state.specs.declared.State.the-variants.{Out, Joining, Member}
 use Rattle.state.specs.declared.Node.{Node}
-use Rattle.state.specs.State.{formed}
-use Rattle.rules.specs.OneCycle.{stopped}
+use Rattle.state.specs.State.{formedSets, formedPlace, formedState, formed}
+use Rattle.rules.specs.OneCycle.{stopped, asks}
 use Rattle.rules.specs.Faults.{Row, at, tabulate}
+use Rattle.rules.proofs.Counting.{no}
 use Rattle.rules.proofs.Rows.{get-tabulate, length-tabulate, tabulate-ext}
 use Rattle.cluster_states.specs.declared.States.{States}
 use Rattle.cluster_states.specs.States.{rolesOf, stateAt, rowOf}
 use Rattle.cluster_states.proofs.Deciding.{Holds, holds-none, holds-next, holds-state}
 use Rattle.row.specs.declared.Gathered.{Gathered}
 use Rattle.row.specs.Row.{statesIn, nodesOf, inPlace, inOrder}
-use Rattle.row.specs.Gathered.{withNode, nothingOf, pushOf, gathered, nodeOf, each}
+use Rattle.row.specs.Gathered.{withNode, nothingOf, pushOf, gathered, ordered, nodeOf, each}
 use Rattle.row.proofs.Lists.{one-on}
 
 -- node q of n in state d
@@ -53,66 +57,62 @@ unfolding nodesOf
 states-nodes n row e = states-tabulate n (λ q. node n q (at row q)) ∙ ap (λ (k : ℕ). tabulate k (at row)) (sym e) ∙ entries row
 
 -- ---- entries in their places
-placed : (n q : ℕ) (x : Node) → inPlace n q x ≡ true → node n q (x .state) ≡ x
+placed : (quiet : Bool) (n q : ℕ) (x : Node) → inPlace quiet n q x ≡ true → node n q (x .state) ≡ x
 unfolding inPlace
-placed n q x e =
-    let id : x .id ≡ q = eqb-true (and-r (formed x) (eqb (x .id) q) (and-l (formed x && eqb (x .id) q) (eqb (x .nodes) n) e)) in
-    let nodes : x .nodes ≡ n = eqb-true (and-r (formed x && eqb (x .id) q) (eqb (x .nodes) n) e) in
+placed quiet n q x e =
+    let id : x .id ≡ q = eqb-true (and-r (formed quiet x) (eqb (x .id) q) (and-l (formed quiet x && eqb (x .id) q) (eqb (x .nodes) n) e)) in
+    let nodes : x .nodes ≡ n = eqb-true (and-r (formed quiet x && eqb (x .id) q) (eqb (x .nodes) n) e) in
     ap₂ (λ (i m : ℕ). node m i (x .state)) (sym id) (sym nodes)
 
-in-place : (n q : ℕ) (d : State) → formed (node n q d) ≡ true → inPlace n q (node n q d) ≡ true
+in-place : (quiet : Bool) (n q : ℕ) (d : State) → formed quiet (node n q d) ≡ true → inPlace quiet n q (node n q d) ≡ true
 unfolding inPlace
-in-place n q d e =
-    and-i (formed (node n q d) && eqb q q) (eqb n n) (and-i (formed (node n q d)) (eqb q q) e (eqb-self q)) (eqb-self n)
+in-place quiet n q d e =
+    and-i (formed quiet (node n q d) && eqb q q) (eqb n n) (and-i (formed quiet (node n q d)) (eqb q q) e (eqb-self q)) (eqb-self n)
 
-place-formed : (n q : ℕ) (x : Node) → inPlace n q x ≡ true → formed x ≡ true
+place-formed : (quiet : Bool) (n q : ℕ) (x : Node) → inPlace quiet n q x ≡ true → formed quiet x ≡ true
 unfolding inPlace
-place-formed n q x e = and-l (formed x) (eqb (x .id) q) (and-l (formed x && eqb (x .id) q) (eqb (x .nodes) n) e)
+place-formed quiet n q x e = and-l (formed quiet x) (eqb (x .id) q) (and-l (formed quiet x && eqb (x .id) q) (eqb (x .nodes) n) e)
 
-order-made : (n q k : ℕ) (f : ℕ → Node) → ((i : ℕ) → i < k → inPlace n (q + i) (f i) ≡ true) → inOrder n q (tabulate k f) ≡ true
+order-made : (quiet : Bool) (n q k : ℕ) (f : ℕ → Node) → ((i : ℕ) → i < k → inPlace quiet n (q + i) (f i) ≡ true) → inOrder quiet n q (tabulate k f) ≡ true
 unfolding inOrder tabulate
-order-made n q zero f h = refl
-order-made n q (suc k) f h =
-    and-i (inPlace n q (f 0)) (inOrder n (suc q) (tabulate k (λ i. f (suc i)))) (subst (λ (p : ℕ). inPlace n p (f 0) ≡ true) (add-zero q) (h 0 (omega arith)))
-    (order-made n (suc q) k (λ i. f (suc i)) (λ i l. subst (λ (p : ℕ). inPlace n p (f (suc i)) ≡ true) (one-on q i) (h (suc i) (up i l))))
+order-made quiet n q zero f h = refl
+order-made quiet n q (suc k) f h =
+    and-i (inPlace quiet n q (f 0)) (inOrder quiet n (suc q) (tabulate k (λ i. f (suc i)))) (subst (λ (p : ℕ). inPlace quiet n p (f 0) ≡ true) (add-zero q) (h 0 (omega arith)))
+    (order-made quiet n (suc q) k (λ i. f (suc i)) (λ i l. subst (λ (p : ℕ). inPlace quiet n p (f (suc i)) ≡ true) (one-on q i) (h (suc i) (up i l))))
   where
     up : (i : ℕ) → i < k → suc i < suc k
     up i l = omega arith
 
-order-at : (n q k : ℕ) (f : ℕ → Node) → inOrder n q (tabulate k f) ≡ true → (i : ℕ) → i < k → inPlace n (q + i) (f i) ≡ true
+order-at : (quiet : Bool) (n q k : ℕ) (f : ℕ → Node) → inOrder quiet n q (tabulate k f) ≡ true → (i : ℕ) → i < k → inPlace quiet n (q + i) (f i) ≡ true
 unfolding inOrder tabulate
-order-at n q zero f h i l = absurd (omega arith)
-order-at n q (suc k) f h zero l = subst (λ (p : ℕ). inPlace n p (f 0) ≡ true) (sym (add-zero q)) (and-l (inPlace n q (f 0)) (inOrder n (suc q) (tabulate k (λ i. f (suc i)))) h)
-order-at n q (suc k) f h (suc i) l =
-    subst (λ (p : ℕ). inPlace n p (f (suc i)) ≡ true) (sym (one-on q i))
-    (order-at n (suc q) k (λ j. f (suc j)) (and-r (inPlace n q (f 0)) (inOrder n (suc q) (tabulate k (λ j. f (suc j)))) h) i (omega arith))
+order-at quiet n q zero f h i l = absurd (omega arith)
+order-at quiet n q (suc k) f h zero l = subst (λ (p : ℕ). inPlace quiet n p (f 0) ≡ true) (sym (add-zero q)) (and-l (inPlace quiet n q (f 0)) (inOrder quiet n (suc q) (tabulate k (λ i. f (suc i)))) h)
+order-at quiet n q (suc k) f h (suc i) l =
+    subst (λ (p : ℕ). inPlace quiet n p (f (suc i)) ≡ true) (sym (one-on q i))
+    (order-at quiet n (suc q) k (λ j. f (suc j)) (and-r (inPlace quiet n q (f 0)) (inOrder quiet n (suc q) (tabulate k (λ j. f (suc j)))) h) i (omega arith))
 
-pub in-order : (n : ℕ) (row : Row) → ((q : ℕ) → q < n → formed (record { state = at row q; id = q; nodes = n }) ≡ true) → inOrder n 0 (nodesOf n row) ≡ true
+pub in-order : (quiet : Bool) (n : ℕ) (row : Row) → ((q : ℕ) → q < n → formed quiet (record { state = at row q; id = q; nodes = n }) ≡ true) → inOrder quiet n 0 (nodesOf n row) ≡ true
 unfolding nodesOf
-in-order n row h =
-    order-made n 0 n (λ q. node n q (at row q))
-    (λ q l. subst (λ (p : ℕ). inPlace n p (node n q (at row q)) ≡ true) (sym (zero-add q)) (in-place n q (at row q) (h q l)))
+in-order quiet n row h =
+    order-made quiet n 0 n (λ q. node n q (at row q))
+    (λ q l. subst (λ (p : ℕ). inPlace quiet n p (node n q (at row q)) ≡ true) (sym (zero-add q)) (in-place quiet n q (at row q) (h q l)))
 
-nodes-from : (n q : ℕ) (xs : List Node) → inOrder n q xs ≡ true → tabulate (length xs) (λ i. node n (q + i) (at (statesIn xs) i)) ≡ xs
+nodes-from : (quiet : Bool) (n q : ℕ) (xs : List Node) → inOrder quiet n q xs ≡ true → tabulate (length xs) (λ i. node n (q + i) (at (statesIn xs) i)) ≡ xs
 unfolding inOrder statesIn tabulate
-nodes-from n q [] h = refl
-nodes-from n q (x ∷ xs) h =
+nodes-from quiet n q [] h = refl
+nodes-from quiet n q (x ∷ xs) h =
     ap₂ (λ (y : Node) (ys : List Node). y ∷ ys)
-    (ap (λ (p : ℕ). node n p (x .state)) (add-zero q) ∙ placed n q x (and-l (inPlace n q x) (inOrder n (suc q) xs) h))
+    (ap (λ (p : ℕ). node n p (x .state)) (add-zero q) ∙ placed quiet n q x (and-l (inPlace quiet n q x) (inOrder quiet n (suc q) xs) h))
     (tabulate-ext (length xs) (λ i. node n (q + suc i) (at (statesIn xs) i)) (λ i. node n (suc q + i) (at (statesIn xs) i)) (λ i l. ap (λ (p : ℕ). node n p (at (statesIn xs) i)) (one-on q i))
-    ∙ nodes-from n (suc q) xs (and-r (inPlace n q x) (inOrder n (suc q) xs) h))
+    ∙ nodes-from quiet n (suc q) xs (and-r (inPlace quiet n q x) (inOrder quiet n (suc q) xs) h))
 
-pub nodes-states : (n : ℕ) (xs : List Node) → length xs ≡ n → inOrder n 0 xs ≡ true → nodesOf n (statesIn xs) ≡ xs
+pub nodes-states : (quiet : Bool) (n : ℕ) (xs : List Node) → length xs ≡ n → inOrder quiet n 0 xs ≡ true → nodesOf n (statesIn xs) ≡ xs
 unfolding nodesOf
-nodes-states n xs e h =
+nodes-states quiet n xs e h =
     tabulate-ext n (λ q. node n q (at (statesIn xs) q)) (λ q. node n (0 + q) (at (statesIn xs) q)) (λ q l. ap (λ (p : ℕ). node n p (at (statesIn xs) q)) (sym (zero-add q)))
-    ∙ ap (λ (k : ℕ). tabulate k (λ q. node n (0 + q) (at (statesIn xs) q))) (sym e) ∙ nodes-from n 0 xs h
+    ∙ ap (λ (k : ℕ). tabulate k (λ q. node n (0 + q) (at (statesIn xs) q))) (sym e) ∙ nodes-from quiet n 0 xs h
 
 -- ---- what is gathered
-pub push-in : (n : ℕ) (g : Gathered) (q : ℕ) (x : Node) → q < 64 → pushOf n g q x ≡ record { states = withNode (g .states) q (x .state); good = g .good && inPlace n q x }
-unfolding pushOf
-push-in n g q x l = ap (λ (b : Bool). cond b (record { states = withNode (g .states) q (x .state); good = g .good && inPlace n q x }) g) (ltb-true l)
-
 and-assoc : (a b c : Bool) → ((a && b) && c) ≡ (a && (b && c))
 and-assoc true b c = refl
 and-assoc false b c = refl
@@ -121,17 +121,92 @@ and-true : (a : Bool) → (a && true) ≡ a
 and-true true = refl
 and-true false = refl
 
-good-from : (n : ℕ) (g : Gathered) (q : ℕ) (xs : List Node) → q + length xs ≤ 64 → gathered n g q xs .good ≡ (g .good && inOrder n q xs)
-unfolding gathered inOrder
-good-from n g q [] l = sym (and-true (g .good))
-good-from n g q (x ∷ xs) l =
-    good-from n (pushOf n g q x) (suc q) xs (omega arith)
-    ∙ ap (λ (h : Gathered). h .good && inOrder n (suc q) xs) (push-in n g q x (omega arith))
-    ∙ and-assoc (g .good) (inPlace n q x) (inOrder n (suc q) xs)
+and-false : (a : Bool) → (a && false) ≡ false
+and-false true = refl
+and-false false = refl
 
-pub gathered-good : (n : ℕ) (xs : List Node) → length xs ≤ 64 → gathered n nothingOf 0 xs .good ≡ inOrder n 0 xs
+pub push-in : (n : ℕ) (g : Gathered) (q : ℕ) (x : Node) → q < 64 → pushOf n g q x ≡ record { states = withNode (g .states) q (x .state); good = g .good && inPlace true n q x }
+unfolding pushOf
+push-in n g q x l = ap (λ (b : Bool). cond b (record { states = withNode (g .states) q (x .state); good = g .good && inPlace true n q x }) g) (ltb-true l)
+
+-- what tells the modes apart is who asks: of a state, and of an entry
+state-mode : (id n : ℕ) (s : State) → formedState false id n s ≡ (formedState true id n s && not (asks s))
+state-mode id n (Out r) = refl
+state-mode id n Joining = refl
+state-mode id n (Member g a) = go a (ltb (g .number) (2 ^ 32) && formedSets id n (g .set) (g .base))
+  where
+    go : (a f : Bool) → ((false || not a) && f) ≡ (f && not a)
+    go true true = refl
+    go true false = refl
+    go false true = refl
+    go false false = refl
+
+place-mode : (n q : ℕ) (x : Node) → inPlace false n q x ≡ (inPlace true n q x && not (asks (x .state)))
+unfolding inPlace formed
+place-mode n q x =
+    ap (λ (b : Bool). (formedPlace (x .id) (x .nodes) && b) && eqb (x .id) q && eqb (x .nodes) n) (state-mode (x .id) (x .nodes) (x .state))
+    ∙ go (formedPlace (x .id) (x .nodes)) (formedState true (x .id) (x .nodes) (x .state)) (not (asks (x .state))) (eqb (x .id) q) (eqb (x .nodes) n)
+  where
+    go : (p f r i m : Bool) → ((p && (f && r)) && i && m) ≡ (((p && f) && i && m) && r)
+    go true true true true true = refl
+    go true true true true false = refl
+    go true true true false m = refl
+    go true true false true true = refl
+    go true true false true false = refl
+    go true true false false m = refl
+    go true false r i m = refl
+    go false f r i m = refl
+
+-- what is in order in one mode is so in a quiet press
+place-either : (quiet : Bool) (n q : ℕ) (x : Node) → inPlace quiet n q x ≡ true → inPlace true n q x ≡ true
+place-either true n q x e = e
+place-either false n q x e = and-l (inPlace true n q x) (not (asks (x .state))) (sym (place-mode n q x) ∙ e)
+
+pub order-either : (quiet : Bool) (n q : ℕ) (xs : List Node) → inOrder quiet n q xs ≡ true → inOrder true n q xs ≡ true
+unfolding inOrder
+order-either quiet n q [] e = refl
+order-either quiet n q (x ∷ xs) e =
+    and-i (inPlace true n q x) (inOrder true n (suc q) xs) (place-either quiet n q x (and-l (inPlace quiet n q x) (inOrder quiet n (suc q) xs) e))
+    (order-either quiet n (suc q) xs (and-r (inPlace quiet n q x) (inOrder quiet n (suc q) xs) e))
+
+-- one more that asks, or not
+ask-mode : (q m : ℕ) (a : Bool) → eqb (cond a (single q ∪ m) m) 0 ≡ (eqb m 0 && not a)
+ask-mode q m true = no (eqb (single q ∪ m) 0) (λ e. false≢true (sym (ap (has q) (eqb-true e) ∙ has-none q) ∙ has-union q (single q) m ∙ ap (λ (b : Bool). b || has q m) (has-single q q ∙ eqb-self q))) ∙ sym (and-false (eqb m 0))
+ask-mode q m false = sym (and-true (eqb m 0))
+
+push-ordered : (quiet : Bool) (n : ℕ) (g : Gathered) (q : ℕ) (x : Node) → q < 64 → ordered quiet (pushOf n g q x) ≡ (ordered quiet g && inPlace quiet n q x)
+unfolding withNode
+push-ordered quiet n g q x l = ap (ordered quiet) (push-in n g q x l) ∙ go quiet
+  where
+    shuffle : (g p a r : Bool) → ((g && p) && (a && r)) ≡ ((g && a) && (p && r))
+    shuffle true true true r = refl
+    shuffle true true false r = refl
+    shuffle true false true r = refl
+    shuffle true false false r = refl
+    shuffle false p a r = refl
+
+    go : (quiet : Bool) → ordered quiet (record { states = withNode (g .states) q (x .state); good = g .good && inPlace true n q x }) ≡ (ordered quiet g && inPlace quiet n q x)
+    go true = and-true (g .good && inPlace true n q x) ∙ ap (λ (b : Bool). b && inPlace true n q x) (sym (and-true (g .good)))
+    go false =
+        ap (λ (b : Bool). (g .good && inPlace true n q x) && b) (ask-mode q (g .states .asking) (asks (x .state)))
+        ∙ shuffle (g .good) (inPlace true n q x) (eqb (g .states .asking) 0) (not (asks (x .state)))
+        ∙ ap (λ (b : Bool). (g .good && eqb (g .states .asking) 0) && b) (sym (place-mode n q x))
+
+ordered-from : (quiet : Bool) (n : ℕ) (g : Gathered) (q : ℕ) (xs : List Node) → q + length xs ≤ 64 → ordered quiet (gathered n g q xs) ≡ (ordered quiet g && inOrder quiet n q xs)
+unfolding gathered inOrder
+ordered-from quiet n g q [] l = sym (and-true (ordered quiet g))
+ordered-from quiet n g q (x ∷ xs) l =
+    ordered-from quiet n (pushOf n g q x) (suc q) xs (omega arith)
+    ∙ ap (λ (b : Bool). b && inOrder quiet n (suc q) xs) (push-ordered quiet n g q x (omega arith))
+    ∙ and-assoc (ordered quiet g) (inPlace quiet n q x) (inOrder quiet n (suc q) xs)
+
+pub gathered-ordered : (quiet : Bool) (n : ℕ) (xs : List Node) → length xs ≤ 64 → ordered quiet (gathered n nothingOf 0 xs) ≡ inOrder quiet n 0 xs
 unfolding nothingOf
-gathered-good n xs l = good-from n nothingOf 0 xs (omega arith)
+gathered-ordered quiet n xs l = ordered-from quiet n nothingOf 0 xs (omega arith) ∙ first quiet
+  where
+    first : (quiet : Bool) → (ordered quiet nothingOf && inOrder quiet n 0 xs) ≡ inOrder quiet n 0 xs
+    first true = refl
+    first false = refl
 
 -- the states s hold those of the nodes below q
 abbrev Has : (ℕ → State) → ℕ → States → Type 0

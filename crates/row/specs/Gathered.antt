@@ -1,9 +1,9 @@
 -- What the walks over a row of node structs give.
 -- Assumes nothing.
-use mathlib.Core.Bool.{true, _&&_, cond}
+use mathlib.Core.Bool.{Bool, true, _&&_, _||_, cond}
 use mathlib.Core.List.{List, [], _∷_}
 use Prim.Native.Nat.{ℕ, suc}
-use lib.Dec.{ltb}
+use lib.Dec.{eqb, ltb}
 use lib.ListN.{set, replicate}
 use Rattle.state.specs.declared.State.{State}
 use Rattle.state.specs.declared.Node.{Node}
@@ -19,6 +19,7 @@ withNode s q d =
     let w = withState (rolesOf s) q d in
     record {
       members = w .members;
+      asking = w .asking;
       joining = w .joining;
       «no_quorum» = w .«no_quorum»;
       outvoted = w .outvoted;
@@ -34,6 +35,7 @@ nothingOf =
       states =
           record {
             members = 0;
+            asking = 0;
             joining = 0;
             «no_quorum» = 0;
             outvoted = 0;
@@ -44,14 +46,18 @@ nothingOf =
       good = true;
     }
 
--- one more entry, that of place q; no cluster has more than 64
+-- one more entry, that of place q; no cluster has more than 64. The walk knows no mode
 unfoldable pub pushOf : ℕ → Gathered → ℕ → Node → Gathered
-pushOf n g q x = cond (ltb q 64) (record { states = withNode (g .states) q (x .state); good = g .good && inPlace n q x }) g
+pushOf n g q x = cond (ltb q 64) (record { states = withNode (g .states) q (x .state); good = g .good && inPlace true n q x }) g
 
 -- the entries from place q on
 unfoldable pub gathered : ℕ → Gathered → ℕ → List Node → Gathered
 gathered n g q [] = g
 gathered n g q (x ∷ xs) = gathered n (pushOf n g q x) (suc q) xs
+
+-- whether every entry gathered is in its place: in a press that votes in every cycle nobody is asking
+abbrev pub ordered : Bool → Gathered → Bool
+ordered quiet g = g .good && (quiet || eqb (g .states .asking) 0)
 
 -- node q of n, in its state
 abbrev pub placedNode : ℕ → States → ℕ → Node

@@ -18,10 +18,10 @@ unfoldable pub nodesOf : ℕ → Row → List Node
 nodesOf n row = tabulate n (λ q. record { state = at row q; id = q; nodes = n })
 
 -- "4: a state image not well formed, or in a row an entry q that is not node q of that N"
-unfoldable pub inPlace : ℕ → ℕ → Node → Bool
-inPlace n q x = formed x && eqb (x .id) q && eqb (x .nodes) n
+unfoldable pub inPlace : Bool → ℕ → ℕ → Node → Bool
+inPlace quiet n q x = formed quiet x && eqb (x .id) q && eqb (x .nodes) n
 
 -- whether every entry, from place q on, is in its place
-unfoldable pub inOrder : ℕ → ℕ → List Node → Bool
-inOrder n q [] = true
-inOrder n q (x ∷ xs) = inPlace n q x && inOrder n (suc q) xs
+unfoldable pub inOrder : Bool → ℕ → ℕ → List Node → Bool
+inOrder quiet n q [] = true
+inOrder quiet n q (x ∷ xs) = inPlace quiet n q x && inOrder quiet n (suc q) xs

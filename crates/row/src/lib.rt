@@ -2,13 +2,13 @@
 ghost use mathlib.Core.Path.{_≡_};
 ghost use Prim.Native.Nat.{_<_, _≤_};
 ghost use lib.ListN.{length};
+ghost use mathlib.Core.Bool.{true};
 ghost use Rattle.state.specs.State.{formedState};
 ghost use Rattle.cluster_states.specs.States.{rolesOf, statesOf, stateAt};
 ghost use Rattle.row.specs.Row.{inPlace};
 ghost use Rattle.row.specs.Gathered.{withNode, placedNode};
 use cluster_states::Roles;
 use cluster_states::States;
-use state::Group;
 use state::Node;
 use state::State;
 
@@ -18,20 +18,21 @@ pub struct Gathered {
     pub good: bool,
 }
 
+// Whether the state is one that a node can have, in one mode or the other.
 fn state_formed(id: u8, n: u8, s: State) -> bool
     requires { ⌜ (id < 64) × (n ≤ 64) ⌝ }
-    ensures { λ r. ⌜ r ≡ formedState id n s ⌝ }
+    ensures { λ r. ⌜ r ≡ formedState true id n s ⌝ }
 {
     match s {
         State::Out(_) => true,
         State::Joining => true,
-        State::Member(g) => state_decoding::sets_formed(id, n, g.set, g.base),
+        State::Member(g, _) => state_decoding::sets_formed(id, n, g.set, g.base),
     }
 }
 
-// Whether x is well formed and node q of a cluster of n.
+// Whether x is well formed, in one mode or the other, and node q of a cluster of n.
 pub fn in_place(n: u8, q: usize, x: Node) -> bool
-    ensures { λ r. ⌜ r ≡ inPlace n q x ⌝ }
+    ensures { λ r. ⌜ r ≡ inPlace true n q x ⌝ }
 {
     if !state_decoding::place_formed(x.id, x.nodes) {
         return false;
@@ -51,6 +52,7 @@ pub fn roles_of(s: States) -> Roles
 {
     Roles {
         members: s.members,
+        asking: s.asking,
         joining: s.joining,
         no_quorum: s.no_quorum,
         outvoted: s.outvoted,
@@ -87,11 +89,8 @@ fn state_at<'a>(
     ensures { λ r. ⌜ r ≡ stateAt (statesOf w (now (numbers .entry)) (now (sets .entry)) (now (bases .entry))) q ⌝ }
 {
     if sets::contains(w.members, q) {
-        State::Member(Group {
-            number: numbers[q],
-            set: sets[q],
-            base: bases[q],
-        })
+        let group = rule_steps::group_at(numbers, sets, bases, q);
+        State::Member(group, sets::contains(w.asking, q))
     } else if sets::contains(w.joining, q) {
         State::Joining
     } else {

@@ -71,34 +71,34 @@ length-images (x ∷ xs) =
     omega arith
 
 -- the first image of a row, and those after it
-first-in : (x : Node) (rest : List ℕ) → formed x ≡ true → nodeIn (imageOf x ++ rest) 0 ≡ x
+first-in : (x : Node) (rest : List ℕ) → formed true x ≡ true → nodeIn (imageOf x ++ rest) 0 ≡ x
 unfolding nodeIn
 first-in x rest f =
-    ap (λ (s : List ℕ). nodeOr (decoded s)) (take-at (imageOf x) rest 24 (image-length x)) ∙ ap nodeOr (round-trip x f)
+    ap (λ (s : List ℕ). nodeOr (decoded s)) (take-at (imageOf x) rest 24 (image-length x)) ∙ ap nodeOr (round-trip true x f)
 
 later-in : (x : Node) (rest : List ℕ) (q : ℕ) → nodeIn (imageOf x ++ rest) (suc q) ≡ nodeIn rest q
 unfolding nodeIn
 later-in x rest q =
     let one : length (imageOf x) ≡ 24 = image-length x in
     let far : 24 * suc q ≡ length (imageOf x) + 24 * q = omega arith in
-    ap (λ (s : List ℕ). nodeOr (decoded (take 24 s)))
+    ap (λ (s : List ℕ). nodeOr (decoded true (take 24 s)))
     (ap (λ (k : ℕ). drop k (imageOf x ++ rest)) far ∙ drop-append-add (imageOf x) rest (24 * q))
 
-place-formed : (n q : ℕ) (x : Node) → inPlace n q x ≡ true → formed x ≡ true
+place-formed : (n q : ℕ) (x : Node) → inPlace true n q x ≡ true → formed true x ≡ true
 unfolding inPlace
-place-formed n q x e = and-l (formed x) (eqb (x .id) q) (and-l (formed x && eqb (x .id) q) (eqb (x .nodes) n) e)
+place-formed n q x e = and-l (formed true x) (eqb (x .id) q) (and-l (formed true x && eqb (x .id) q) (eqb (x .nodes) n) e)
 
-read-back : (n q : ℕ) (xs : List Node) → inOrder n q xs ≡ true → tabulate (length xs) (nodeIn (imagesOf xs)) ≡ xs
+read-back : (n q : ℕ) (xs : List Node) → inOrder true n q xs ≡ true → tabulate (length xs) (nodeIn (imagesOf xs)) ≡ xs
 unfolding inOrder tabulate imagesOf
 read-back n q [] h = refl
 read-back n q (x ∷ xs) h =
     ap₂ (λ (y : Node) (ys : List Node). y ∷ ys)
-    (first-in x (imagesOf xs) (place-formed n q x (and-l (inPlace n q x) (inOrder n (suc q) xs) h)))
+    (first-in x (imagesOf xs) (place-formed n q x (and-l (inPlace true n q x) (inOrder true n (suc q) xs) h)))
     (tabulate-ext (length xs) (λ p. nodeIn (imageOf x ++ imagesOf xs) (suc p)) (nodeIn (imagesOf xs)) (λ p l. later-in x (imagesOf xs) p)
-    ∙ read-back n (suc q) xs (and-r (inPlace n q x) (inOrder n (suc q) xs) h))
+    ∙ read-back n (suc q) xs (and-r (inPlace true n q x) (inOrder true n (suc q) xs) h))
 
 -- nodes in order are read back from the row of their images
-pub nodes-images : (n : ℕ) (xs : List Node) → inOrder n 0 xs ≡ true → nodesIn (imagesOf xs) ≡ xs
+pub nodes-images : (n : ℕ) (xs : List Node) → inOrder true n 0 xs ≡ true → nodesIn (imagesOf xs) ≡ xs
 unfolding nodesIn
 nodes-images n xs h =
     ap (λ (k : ℕ). tabulate k (nodeIn (imagesOf xs))) (entries-are (imagesOf xs) (length xs) (length-images xs)) ∙ read-back n 0 xs h

@@ -32,11 +32,11 @@ use Rattle.row_images.specs.Images.{nodeOr, nodeIn, imagesOf}
 use Rattle.row_images.proofs.Images.{length-images}
 
 -- ---- the node of image q, by what reading the image finds
-pub node-found : (s : List ℕ) (q : ℕ) (d r : Decoded) → d ≡ decoded (take (24 * q + 24 - 24 * q) (drop (24 * q) s)) → d ≡ r → nodeOr r ≡ nodeIn s q
+pub node-found : (s : List ℕ) (q : ℕ) (d r : Decoded) → d ≡ decoded true (take (24 * q + 24 - 24 * q) (drop (24 * q) s)) → d ≡ r → nodeOr r ≡ nodeIn s q
 unfolding nodeIn
 node-found s q d r e t =
     let one : 24 * q + 24 - 24 * q ≡ 24 = omega arith in
-    ap nodeOr (sym t ∙ e) ∙ ap (λ (k : ℕ). nodeOr (decoded (take k (drop (24 * q) s)))) one
+    ap nodeOr (sym t ∙ e) ∙ ap (λ (k : ℕ). nodeOr (decoded true (take k (drop (24 * q) s)))) one
 
 -- ---- what is gathered of the first nodes
 gathered-last : (n : ℕ) (g : Gathered) (q k : ℕ) (f : ℕ → Node)
@@ -52,7 +52,7 @@ abbrev pub found : Roles → List ℕ → List ℕ → List ℕ → Bool → Gat
 found w numbers sets bases good = record { states = statesOf w numbers sets bases; good = good }
 
 pub found-none : (n : ℕ) (f : ℕ → Node)
-    → found (record { members = 0; joining = 0; «no_quorum» = 0; outvoted = 0 }) (replicate 64 0) (replicate 64 0) (replicate 64 0) true ≡ gathered n nothingOf 0 (tabulate 0 f)
+    → found (record { members = 0; asking = 0; joining = 0; «no_quorum» = 0; outvoted = 0 }) (replicate 64 0) (replicate 64 0) (replicate 64 0) true ≡ gathered n nothingOf 0 (tabulate 0 f)
 unfolding nothingOf gathered tabulate
 found-none n f = refl
 
@@ -68,7 +68,7 @@ gathered-next n k f g r x e h p =
 module _ (w v : Roles) (numbers sets bases numbers′ sets′ bases′ : List ℕ) (q : ℕ) where
   -- a node's state put in: one more is found, and the arrays are as long as before
   pub found-next : (n : ℕ) (good b : Bool) (x : Node) → q < 64 → statesOf v numbers′ sets′ bases′ ≡ withNode (statesOf w numbers sets bases) q (x .state)
-      → b ≡ inPlace n q x → found v numbers′ sets′ bases′ (good && b) ≡ pushOf n (found w numbers sets bases good) q x
+      → b ≡ inPlace true n q x → found v numbers′ sets′ bases′ (good && b) ≡ pushOf n (found w numbers sets bases good) q x
   found-next n good b x l e h =
       ap₂ (λ (s : States) (a : Bool). record { states = s; good = good && a }) e h ∙ sym (push-in n (found w numbers sets bases good) q x l)
 
@@ -84,7 +84,7 @@ module _ (w v : Roles) (numbers sets bases numbers′ sets′ bases′ : List �
 -- past the last place there is nothing to gather
 push-past : (n : ℕ) (g : Gathered) (q : ℕ) (x : Node) → 64 ≤ q → pushOf n g q x ≡ g
 unfolding pushOf
-push-past n g q x l = ap (λ (b : Bool). cond b (record { states = withNode (g .states) q (x .state); good = g .good && inPlace n q x }) g) (le-ltb q 64 l)
+push-past n g q x l = ap (λ (b : Bool). cond b (record { states = withNode (g .states) q (x .state); good = g .good && inPlace true n q x }) g) (le-ltb q 64 l)
 
 gathered-past : (n : ℕ) (f : ℕ → Node) (j : ℕ) → gathered n nothingOf 0 (tabulate (64 + j) f) ≡ gathered n nothingOf 0 (tabulate 64 f)
 gathered-past n f zero = refl

@@ -1,7 +1,7 @@
 -- Paper 01: "The press host is written in C and calls the node end with numbers and byte buffers only. For a run the caller lends the states of all units
 -- as one row, one entry per unit." For C the row is N images of 24 bytes, one after the other.
 -- Assumes nothing.
-use mathlib.Core.Bool.{cond}
+use mathlib.Core.Bool.{true, cond}
 use mathlib.Core.List.{List, [], _∷_, _++_}
 use Prim.Native.Nat.{ℕ, _*_, _/_, _%_}
 use lib.Dec.{eqb}
@@ -25,7 +25,7 @@ nodeOr Malformed = noNode
 
 -- the node of image q
 unfoldable pub nodeIn : List ℕ → ℕ → Node
-nodeIn s q = nodeOr (decoded (take 24 (drop (24 * q) s)))
+nodeIn s q = nodeOr (decoded true (take 24 (drop (24 * q) s)))
 
 -- how many images there are. "3: .. a row not of N entries": bytes that are no whole number of images have none
 unfoldable pub entriesIn : List ℕ → ℕ

@@ -16,14 +16,14 @@ use state::Node;
 use state::Reason;
 use state::State;
 
-// The node of image q.
+// The node of image q, in one mode or the other.
 fn node_in(images: &[u8], q: usize) -> Node
     requires { ⌜ 24 * q + 24 ≤ length (now images) ⌝ }
     ensures { λ r. ⌜ r ≡ nodeIn (now (images .entry)) q ⌝ }
 {
     let at = 24 * q;
     let end = at + 24;
-    match state_decoding::decode(&images[at..end]) {
+    match state_decoding::decode(true, &images[at..end]) {
         Decoded::Good(x) => x,
         Decoded::WrongLength => nobody(),
         Decoded::Malformed => nobody(),
@@ -70,6 +70,7 @@ pub fn gather(n: u8, images: &[u8]) -> Gathered
     let mut bases = [0u64; 64];
     let mut w = Roles {
         members: 0,
+        asking: 0,
         joining: 0,
         no_quorum: 0,
         outvoted: 0,
@@ -86,6 +87,7 @@ pub fn gather(n: u8, images: &[u8]) -> Gathered
     Gathered {
         states: States {
             members: w.members,
+            asking: w.asking,
             joining: w.joining,
             no_quorum: w.no_quorum,
             outvoted: w.outvoted,

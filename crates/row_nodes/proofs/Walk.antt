@@ -62,8 +62,8 @@ module _ {M : Type 1} (𝓤 : URA M) (H : Heap 𝓤) (A : Atoms 𝓤) where
   pub states-typed : Given 𝓤 H A → (s : States) (v : Val) → IsStates s v → True (hasTy S′.mir v) × WT v
   states-typed W s v is = LL.lawful S.the-type S′.the-laws 𝓤 H A W .typed s _ is .0
 
--- ---- the place of an entry below the length fits; an entry has 40 bytes
-pub far : (i n : ℕ) → i < n → n * 40 < 2 ^ 63 → i * 40 < 2 ^ 64
+-- ---- the place of an entry below the length fits; an entry has 48 bytes
+pub far : (i n : ℕ) → i < n → n * 48 < 2 ^ 63 → i * 48 < 2 ^ 64
 far i n l g = omega arith
 
 -- ---- code without its first k statements

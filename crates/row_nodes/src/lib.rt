@@ -14,6 +14,7 @@ fn nothing() -> Gathered
     Gathered {
         states: States {
             members: 0,
+            asking: 0,
             joining: 0,
             no_quorum: 0,
             outvoted: 0,
@@ -36,6 +37,7 @@ fn with_node(s: States, q: usize, d: State) -> States
     let w = row::put_state(row::roles_of(s), q, d, &mut numbers, &mut sets, &mut bases);
     States {
         members: w.members,
+        asking: w.asking,
         joining: w.joining,
         no_quorum: w.no_quorum,
         outvoted: w.outvoted,

@@ -14,8 +14,8 @@ use Rattle.row.proofs.in_place.Statement.{statement}
 use Rattle.row.proofs.in_place.Tie as tie
 
 -- where the other tests hold, the last decides
-last : (n q : ℕ) (x : Node) → formedPlace (x .id) (x .nodes) ≡ true → formedState (x .id) (x .nodes) (x .state) ≡ true → x .id ≡ q
-    → eqb (x .nodes) n ≡ inPlace n q x
+last : (n q : ℕ) (x : Node) → formedPlace (x .id) (x .nodes) ≡ true → formedState true (x .id) (x .nodes) (x .state) ≡ true → x .id ≡ q
+    → eqb (x .nodes) n ≡ inPlace true n q x
 unfolding inPlace formed
 last n q x a b e = simp (a, b, eq-eqb _ _ e)
 

@@ -197,7 +197,7 @@ module _ {M : Type 1} (𝓤 : URA M) (H : Heap 𝓤) (A : Atoms 𝓤) (W : Given
         -- the place of row[q], and its node
         assigns ! (bin ! (load ! (from ! (stop !)) (look ! 12 refl)) (lit ! tt) (record { fits = place-fits less })) (from ! (stop !)) (store ! 10 refl (tt, record { fits = place-fits less })) $
         assigns ! (bin ! (load ! (from ! (fld ! refl (stop !))) (look-in ! 16 (sub ! 0 refl (whole !)))) (load ! (from ! (stop !)) (look ! 10 refl)) tt) (from ! (stop !)) (init ! 6 refl (tt, tt)) $
-        rewrite ! 6 (λ (p : ℕ). ‵ (fat fullShare tyPtr l₇ 0 (vptr b p))) (sym (place-is 40 o (i .0))) refl $
+        rewrite ! 6 (λ (p : ℕ). ‵ (fat fullShare tyPtr l₇ 0 (vptr b p))) (sym (place-is 48 o (i .0))) refl $
         elem-out ! N.the-row (Is N.the-row) (shows 𝓤 H A N.the-row) (LL.vals N.the-type N′.the-laws) (LL.tells N.the-type N′.the-laws) part ys (i .0) blank b o (inside less) (λ is-old.
         -- [row[q]; what it owns; the others; what shuts; …; the locals, local k at 6 + 2 · (8 − k)]
         assigns ! (of-opd ! (load ! (from ! (hop ! (look ! 8 refl) (stop !))) (look-raw ! 0 refl))) (from ! (stop !)) (init ! 6 refl (node-typed 𝓤 H A W old _ is-old)) $
@@ -230,7 +230,7 @@ module _ {M : Type 1} (𝓤 : URA M) (H : Heap 𝓤) (A : Atoms 𝓤) (W : Given
         inside : True (ltb (i .0) len) → i .0 < len
         inside less = ltb→lt (i .0) len less
 
-        place-fits : True (ltb (i .0) len) → i .0 * 40 < 2 ^ 64
+        place-fits : True (ltb (i .0) len) → i .0 * 48 < 2 ^ 64
         place-fits less = far (i .0) len (inside less) (room .1)
 
         next-fits : True (ltb (i .0) len) → i .0 + 1 < 2 ^ 64

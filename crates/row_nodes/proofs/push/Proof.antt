@@ -1,6 +1,6 @@
 -- By the test on the place. Assumes nothing.
 use mathlib.Core.Path.{_≡_, sym, ap, ap₂, _∙_}
-use mathlib.Core.Bool.{Bool, _&&_, cond}
+use mathlib.Core.Bool.{Bool, true, _&&_, cond}
 use Prim.Native.Nat.{ℕ, _<_}
 use borrow.Author.Needs.{needs}
 use borrow.Author.Tests.{lt-ltb, le-ltb}
@@ -15,12 +15,12 @@ use Rattle.row_nodes.proofs.push.Tie as tie
 abbrev found : States → Bool → Gathered
 found s b = record { states = s; good = b }
 
-in-range : (n : ℕ) (g : Gathered) (q : ℕ) (x : Node) (s : States) (b : Bool) → q < 64 → s ≡ withNode (g .states) q (x .state) → b ≡ inPlace n q x
+in-range : (n : ℕ) (g : Gathered) (q : ℕ) (x : Node) (s : States) (b : Bool) → q < 64 → s ≡ withNode (g .states) q (x .state) → b ≡ inPlace true n q x
     → found s (g .good && b) ≡ pushOf n g q x
 unfolding pushOf
 in-range n g q x s b l e f =
     ap₂ (λ (t : States) (h : Bool). found t (g .good && h)) e f
-    ∙ ap (λ (h : Bool). cond h (found (withNode (g .states) q (x .state)) (g .good && inPlace n q x)) g) (sym (lt-ltb q 64 l))
+    ∙ ap (λ (h : Bool). cond h (found (withNode (g .states) q (x .state)) (g .good && inPlace true n q x)) g) (sym (lt-ltb q 64 l))
 
 with-node-requires : tie.Need-with-node-requires
 with-node-requires c κs = search needs

@@ -196,7 +196,7 @@ module _ {M : Type 1} (𝓤 : URA M) (H : Heap 𝓤) (A : Atoms 𝓤) (W : Given
         -- the place of row[p], and its node
         assigns ! (bin ! (load ! (from ! (stop !)) (look ! 18 refl)) (lit ! tt) (record { fits = place-fits less })) (from ! (stop !)) (store ! 16 refl (tt, record { fits = place-fits less })) $
         assigns ! (bin ! (load ! (from ! (fld ! refl (stop !))) (look-in ! 20 (sub ! 0 refl (whole !)))) (load ! (from ! (stop !)) (look ! 16 refl)) tt) (from ! (stop !)) (init ! 10 refl (tt, tt)) $
-        rewrite ! 10 (λ (p : ℕ). ‵ (fat fullShare tyPtr l₈ 0 (vptr b p))) (sym (place-is 40 o (i .0))) refl $
+        rewrite ! 10 (λ (p : ℕ). ‵ (fat fullShare tyPtr l₈ 0 (vptr b p))) (sym (place-is 48 o (i .0))) refl $
         elem-out ! N.the-row (Is N.the-row) (shows 𝓤 H A N.the-row) (LL.vals N.the-type N′.the-laws) (LL.tells N.the-type N′.the-laws) fullShare now (i .0) blank b o (inside less) (λ is-old.
         -- [row[p]; what it owns; the others; the open borrow; obs; auth; the locals, local k at 6 + 2 · (11 − k)]
         assigns ! (of-opd ! (load ! (from ! (hop ! (look ! 12 refl) (stop !))) (look-raw ! 0 refl))) (from ! (stop !)) (init ! 10 refl (node-typed 𝓤 H A W old _ is-old)) $
@@ -210,7 +210,7 @@ module _ {M : Type 1} (𝓤 : URA M) (H : Heap 𝓤) (A : Atoms 𝓤) (W : Given
         land ! (from ! (stop !)) (init ! 15 refl (node-typed 𝓤 H A W r v is)) $
         assigns ! (bin ! (load ! (from ! (stop !)) (look ! 21 refl)) (lit ! tt) (record { fits = place-fits less })) (from ! (stop !)) (init ! 9 refl (tt, record { fits = place-fits less })) $
         assigns ! (bin ! (load ! (from ! (fld ! refl (stop !))) (look-in ! 23 (sub ! 0 refl (whole !)))) (load ! (from ! (stop !)) (look ! 9 refl)) tt) (from ! (stop !)) (init ! 7 refl (tt, tt)) $
-        rewrite ! 7 (λ (p : ℕ). ‵ (fat fullShare tyPtr l₁₁ 0 (vptr b p))) (sym (place-is 40 o (i .0))) refl $
+        rewrite ! 7 (λ (p : ℕ). ‵ (fat fullShare tyPtr l₁₁ 0 (vptr b p))) (sym (place-is 48 o (i .0))) refl $
         assigns ! (of-opd ! (load ! (from ! (stop !)) (look ! 15 refl))) (from ! (hop ! (look ! 7 refl) (stop !))) (store-raw ! 1 refl (node-typed 𝓤 H A W r v is)) $
         move ! (1 ∷ 0 ∷ 3 ∷ []) $ elem-put ! N.the-row fullShare now (i .0) r (v ∷ []) b o (inside less) $ move ! (1 ∷ []) $ drop ! $
         rewrite ! 0 (λ (l : List Node). ‵ (row N.the-row fullShare l b o)) (ap (set now (i .0)) (e ∙ ap (f (i .0)) (upto-next f 0 (i .0) ys blank)) ∙ upto-set f (i .0) ys blank (ltb→lt (i .0) len less)) refl $
@@ -240,7 +240,7 @@ module _ {M : Type 1} (𝓤 : URA M) (H : Heap 𝓤) (A : Atoms 𝓤) (W : Given
         inside : True (ltb (i .0) len) → i .0 < length now
         inside less = subst (λ (m : ℕ). i .0 < m) (sym (upto-length f 0 (i .0) ys)) (ltb→lt (i .0) len less)
 
-        place-fits : True (ltb (i .0) len) → i .0 * 40 < 2 ^ 64
+        place-fits : True (ltb (i .0) len) → i .0 * 48 < 2 ^ 64
         place-fits less = far (i .0) len (ltb→lt (i .0) len less) (room .1)
 
     abbrev Owned : Item 𝓤
