@@ -45,11 +45,12 @@ fn initial(founding: u64, node: usize) -> State
     ensures { λ r. ⌜ r ≡ theInitial 0 founding node ⌝ }
 {
     if sets::contains(founding, node) {
-        State::Member(Group {
+        let group = Group {
             number: 0,
             set: founding,
             base: founding,
-        })
+        };
+        State::Member(group, false)
     } else {
         State::Out(Reason::Stopped)
     }

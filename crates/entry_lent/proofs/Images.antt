@@ -3,6 +3,7 @@ use mathlib.Core.Path.{_≡_, refl, ap, _∙_}
 use mathlib.Core.Bool.{Bool, true, false, not, cond, or-false, or-true}
 use mathlib.Core.List.{List}
 use Prim.Native.Nat.{ℕ, _≤_, _<_}
+use native.Mathlib.Omega.{arith}
 use lib.Dec.{eqb}
 use lib.ListN.{length}
 use borrow.Author.Tests.{eq-eqb, ne-eqb}
@@ -16,7 +17,11 @@ use Rattle.state.proofs.Fields.{place-bounds}
 use Rattle.state.proofs.RoundTrip.{decoded-formed}
 use Rattle.sets.proofs.Booleans.{and-l}
 use Rattle.refusal.specs.Refusal.{first}
-use Rattle.entry_lent.specs.Refusals.{wrongLength, lentConditions, imageStatus}
+use Rattle.rules.specs.OneCycle.{wrongMode, quietIn}
+use Rattle.entry_lent.specs.Refusals.{wrongLength, lentConditions}
+use Rattle.entry_lent.specs.declared.Lent.{Lent}
+use Rattle.entry_lent.specs.declared.Lent.the-variants.{Holds, Refused}
+use Rattle.entry_lent.specs.Found.{inImage, lentState, statusOf, imageStatus}
 use Rattle.entry_lent.proofs.Bounds.{length-is}
 
 -- the length of a lent image, by what reading it finds
@@ -57,13 +62,39 @@ by-image quiet s f k l = simp (eq-eqb (length f) k l, or-false, length-read quie
     by WrongLength = refl
     by Malformed = refl
 
--- what is left of a call that reads an image is what it was before, if it is that where the image is refused
-pub image-kept : {A : Type 0} (quiet : Bool) (left : Decoded → A) (before : A) (s : List ℕ) → left WrongLength ≡ before → left Malformed ≡ before → (imageStatus quiet s ≡ 0 → ⊥)
-    → left (decoded quiet s) ≡ before
-unfolding imageStatus
-image-kept quiet left before s short malformed refused = by (decoded quiet s) refused
+-- a call that is lent a state alone finds a node in a mode that there is
+pub found-state : (mode : ℕ) (s : List ℕ) (n : Node) → lentState mode s ≡ Holds n → (wrongMode mode ≡ false) × (decoded (quietIn mode) s ≡ Good n)
+unfolding lentState
+found-state mode s n = go (wrongMode mode) (decoded (quietIn mode) s)
   where
-    by : (d : Decoded) → (refusal d ≡ 0 → ⊥) → left d ≡ before
-    by (Good n) refused = absurd (refused refl)
-    by WrongLength refused = short
-    by Malformed refused = malformed
+    other : (r : ℕ) → Refused r ≡ Holds n → ⊥
+    other r e = let z : _≡_ {A = ℕ} 0 1 = cc in omega arith
+
+    go : (b : Bool) (d : Decoded) → cond b (Refused 2) (inImage d) ≡ Holds n → (b ≡ false) × (d ≡ Good n)
+    go true d e = absurd (other 2 e)
+    go false (Good m) e = let z : m ≡ n = cc in (refl, ap Good z)
+    go false WrongLength e = absurd (other 3 e)
+    go false Malformed e = absurd (other 4 e)
+
+-- a refusal has a number
+pub state-numbered : (mode : ℕ) (s : List ℕ) (r : ℕ) → lentState mode s ≡ Refused r → r ≡ 0 → ⊥
+unfolding lentState
+state-numbered mode s r e z = go (wrongMode mode) (decoded (quietIn mode) s) e
+  where
+    some : (k : ℕ) → (k ≡ 0 → ⊥) → Refused k ≡ Refused r → ⊥
+    some k never e = let w : k ≡ r = cc in never (w ∙ z)
+
+    go : (b : Bool) (d : Decoded) → cond b (Refused 2) (inImage d) ≡ Refused r → ⊥
+    go true d h = some 2 (λ z. omega arith) h
+    go false (Good m) h = let w : _≡_ {A = ℕ} 0 1 = cc in omega arith
+    go false WrongLength h = some 3 (λ z. omega arith) h
+    go false Malformed h = some 4 (λ z. omega arith) h
+
+-- what is left of such a call is what it was before, if it is that where nothing is found
+pub state-kept : {A : Type 0} (left : Lent → A) (before : A) (mode : ℕ) (s : List ℕ) → ((r : ℕ) → left (Refused r) ≡ before) → (imageStatus mode s ≡ 0 → ⊥) → left (lentState mode s) ≡ before
+unfolding imageStatus
+state-kept left before mode s kept refused = by (lentState mode s) refused
+  where
+    by : (d : Lent) → (statusOf d ≡ 0 → ⊥) → left d ≡ before
+    by (Holds n) refused = absurd (refused refl)
+    by (Refused r) refused = kept r

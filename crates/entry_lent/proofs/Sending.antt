@@ -16,17 +16,12 @@ use Rattle.refusal.proofs.Laws.{unless-done, unless-refused}
 use Rattle.entry_lent.specs.declared.Lent.{Lent}
 use Rattle.entry_lent.specs.declared.Lent.the-variants.{Holds, Refused}
 use Rattle.entry_lent.specs.Refusals.{lentConditions}
-use Rattle.entry_lent.specs.Found.{inImage, lentNode}
+use Rattle.entry_lent.specs.Found.{inImage, statusOf, lentNode}
 use Rattle.entry_lent.proofs.Images.{isWrong, length-read}
 
 -- a node is no refusal
 apart : (r : ℕ) (n : Node) → Refused r ≡ Holds n → ⊥
 apart r n e = let z : _≡_ {A = ℕ} 0 1 = cc in omega arith
-
--- the status of what is found
-abbrev statusOf : Lent → ℕ
-statusOf (Holds n) = 0
-statusOf (Refused r) = r
 
 module _ (quiet wrong : Bool) (s : List ℕ) (k : ℕ) (f : List ℕ) where
   -- refusals 2, 3 and 4 of such a call

@@ -42,10 +42,6 @@ malformed quiet s = eqb (refusal (decoded quiet s)) 4
 abbrev pub lentConditions : Bool → List ℕ → ℕ → List ℕ → List Condition
 lentConditions quiet s k f = when (wrongLength 24 s || wrongLength k f) 3 ∷ when (malformed quiet s) 4 ∷ []
 
--- 3 and 4, where nothing but a state image can be refused
-unfoldable pub imageStatus : Bool → List ℕ → ℕ
-imageStatus quiet s = refusal (decoded quiet s)
-
 -- "13: founding set empty; a bit .. beyond its limit"
 unfoldable pub wrongFounding : ℕ → ℕ → Bool
 wrongFounding n F = eqb F 0 || not (eqb (below n F) F)

@@ -2,7 +2,7 @@
 ghost use mathlib.Core.Path.{_≡_};
 ghost use mathlib.Core.Bool.{_||_};
 ghost use Rattle.entry_lent.specs.Refusals.{wrongCount, wrongNode, wrongCycle, wrongChannel, wrongIndicators};
-ghost use Rattle.entry_lent.specs.Found.{lentNode};
+ghost use Rattle.entry_lent.specs.Found.{inImage, lentNode, lentState};
 use state::Decoded;
 use state::Node;
 
@@ -10,6 +10,16 @@ use state::Node;
 pub enum Lent {
     Holds(Node),
     Refused(u32),
+}
+
+fn in_image(d: Decoded) -> Lent
+    ensures { λ r. ⌜ r ≡ inImage d ⌝ }
+{
+    match d {
+        Decoded::Good(n) => Lent::Holds(n),
+        Decoded::WrongLength => Lent::Refused(3),
+        Decoded::Malformed => Lent::Refused(4),
+    }
 }
 
 // Refusal 1.
@@ -48,6 +58,16 @@ pub fn wrong_indicators(sync: u32, startup: u32) -> bool
     sync < startup
 }
 
+// The node of a call that is lent a state alone.
+pub fn lent_state(mode: u32, state: &[u8]) -> Lent
+    ensures { λ r. ⌜ r ≡ lentState mode (now (state .entry)) ⌝ }
+{
+    if rule_steps::wrong_mode(mode) {
+        return Lent::Refused(2);
+    }
+    in_image(state_decoding::decode(rule_steps::is_quiet(mode), state))
+}
+
 // The node of a call in a quiet press or not, whose numbers are `wrong` or not, and that is lent `given` bytes where `due` are.
 pub fn lent_node(quiet: bool, wrong: bool, state: &[u8], given: usize, due: usize) -> Lent
     ensures { λ r. ⌜ r ≡ lentNode quiet wrong (now (state .entry)) given due ⌝ }
@@ -58,9 +78,5 @@ pub fn lent_node(quiet: bool, wrong: bool, state: &[u8], given: usize, due: usiz
     if given != due {
         return Lent::Refused(3);
     }
-    match state_decoding::decode(quiet, state) {
-        Decoded::Good(n) => Lent::Holds(n),
-        Decoded::WrongLength => Lent::Refused(3),
-        Decoded::Malformed => Lent::Refused(4),
-    }
+    in_image(state_decoding::decode(quiet, state))
 }

@@ -1,9 +1,9 @@
 // A state taken apart into its numbers.
 ghost use mathlib.Core.Path.{_≡_};
 ghost use Rattle.state.specs.Image.{kindCode, reasonByte, groupBytes};
-ghost use Rattle.entry_lent.specs.Refusals.{imageStatus};
+ghost use Rattle.entry_lent.specs.Found.{imageStatus};
 ghost use Rattle.entry_state.specs.Apart.{kindLeft, reasonLeft, nodeLeft, countLeft, numberLeft, setLeft, baseLeft};
-use state::Decoded;
+use entry_lent::Lent;
 use state::Group;
 use state::State;
 
@@ -18,26 +18,33 @@ fn numbers_of(s: State) -> Numbers
     ensures { λ r. ⌜ r ≡ record { kind = kindCode s; reason = reasonByte s; group = groupBytes s } ⌝ }
 {
     match s {
-        State::Out(r) => Numbers {
-            kind: 0,
-            reason: state_encoding::reason_code(r) as u32,
-            group: state_encoding::no_group(),
-        },
+        State::Out(r) => {
+            let reason = state_encoding::reason_code(r) as u32;
+            Numbers {
+                kind: 0,
+                reason,
+                group: state_encoding::no_group(),
+            }
+        }
         State::Joining => Numbers {
             kind: 1,
             reason: 0,
             group: state_encoding::no_group(),
         },
-        State::Member(g) => Numbers {
-            kind: 2,
-            reason: 0,
-            group: g,
-        },
+        State::Member(g, a) => {
+            let request = state_encoding::request_code(a) as u32;
+            Numbers {
+                kind: 2,
+                reason: request,
+                group: g,
+            }
+        }
     }
 }
 
 // The numbers of a state: those of its image.
 pub fn read(
+    mode: u32,
     state: &[u8],
     kind: &mut u32,
     reason: &mut u32,
@@ -47,17 +54,17 @@ pub fn read(
     set: &mut u64,
     base: &mut u64,
 ) -> u32
-    ensures { λ r. ⌜ r ≡ imageStatus (now (state .entry)) ⌝ }
-    ensures { λ _. ⌜ now (kind .exit) ≡ kindLeft (now (state .entry)) (now (kind .entry)) ⌝ }
-    ensures { λ _. ⌜ now (reason .exit) ≡ reasonLeft (now (state .entry)) (now (reason .entry)) ⌝ }
-    ensures { λ _. ⌜ now (node .exit) ≡ nodeLeft (now (state .entry)) (now (node .entry)) ⌝ }
-    ensures { λ _. ⌜ now (n .exit) ≡ countLeft (now (state .entry)) (now (n .entry)) ⌝ }
-    ensures { λ _. ⌜ now (number .exit) ≡ numberLeft (now (state .entry)) (now (number .entry)) ⌝ }
-    ensures { λ _. ⌜ now (set .exit) ≡ setLeft (now (state .entry)) (now (set .entry)) ⌝ }
-    ensures { λ _. ⌜ now (base .exit) ≡ baseLeft (now (state .entry)) (now (base .entry)) ⌝ }
+    ensures { λ r. ⌜ r ≡ imageStatus mode (now (state .entry)) ⌝ }
+    ensures { λ _. ⌜ now (kind .exit) ≡ kindLeft mode (now (state .entry)) (now (kind .entry)) ⌝ }
+    ensures { λ _. ⌜ now (reason .exit) ≡ reasonLeft mode (now (state .entry)) (now (reason .entry)) ⌝ }
+    ensures { λ _. ⌜ now (node .exit) ≡ nodeLeft mode (now (state .entry)) (now (node .entry)) ⌝ }
+    ensures { λ _. ⌜ now (n .exit) ≡ countLeft mode (now (state .entry)) (now (n .entry)) ⌝ }
+    ensures { λ _. ⌜ now (number .exit) ≡ numberLeft mode (now (state .entry)) (now (number .entry)) ⌝ }
+    ensures { λ _. ⌜ now (set .exit) ≡ setLeft mode (now (state .entry)) (now (set .entry)) ⌝ }
+    ensures { λ _. ⌜ now (base .exit) ≡ baseLeft mode (now (state .entry)) (now (base .entry)) ⌝ }
 {
-    match state_decoding::decode(state) {
-        Decoded::Good(found) => {
+    match entry_lent::lent_state(mode, state) {
+        Lent::Holds(found) => {
             let held = found.state;
             let s = numbers_of(held);
             let g = s.group;
@@ -70,7 +77,6 @@ pub fn read(
             *base = g.base;
             0
         }
-        Decoded::WrongLength => 3,
-        Decoded::Malformed => 4,
+        Lent::Refused(r) => r,
     }
 }

@@ -1,9 +1,8 @@
 // Rule 1 on a state: stop and start.
 ghost use mathlib.Core.Path.{_≡_};
-ghost use Rattle.state.specs.Image.{decoded};
-ghost use Rattle.entry_lent.specs.Refusals.{imageStatus};
+ghost use Rattle.entry_lent.specs.Found.{lentState, imageStatus};
 ghost use Rattle.entry_stop_start.specs.StopStart.{stoppedAndStarted, ruleOneOf, stopLeft, startLeft};
-use state::Decoded;
+use entry_lent::Lent;
 use state::Node;
 
 fn stopped_and_started(stop: bool, start: bool, n: Node) -> Node
@@ -18,33 +17,32 @@ fn stopped_and_started(stop: bool, start: bool, n: Node) -> Node
 }
 
 // Rule 1 on the node whose image is lent.
-fn rule_one(stop: bool, start: bool, state: &mut [u8]) -> u32
-    ensures { λ r. ⌜ r ≡ imageStatus (now (state .entry)) ⌝ }
-    ensures { λ _. ⌜ now (state .exit) ≡ ruleOneOf stop start (decoded (now (state .entry))) (now (state .entry)) ⌝ }
+fn rule_one(mode: u32, stop: bool, start: bool, state: &mut [u8]) -> u32
+    ensures { λ r. ⌜ r ≡ imageStatus mode (now (state .entry)) ⌝ }
+    ensures { λ _. ⌜ now (state .exit) ≡ ruleOneOf stop start (lentState mode (now (state .entry))) (now (state .entry)) ⌝ }
 {
-    match state_decoding::decode(state) {
-        Decoded::Good(n) => {
+    match entry_lent::lent_state(mode, state) {
+        Lent::Holds(n) => {
             let image = state_encoding::encode(stopped_and_started(stop, start, n));
             bytes::copy(&image, state);
             0
         }
-        Decoded::WrongLength => 3,
-        Decoded::Malformed => 4,
+        Lent::Refused(r) => r,
     }
 }
 
 // Rule 1, stop.
-pub fn stop(state: &mut [u8]) -> u32
-    ensures { λ r. ⌜ r ≡ imageStatus (now (state .entry)) ⌝ }
-    ensures { λ _. ⌜ now (state .exit) ≡ stopLeft (now (state .entry)) ⌝ }
+pub fn stop(mode: u32, state: &mut [u8]) -> u32
+    ensures { λ r. ⌜ r ≡ imageStatus mode (now (state .entry)) ⌝ }
+    ensures { λ _. ⌜ now (state .exit) ≡ stopLeft mode (now (state .entry)) ⌝ }
 {
-    rule_one(true, false, state)
+    rule_one(mode, true, false, state)
 }
 
 // Rule 1, start.
-pub fn start(state: &mut [u8]) -> u32
-    ensures { λ r. ⌜ r ≡ imageStatus (now (state .entry)) ⌝ }
-    ensures { λ _. ⌜ now (state .exit) ≡ startLeft (now (state .entry)) ⌝ }
+pub fn start(mode: u32, state: &mut [u8]) -> u32
+    ensures { λ r. ⌜ r ≡ imageStatus mode (now (state .entry)) ⌝ }
+    ensures { λ _. ⌜ now (state .exit) ≡ startLeft mode (now (state .entry)) ⌝ }
 {
-    rule_one(false, true, state)
+    rule_one(mode, false, true, state)
 }

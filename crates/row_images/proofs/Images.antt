@@ -74,7 +74,7 @@ length-images (x ∷ xs) =
 first-in : (x : Node) (rest : List ℕ) → formed true x ≡ true → nodeIn (imageOf x ++ rest) 0 ≡ x
 unfolding nodeIn
 first-in x rest f =
-    ap (λ (s : List ℕ). nodeOr (decoded s)) (take-at (imageOf x) rest 24 (image-length x)) ∙ ap nodeOr (round-trip true x f)
+    ap (λ (s : List ℕ). nodeOr (decoded true s)) (take-at (imageOf x) rest 24 (image-length x)) ∙ ap nodeOr (round-trip true x f)
 
 later-in : (x : Node) (rest : List ℕ) (q : ℕ) → nodeIn (imageOf x ++ rest) (suc q) ≡ nodeIn rest q
 unfolding nodeIn

@@ -3,13 +3,27 @@ ghost use mathlib.Core.Path.{_≡_};
 ghost use mathlib.Core.Bool.{true, false, _&&_};
 ghost use Prim.Native.Nat.{_<_, _≤_};
 ghost use Rattle.sets.specs.Sets.{_∪_, _∖_};
-ghost use Rattle.rules.specs.OneCycle.{stopAndStart, sendsMember, sendsJoin, asks as doesAsk, viewOf, called, willVote, sameGroup, is, groupWith, requestWith};
+ghost use Rattle.rules.specs.OneCycle.{wrongMode, quietIn, stopAndStart, sendsMember, sendsJoin, asks as doesAsk, viewOf, called, willVote, sameGroup, is, groupWith, requestWith};
 ghost use Rattle.rules.specs.Ballots.{groupAt, voteAt, ballotsOf, equalTo};
 use rules::Config;
 use rules::Vote;
 use state::Group;
 use state::Reason;
 use state::State;
+
+// Refusal 2, of a mode.
+pub fn wrong_mode(mode: u32) -> bool
+    ensures { λ r. ⌜ r ≡ wrongMode mode ⌝ }
+{
+    1 < mode
+}
+
+// Whether it is that of a quiet press.
+pub fn is_quiet(mode: u32) -> bool
+    ensures { λ r. ⌜ r ≡ quietIn mode ⌝ }
+{
+    mode == 1
+}
 
 // Rule 1: the stop comes before the start.
 pub fn stop_and_start(stop: bool, start: bool, s: State) -> State

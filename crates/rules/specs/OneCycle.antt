@@ -2,6 +2,7 @@
 -- Assumes nothing.
 --     ofNodes: a cluster of N nodes that votes in every cycle
 --     quietly: a quiet one
+--     wrongMode, quietIn, inMode: whether a caller's number is no mode, whether it is that of a quiet press, and the cluster in that mode
 --     stopped: out with reason 0
 --     stopIf, startIf: what a stop and a start make of a state, where they are given
 --     stopAndStart: rule 1, stop before start
@@ -34,7 +35,7 @@
 use mathlib.Core.Bool.{Bool, true, false, not, _&&_, _||_, cond}
 use mathlib.Core.Option.{Option, none, some}
 use Prim.Native.Nat.{ℕ}
-use lib.Dec.{eqb}
+use lib.Dec.{eqb, ltb}
 use Rattle.sets.specs.Sets.{has, single, _∪_, _∩_, _∖_, those, below, lowest, any, every}
 use Rattle.sets.specs.Quorum.{quorum}
 use Rattle.state.specs.declared.Reason.the-variants.{Stopped, NoQuorum, Outvoted}
@@ -51,6 +52,16 @@ ofNodes N = record { nodes = N; quiet = false }
 
 abbrev pub quietly : ℕ → Config
 quietly N = record { nodes = N; quiet = true }
+
+-- request 3: the mode is "given by the caller: 0 votes in every cycle, 1 quiet, any other number is refused with 2"
+abbrev pub wrongMode : ℕ → Bool
+wrongMode mode = ltb 1 mode
+
+abbrev pub quietIn : ℕ → Bool
+quietIn mode = eqb mode 1
+
+abbrev pub inMode : ℕ → ℕ → Config
+inMode mode N = record { nodes = N; quiet = quietIn mode }
 
 -- 1. "Stop: the node becomes out with reason 0. Then start: an out node becomes joining; others do not change. Both may name one node."
 abbrev pub stopped : State

@@ -43,11 +43,12 @@ fn plain_cycle(
 // A run on the fault table alone, in place: states by value would be copied at every cycle. Free: what the row after it does not show.
 pub fn run_plain(config: Config, start: States, s: &[u8]) -> States
     requires { ⌜ (config .nodes ≤ 64) × (cyclesIn (length (now s)) (config .nodes) 1 (now s) .refusal ≡ 0) ⌝ }
-    requires { ⌜ ((q : ℕ) → q < config .nodes → formedState q (config .nodes) (stateAt start q) ≡ true) ⌝ }
+    requires { ⌜ ((q : ℕ) → q < config .nodes → formedState (config .quiet) q (config .nodes) (stateAt start q) ≡ true) ⌝ }
     ensures { λ r. ⌜ rowOf (config .nodes) r ≡ rowAfter config (rowOf (config .nodes) start) (cyclesIn (length (now (s .entry))) (config .nodes) 1 (now (s .entry)) .whole) ⌝ }
 {
     let mut w = Roles {
         members: start.members,
+        asking: start.asking,
         joining: start.joining,
         no_quorum: start.no_quorum,
         outvoted: start.outvoted,
@@ -74,6 +75,7 @@ pub fn run_plain(config: Config, start: States, s: &[u8]) -> States
     }
     States {
         members: w.members,
+        asking: w.asking,
         joining: w.joining,
         no_quorum: w.no_quorum,
         outvoted: w.outvoted,

@@ -42,11 +42,11 @@ at-row : (n : ℕ) (s : States) (q : ℕ) → q < n → at (rowOf n s) q ≡ sta
 unfolding rowOf
 at-row n s q l = get-tabulate n q (stateAt s) stopped l
 
-row-formed : (n : ℕ) (s : States) → ((q : ℕ) → q < n → formedState q n (stateAt s q) ≡ true) → FormedRow n (rowOf n s)
-row-formed n s w q l = ap (formedState q n) (at-row n s q l) ∙ w q l
+row-formed : (C : Config) (s : States) → ((q : ℕ) → q < C .nodes → formedState (C .quiet) q (C .nodes) (stateAt s q) ≡ true) → FormedRow C (rowOf (C .nodes) s)
+row-formed C s w q l = ap (formedState (C .quiet) q (C .nodes)) (at-row (C .nodes) s q l) ∙ w q l
 
-pub states-formed : (n : ℕ) (s : States) → FormedRow n (rowOf n s) → (q : ℕ) → q < n → formedState q n (stateAt s q) ≡ true
-states-formed n s w q l = ap (formedState q n) (sym (at-row n s q l)) ∙ w q l
+pub states-formed : (C : Config) (s : States) → FormedRow C (rowOf (C .nodes) s) → (q : ℕ) → q < C .nodes → formedState (C .quiet) q (C .nodes) (stateAt s q) ≡ true
+states-formed C s w q l = ap (formedState (C .quiet) q (C .nodes)) (sym (at-row (C .nodes) s q l)) ∙ w q l
 
 -- ---- the loop
 
@@ -55,14 +55,14 @@ pub record Going (C : Config) (start : Row) (s : List ℕ) (states : States) (cu
   pub inside : cursor ≤ length s
   pub counted : 0 < k
   pub few : k ≤ cursor + 1
-  pub formed : FormedRow (C .nodes) (rowOf (C .nodes) states)
+  pub formed : FormedRow C (rowOf (C .nodes) states)
   pub good : from (C .nodes) k s cursor .refusal ≡ 0
   pub rest : rowAfter C (rowOf (C .nodes) states) (from (C .nodes) k s cursor .whole) ≡ rowAfter C start (from (C .nodes) 1 s 0 .whole)
 
-pub going-begun : (C : Config) (s : List ℕ) (states : States) → ((q : ℕ) → q < C .nodes → formedState q (C .nodes) (stateAt states q) ≡ true) → from (C .nodes) 1 s 0 .refusal ≡ 0
+pub going-begun : (C : Config) (s : List ℕ) (states : States) → ((q : ℕ) → q < C .nodes → formedState (C .quiet) q (C .nodes) (stateAt states q) ≡ true) → from (C .nodes) 1 s 0 .refusal ≡ 0
     → Going C (rowOf (C .nodes) states) s states 0 1
 going-begun C s states w z =
-    record { inside = omega arith; counted = omega arith; few = omega arith; formed = row-formed (C .nodes) states w; good = z; rest = refl }
+    record { inside = omega arith; counted = omega arith; few = omega arith; formed = row-formed C states w; good = z; rest = refl }
 
 module _ (C : Config) (start : Row) (s : List ℕ) (states : States) (cursor k : ℕ) (w : Going C start s states cursor k) where
   abbrev n : ℕ
@@ -103,7 +103,7 @@ module _ (C : Config) (start : Row) (s : List ℕ) (states : States) (cursor k :
         inside = past .1;
         counted = omega arith;
         few = omega (arith, w .few, past .0);
-        formed = subst (FormedRow n) (sym turn) (cycle-formed C (faultsAt (left s cursor)) (rowOf n states) (w .formed));
+        formed = subst (FormedRow C) (sym turn) (cycle-formed C (faultsAt (left s cursor)) (rowOf n states) (w .formed));
         good = sym (ap (λ (c : Cycles). c .refusal) all) ∙ w .good;
         rest =
             ap (λ (row : Row). rowAfter C row (from n (k + 1) s (cursor + l) .whole)) turn

@@ -8,8 +8,8 @@ enum-known-s c = search needs
 reason-code-requires : tie.Need-reason-code-requires
 reason-code-requires c κs = search needs
 
-cast-t6 : tie.Need-cast-t6
-cast-t6 c = search needs
+cast-reason : tie.Need-cast-reason
+cast-reason c = search needs
 
 no-group-requires : tie.Need-no-group-requires
 no-group-requires c κs = search needs
@@ -23,6 +23,12 @@ no-group-requires-2 c κs = search needs
 enum-known-s-2 : tie.Need-enum-known-s-2
 enum-known-s-2 c = search needs
 
+request-code-requires : tie.Need-request-code-requires
+request-code-requires c κs = search needs
+
+cast-request : tie.Need-cast-request
+cast-request c = search needs
+
 returns : tie.Need-returns
 returns c = simp (c .no-group .ensures, c .before .reason-code .ensures, c .before .before .before .s .given .1)
 
@@ -30,7 +36,7 @@ returns-2 : tie.Need-returns-2
 returns-2 c = simp (c .no-group2 .ensures, c .before .enum-told .given .1)
 
 returns-3 : tie.Need-returns-3
-returns-3 c = simp (c .before .s2 .given .1)
+returns-3 c = simp (c .request-code .ensures, c .before .before .s2 .given .1)
 
 pub numbers-of-spec : {M : Type 1} → statement M
 numbers-of-spec =
@@ -38,11 +44,13 @@ numbers-of-spec =
     (tie.spec
     enum-known-s
     reason-code-requires
-    cast-t6
+    cast-reason
     no-group-requires
     enum-told
     no-group-requires-2
     enum-known-s-2
+    request-code-requires
+    cast-request
     returns
     returns-2
     returns-3)

@@ -1,13 +1,13 @@
-use mathlib.Core.Path.{refl, sym, _∙_}
+use mathlib.Core.Path.{sym, _∙_}
 use native.Mathlib.Omega.{arith}
-use Rattle.entry_lent.proofs.Images.{good-length}
+use Rattle.entry_lent.proofs.Images.{good-length, found-state}
 use Rattle.entry_stop_start.proofs.Answers.{ruled, kept}
 use borrow.Author.Needs.{needs}
 use Rattle.entry_stop_start.proofs.rule_one.Statement.{statement}
 use Rattle.entry_stop_start.proofs.rule_one.Tie as tie
 
-decode-requires : tie.Need-decode-requires
-decode-requires c κs = search needs
+lent-state-requires : tie.Need-lent-state-requires
+lent-state-requires c κs = search needs
 
 enum-known-n : tie.Need-enum-known-n
 enum-known-n c = search needs
@@ -24,14 +24,11 @@ slice-aggregate-copy c = search needs
 copy-requires : tie.Need-copy-requires
 copy-requires c κs =
     let k = c .before .before .before .before in
-    let l = good-length _ _ (sym (k .before .before .before .decode .ensures) ∙ k .before .n .given .1) in
+    let l = good-length _ _ _ (found-state _ _ _ (sym (k .before .before .before .lent-state .ensures) ∙ k .before .n .given .1) .1) in
     omega arith
 
-enum-told : tie.Need-enum-told
-enum-told c = search needs
-
-enum-told-2 : tie.Need-enum-told-2
-enum-told-2 c = search needs
+enum-known-r : tie.Need-enum-known-r
+enum-known-r c = search needs
 
 same-length : tie.Need-same-length
 same-length c = search needs
@@ -41,35 +38,26 @@ returns c =
     let m = c .before .before in
     let e = m .before .before .before in
     let k = e .before .before in
-    ruled _ _ _ _ _ _ _ (sym (k .before .before .before .decode .ensures) ∙ k .before .n .given .1) (e .before .stopped-and-started .ensures) (e .encode .ensures) (m .copy .ensures .1)
+    ruled _ _ _ _ _ _ _ _ (sym (k .before .before .before .lent-state .ensures) ∙ k .before .n .given .1) (e .before .stopped-and-started .ensures) (e .encode .ensures) (m .copy .ensures .1)
 
 same-length-2 : tie.Need-same-length-2
 same-length-2 c = search needs
 
 returns-2 : tie.Need-returns-2
-returns-2 c = kept _ _ _ _ (sym (c .before .before .decode .ensures) ∙ c .enum-told .given .1) refl
-
-same-length-3 : tie.Need-same-length-3
-same-length-3 c = search needs
-
-returns-3 : tie.Need-returns-3
-returns-3 c = kept _ _ _ _ (sym (c .before .before .decode .ensures) ∙ c .enum-told2 .given .1) refl
+returns-2 c = kept _ _ _ _ _ (sym (c .before .before .before .lent-state .ensures) ∙ c .before .r .given .1)
 
 pub rule-one-spec : {M : Type 1} → statement M
 rule-one-spec =
     tie.close
     (tie.spec
-    decode-requires
+    lent-state-requires
     enum-known-n
     stopped-and-started-requires
     encode-requires
     slice-aggregate-copy
     copy-requires
-    enum-told
-    enum-told-2
+    enum-known-r
     same-length
     returns
     same-length-2
-    returns-2
-    same-length-3
-    returns-3)
+    returns-2)
