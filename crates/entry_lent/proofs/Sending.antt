@@ -1,5 +1,5 @@
 -- What a call answers and leaves that sends a frame of k bytes from a lent state, by what it finds there. Assumes nothing.
-use mathlib.Core.Path.{_≡_, refl, sym, ap, _∙_}
+use mathlib.Core.Path.{_≡_, refl, sym, ap, ap₂, _∙_}
 use mathlib.Core.Bool.{Bool, true, false, not, _||_, cond}
 use mathlib.Core.List.{List, _∷_}
 use Prim.Native.Nat.{ℕ}
@@ -28,7 +28,7 @@ module _ (quiet wrong : Bool) (s : List ℕ) (k : ℕ) (f : List ℕ) where
   abbrev pub sendStatus : ℕ
   sendStatus = first (when wrong 2 ∷ lentConditions quiet s k f)
 
-  status-found : (r : Lent) → r ≡ lentNode quiet wrong s (length f) k → statusOf r ≡ sendStatus
+  pub status-found : (r : Lent) → r ≡ lentNode quiet wrong s (length f) k → statusOf r ≡ sendStatus
   unfolding lentNode first
   status-found r e = ap statusOf e ∙ simp (length-read quiet s) (go wrong (eqb (length f) k) (decoded quiet s))
     where
@@ -43,8 +43,8 @@ module _ (quiet wrong : Bool) (s : List ℕ) (k : ℕ) (f : List ℕ) where
       go false false Malformed = refl
 
   -- what is found, by what the code looked at
-  pub seen : (w : Bool) (d r : Lent) → w ≡ wrong → d ≡ lentNode quiet w s (length f) k → d ≡ r → lentNode quiet wrong s (length f) k ≡ r
-  seen w d r e p q = ap (λ (b : Bool). lentNode quiet b s (length f) k) (sym e) ∙ sym p ∙ q
+  pub seen : (p w : Bool) (d r : Lent) → p ≡ quiet → w ≡ wrong → d ≡ lentNode p w s (length f) k → d ≡ r → lentNode quiet wrong s (length f) k ≡ r
+  seen p w d r o e h q = ap₂ (λ (a b : Bool). lentNode a b s (length f) k) (sym o) (sym e) ∙ sym h ∙ q
 
   -- a node is found where nothing is wrong
   pub found : (n : Node) → lentNode quiet wrong s (length f) k ≡ Holds n → (wrong ≡ false) × (length f ≡ k) × (decoded quiet s ≡ Good n)
@@ -59,7 +59,7 @@ module _ (quiet wrong : Bool) (s : List ℕ) (k : ℕ) (f : List ℕ) where
       go false true Malformed h = absurd (apart 4 n h)
 
   -- a refusal has a number
-  numbered : (r : ℕ) → lentNode quiet wrong s (length f) k ≡ Refused r → r ≡ 0 → ⊥
+  pub numbered : (r : ℕ) → lentNode quiet wrong s (length f) k ≡ Refused r → r ≡ 0 → ⊥
   unfolding lentNode
   numbered r h z = go wrong (eqb (length f) k) (decoded quiet s) h
     where

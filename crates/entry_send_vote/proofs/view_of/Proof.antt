@@ -1,4 +1,5 @@
 use mathlib.Core.Path.{_≡_, sym, ap, _∙_}
+use mathlib.Core.Bool.{Bool}
 use Prim.Native.Nat.{ℕ}
 use Rattle.state.specs.declared.Group.{Group}
 use Rattle.state.specs.declared.State.{State}
@@ -10,9 +11,9 @@ use borrow.Author.Needs.{needs}
 use Rattle.entry_send_vote.proofs.view_of.Statement.{statement}
 use Rattle.entry_send_vote.proofs.view_of.Tie as tie
 
-member-view : (n : Node) (g : Group) (v : Vote) (heard0 heard1 : ℕ) → n .state ≡ Member g → v ≡ record { group = g; view = ownView n heard0 heard1 g }
+member-view : (n : Node) (g : Group) (a : Bool) (v : Vote) (heard0 heard1 : ℕ) → n .state ≡ Member g a → v ≡ record { group = g; view = ownView n heard0 heard1 g }
     → v .view ≡ viewIn n (n .state) heard0 heard1
-member-view n g v heard0 heard1 e k = ap (λ (x : Vote). x .view) k ∙ sym (ap (λ (s : State). viewIn n s heard0 heard1) e)
+member-view n g a v heard0 heard1 e k = ap (λ (x : Vote). x .view) k ∙ sym (ap (λ (s : State). viewIn n s heard0 heard1) e)
 
 enum-told : tie.Need-enum-told
 enum-told c = search needs
@@ -33,7 +34,7 @@ returns-2 : tie.Need-returns-2
 returns-2 c = search needs
 
 returns-3 : tie.Need-returns-3
-returns-3 c = member-view (c .before .before .before .before .args .n) _ _ _ _ (c .before .before .s .given .1) (c .own-vote .ensures)
+returns-3 c = member-view (c .before .before .before .before .args .n) _ _ _ _ _ (c .before .before .s .given .1) (c .own-vote .ensures)
 
 pub view-of-spec : {M : Type 1} → statement M
 view-of-spec =
