@@ -23,17 +23,6 @@ use Rattle.rules.proofs.States.{none-some, some-inj}
 use Rattle.rules.proofs.Counting.{no, any-none, quorum-none, quorum-some, quorum-node}
 use Rattle.rules.proofs.Slots.{slot-full, slot-empty}
 
--- no slots at all
-pub one-none : (numbers sets bases views : List ℕ) (n present : ℕ) → OneVote numbers sets bases views n present 0
-one-none numbers sets bases views n present p x lp lx hp hx h = absurd (false≢true (sym (has-none p) ∙ h))
-
--- fewer slots
-pub one-less : (numbers sets bases views : List ℕ) (n present lead a d : ℕ) → d ≡ present ∖ a → OneVote numbers sets bases views n present lead → OneVote numbers sets bases views n d lead
-one-less numbers sets bases views n present lead a d e one p x lp lx hp hx = one p x lp lx (part p hp) (part x hx)
-  where
-    part : (y : ℕ) → has y d ≡ true → has y present ≡ true
-    part y h = and-l (has y present) (not (has y a)) (sym (has-diff y present a) ∙ ap (has y) (sym e) ∙ h)
-
 -- K, the slots that are known to hold the vote of slot p, has p
 module _ (lead p K : ℕ) (e : K ≡ cond (has p lead) lead (single p)) where
   own : has p K ≡ true

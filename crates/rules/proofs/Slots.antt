@@ -1,19 +1,19 @@
 -- Votes in slots: what each slot holds, and the voters of a vote, of those that cast it. Assumes nothing.
 use mathlib.Core.Path.{_≡_, refl, sym, ap, ap₂, _∙_}
-use mathlib.Core.Bool.{Bool, true, false, not, _&&_, _||_, cond}
+use mathlib.Core.Bool.{Bool, true, false, not, _&&_, _||_, cond, false≢true}
 use mathlib.Core.List.{List}
 use mathlib.Core.Option.{Option, none, some}
 use Prim.Native.Nat.{ℕ}
 use lib.Dec.{eqb, ltb}
 use lib.ListN.{getD}
 use Rattle.sets.specs.Sets.{has, single, _∪_, _∩_, _∖_, those}
-use Rattle.sets.proofs.Booleans.{eqb-true}
-use Rattle.sets.proofs.Membership.{has-union, has-inter, has-diff, has-single, set-ext}
+use Rattle.sets.proofs.Booleans.{and-l, eqb-true}
+use Rattle.sets.proofs.Membership.{has-none, has-union, has-inter, has-diff, has-single, set-ext}
 use Rattle.sets.proofs.Nodes.{has-those}
 use Rattle.state.specs.declared.Group.{Group}
 use Rattle.rules.specs.declared.Vote.{Vote}
 use Rattle.rules.specs.OneCycle.{Ballots, sameGroup, sameVote, is, voters, withOwn, without}
-use Rattle.rules.specs.Ballots.{groupAt, voteAt, ballotsOf}
+use Rattle.rules.specs.Ballots.{groupAt, voteAt, ballotsOf, OneVote}
 
 -- the voters of a vote are those in its set that cast it
 pub equal-voters : (n m : ℕ) (b : Ballots) (v : Vote) → m ≡ those n (λ x. is v (b x)) → m ∩ v .group .set ≡ voters n b v
@@ -93,3 +93,16 @@ module _ (numbers sets bases views : List ℕ) where
       → is v (ballotsOf numbers sets bases views present p) ≡ (r && (s && eqb (v .view) (getD views p 0)))
   is-slot-test present p v h r s e k f =
       is-slot present p v ∙ ap₂ (λ (x y : Bool). x && (y && eqb (v .view) (getD views p 0))) (sym e) (sym (f ∙ ap (sameGroup (v .group)) k))
+
+-- ---- slots that hold one and the same vote
+
+-- no slots at all
+pub one-none : (numbers sets bases views : List ℕ) (n present : ℕ) → OneVote numbers sets bases views n present 0
+one-none numbers sets bases views n present p x lp lx hp hx h = absurd (false≢true (sym (has-none p) ∙ h))
+
+-- fewer slots
+pub one-less : (numbers sets bases views : List ℕ) (n present lead a d : ℕ) → d ≡ present ∖ a → OneVote numbers sets bases views n present lead → OneVote numbers sets bases views n d lead
+one-less numbers sets bases views n present lead a d e one p x lp lx hp hx = one p x lp lx (part p hp) (part x hx)
+  where
+    part : (y : ℕ) → has y d ≡ true → has y present ≡ true
+    part y h = and-l (has y present) (not (has y a)) (sym (has-diff y present a) ∙ ap (has y) (sym e) ∙ h)

@@ -1,33 +1,32 @@
 -- `entry_decide::next_state` meets its contract: the arrays hold the votes of the buffer, and the state names the rule. Assumes nothing.
-use mathlib.Core.Path.{_≡_, sym, ap, ap₂, _∙_}
+use mathlib.Core.Path.{_≡_, sym, ap, _∙_}
+use mathlib.Core.Bool.{Bool}
 use mathlib.Core.List.{List}
 use Prim.Native.Nat.{ℕ}
 use Rattle.state.specs.declared.Group.{Group}
 use Rattle.state.specs.declared.State.{State}
 use Rattle.state.specs.declared.State.the-variants.{Joining, Member}
 use Rattle.state.specs.declared.Node.{Node}
-use Rattle.rules.specs.declared.Vote.{Vote}
-use Rattle.rules.specs.OneCycle.{ofNodes, Ballots, memberDecides, joinerDecides}
+use Rattle.rules.specs.OneCycle.{Ballots, joinerDecides}
 use Rattle.rules.specs.Ballots.{ballotsOf}
-use Rattle.entry_send_vote.specs.Voting.{ownView}
-use Rattle.entry_decide.specs.Decide.{decision}
+use Rattle.entry_send_vote.specs.Voting.{pressOf}
+use Rattle.entry_decide.specs.Decide.{memberDecision, decision}
 use Rattle.entry_slots.specs.Slots.{bufferBallots}
 use Rattle.entry_slots.proofs.Buffers.{same-ballots}
 use borrow.Author.Needs.{needs}
 use Rattle.entry_decide.proofs.next_state.Statement.{statement}
 use Rattle.entry_decide.proofs.next_state.Tie as tie
 
-module _ (n : Node) (heard0 heard1 : ℕ) (votes : List ℕ) (arrived : ℕ) where
-  by-state : {t : State} → n .state ≡ t → decision n t heard0 heard1 votes arrived ≡ decision n (n .state) heard0 heard1 votes arrived
-  by-state e = sym (ap (λ (t : State). decision n t heard0 heard1 votes arrived) e)
+module _ (quiet : Bool) (n : Node) (heard0 heard1 requests : ℕ) (votes : List ℕ) (arrived : ℕ) where
+  by-state : {t : State} → n .state ≡ t → decision quiet n t heard0 heard1 requests votes arrived ≡ decision quiet n (n .state) heard0 heard1 requests votes arrived
+  by-state e = sym (ap (λ (t : State). decision quiet n t heard0 heard1 requests votes arrived) e)
 
   module _ {b : Ballots} {t : State} (k : b ≡ bufferBallots (n .nodes) (n .id) votes arrived) where
-    by-joining : n .state ≡ Joining → t ≡ joinerDecides (ofNodes (n .nodes)) (n .id) b → t ≡ decision n (n .state) heard0 heard1 votes arrived
-    by-joining e h = h ∙ ap (joinerDecides (ofNodes (n .nodes)) (n .id)) k ∙ by-state e
+    by-joining : n .state ≡ Joining → t ≡ joinerDecides (pressOf quiet n) (n .id) b → t ≡ decision quiet n (n .state) heard0 heard1 requests votes arrived
+    by-joining e h = h ∙ ap (joinerDecides (pressOf quiet n) (n .id)) k ∙ by-state e
 
-    by-vote : (g : Group) {v : Vote} → n .state ≡ Member g → v ≡ record { group = g; view = ownView n heard0 heard1 g }
-        → t ≡ memberDecides (ofNodes (n .nodes)) (n .id) v b → t ≡ decision n (n .state) heard0 heard1 votes arrived
-    by-vote g e o h = h ∙ ap₂ (memberDecides (ofNodes (n .nodes)) (n .id)) o k ∙ by-state e
+    by-member : (g : Group) (a : Bool) → n .state ≡ Member g a → t ≡ memberDecision quiet n g a heard0 heard1 requests b → t ≡ decision quiet n (n .state) heard0 heard1 requests votes arrived
+    by-member g a e h = h ∙ ap (memberDecision quiet n g a heard0 heard1 requests) k ∙ by-state e
 
 -- the arrays hold the votes of the buffer
 read : (c : tie.After-read-votes) → let a = c .before .before .before .before .before .before .before .before .args in let r = c .read-votes in ballotsOf (r .last .1 .1 .1 .1 .0) (r .last .1 .1 .1 .1 .1 .0) (r .last .1 .1 .1 .1 .1 .1 .0) (r .last .1 .1 .1 .1 .1 .1 .1 .0) (r .result) ≡ bufferBallots (a .n .nodes) (a .n .id) (a .votes .now) (a .arrived)
@@ -57,31 +56,27 @@ joiner-decides-requires c κs = search needs
 enum-known-s-2 : tie.Need-enum-known-s-2
 enum-known-s-2 c = search needs
 
-own-vote-requires : tie.Need-own-vote-requires
-own-vote-requires c κs = search needs
-
 member-decides-requires : tie.Need-member-decides-requires
 member-decides-requires c κs = search needs
 
 returns : tie.Need-returns
 returns c =
     let a = c .before .before .before .before .before .before .before .before .before .before .before .args in
-    by-state (a .n) (a .heard0) (a .heard1) (a .votes .now) (a .arrived) (c .before .s .given .1)
+    by-state (a .quiet) (a .n) (a .heard0) (a .heard1) (a .requests) (a .votes .now) (a .arrived) (c .before .s .given .1)
 
 returns-2 : tie.Need-returns-2
 returns-2 c =
     let e = c .before .before .before .before .before in
     let r = e .before .before in
     let a = r .before .before .before .before .before .before .before .before .args in
-    by-joining (a .n) (a .heard0) (a .heard1) (a .votes .now) (a .arrived) (read r) (e .enum-told .given .1) (c .joiner-decides .ensures)
+    by-joining (a .quiet) (a .n) (a .heard0) (a .heard1) (a .requests) (a .votes .now) (a .arrived) (read r) (e .enum-told .given .1) (c .joiner-decides .ensures)
 
 returns-3 : tie.Need-returns-3
 returns-3 c =
-    let o = c .before .before .before .before .before in
-    let e = o .before .before in
+    let e = c .before .before .before .before .before .before in
     let r = e .before .before in
     let a = r .before .before .before .before .before .before .before .before .args in
-    by-vote (a .n) (a .heard0) (a .heard1) (a .votes .now) (a .arrived) (read r) _ (e .s2 .given .1) (o .own-vote .ensures) (c .member-decides .ensures)
+    by-member (a .quiet) (a .n) (a .heard0) (a .heard1) (a .requests) (a .votes .now) (a .arrived) (read r) _ _ (e .s2 .given .1) (c .member-decides .ensures)
 
 pub next-state-spec : {M : Type 1} → statement M
 next-state-spec =
@@ -94,7 +89,6 @@ next-state-spec =
     enum-told
     joiner-decides-requires
     enum-known-s-2
-    own-vote-requires
     member-decides-requires
     returns
     returns-2

@@ -7,7 +7,7 @@ use Rattle.rules.specs.OneCycle.{Ballots, rival, memberDecides}
 use Rattle.rules.specs.Ballots.{ballotsOf}
 use Rattle.rules.proofs.Counting.{cond-taken, cond-left}
 use Rattle.rules.proofs.Own.{others, decides-out}
-use Rattle.rule_member.proofs.Candidates.{one-less}
+use Rattle.rules.proofs.Slots.{one-less}
 use borrow.Author.Needs.{needs}
 use Rattle.rule_member.proofs.halts.Statement.{statement}
 use Rattle.rule_member.proofs.halts.Tie as tie

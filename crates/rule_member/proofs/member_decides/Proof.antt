@@ -3,7 +3,7 @@ use native.Mathlib.Omega.{arith}
 use Rattle.rules.specs.OneCycle.{Ballots, voters, wins, withOwn}
 use Rattle.rules.specs.Ballots.{ballotsOf}
 use Rattle.rules.proofs.Own.{own-tally, wins-by, decides-on}
-use Rattle.rule_member.proofs.Candidates.{one-none}
+use Rattle.rules.proofs.Slots.{one-none}
 use borrow.Author.Needs.{needs}
 use Rattle.rule_member.proofs.member_decides.Statement.{statement}
 use Rattle.rule_member.proofs.member_decides.Tie as tie

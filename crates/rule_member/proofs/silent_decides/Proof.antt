@@ -8,7 +8,7 @@ use Rattle.rules.specs.OneCycle.{Ballots, rival, rests, silentDecides}
 use Rattle.rules.specs.Ballots.{ballotsOf}
 use Rattle.rules.proofs.Counting.{cond-taken, cond-left}
 use Rattle.rules.proofs.Own.{others, silent-out}
-use Rattle.rule_member.proofs.Candidates.{one-less}
+use Rattle.rules.proofs.Slots.{one-less}
 use borrow.Author.Needs.{needs}
 use Rattle.rule_member.proofs.silent_decides.Statement.{statement}
 use Rattle.rule_member.proofs.silent_decides.Tie as tie
