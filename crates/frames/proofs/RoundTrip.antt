@@ -230,17 +230,17 @@ Bits quiet a b r = (wrongRequest quiet (joinIn r) (requestIn r) ≡ false) × (a
 
 good-bits : (quiet : Bool) (a b : ℕ) → isGood (heartbeatOf quiet a b) ≡ true → Bits quiet a b (heartbeatOf quiet a b)
 unfolding heartbeatOf wrongRequest
-good-bits quiet a b good = go (eqb b 0) (eqb a 0) (eqb a (2 ^ 7)) quiet (eqb a (2 ^ 6)) refl refl refl refl good
+good-bits quiet a b good = go (eqb b 0) (eqb a 0) (eqb a (2 ^ 7)) (eqb a (2 ^ 6)) quiet refl refl refl refl good
   where
-    go : (z n j w r : Bool) → eqb b 0 ≡ z → eqb a 0 ≡ n → eqb a (2 ^ 7) ≡ j → eqb a (2 ^ 6) ≡ r
-        → let x = cond (not z) (beat.Refused Content) (cond n beat.Alive (cond j beat.Join (cond (w && r) beat.Request (beat.Refused Content)))) in
+    go : (z n j r w : Bool) → eqb b 0 ≡ z → eqb a 0 ≡ n → eqb a (2 ^ 7) ≡ j → eqb a (2 ^ 6) ≡ r
+        → let x = cond (not z) (beat.Refused Content) (cond n beat.Alive (cond j beat.Join (cond (r && w) beat.Request (beat.Refused Content)))) in
         isGood x ≡ true → Bits w a b x
-    go true true j w r ez en ej er g = (refl, eqb-true en, eqb-true ez)
-    go true false true w r ez en ej er g = (refl, eqb-true ej, eqb-true ez)
+    go true true j r w ez en ej er g = (refl, eqb-true en, eqb-true ez)
+    go true false true r w ez en ej er g = (refl, eqb-true ej, eqb-true ez)
     go true false false true true ez en ej er g = (refl, eqb-true er, eqb-true ez)
     go true false false true false ez en ej er g = absurd (true≢false (sym g))
-    go true false false false r ez en ej er g = absurd (true≢false (sym g))
-    go false n j w r ez en ej er g = absurd (true≢false (sym g))
+    go true false false false w ez en ej er g = absurd (true≢false (sym g))
+    go false n j r w ez en ej er g = absurd (true≢false (sym g))
 
 -- a heartbeat that is taken: no fault, and the two bytes of the first word
 taken-content : (quiet : Bool) (o : Option Fault) (s : List ℕ) → isGood (heartbeatUnless quiet o s) ≡ true

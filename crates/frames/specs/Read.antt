@@ -156,7 +156,7 @@ heartbeatOf quiet a b =
     cond (not (eqb b 0)) (beat.Refused Content)
     (cond (eqb a 0) beat.Alive
     (cond (eqb a (2 ^ 7)) beat.Join
-    (cond (quiet && eqb a (2 ^ 6)) beat.Request
+    (cond (eqb a (2 ^ 6) && quiet) beat.Request
     (beat.Refused Content))))
 
 abbrev pub heartbeatContent : Bool → List ℕ → HeartbeatRead
