@@ -31,7 +31,7 @@ use Rattle.frames.specs.Written.{wrongRequest, heartbeatFrame, wrongDrive, vote
 use Rattle.frames.specs.Read.{payloadOf, readHeartbeat, isGood, readVote, receiveVote}
 use Rattle.frames.proofs.Faults.{no-heartbeat, no-vote}
 use Rattle.frames.proofs.Payloads.{none-wrong}
-use Rattle.frames.proofs.RoundTrip.{vote-back}
+use Rattle.frames.proofs.RoundTrip.{unasked, vote-back}
 use Rattle.frames.proofs.TwoChannels.{neither-good, heardWith, SentOn, sent-payload, sent-on-a, sent-on-b}
 use Rattle.bus_units.specs.Units.{Copies, Bus, heartbeatSent, heartbeatGot, driveGot, unitHears, isAlive, isJoin, unitVote, unitVotes, voteCast, voteFramed, voteGot, received, unitsCycle}
 use Rattle.bus_units.specs.Faulty.{copyIf, heartbeatsOf, votesOf, busWith, busOf, framedCycle}
@@ -93,11 +93,6 @@ request-allowed quiet n q g a w = go quiet a (and-l (quiet || not a) (ltb (g .nu
     go true false e = refl
     go false true e = absurd (true≢false (sym e))
     go false false e = refl
-
--- a joining unit sends none
-no-request : (quiet : Bool) → wrongRequest quiet 1 0 ≡ false
-unfolding wrongRequest
-no-request quiet = refl
 
 -- ---- a bus that delivers carries the record
 
@@ -166,7 +161,7 @@ module _ (C : Config) (count : ℕ) (few : C .nodes ≤ 64) (counted : count < 6
         go : (t : Bool) → beats.Missed ≡ cond t beats.Missed beats.Missed
         go true = refl
         go false = refl
-    beat-came Joining t w k = beat-of 1 0 (lit< tt) (lit< tt) (no-request quiet) t k
+    beat-came Joining t w k = beat-of 1 0 (lit< tt) (lit< tt) (unasked quiet 1) t k
     beat-came (Member g true) t w k = beat-of 0 1 (lit< tt) (lit< tt) (request-allowed quiet N p g true w) t k
     beat-came (Member g false) t w k = beat-of 0 0 (lit< tt) (lit< tt) (request-allowed quiet N p g false w) t k
 

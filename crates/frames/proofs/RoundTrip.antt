@@ -152,6 +152,11 @@ bitsAnswer join request = cond (eqb join 0) (cond (eqb request 0) beat.Alive bea
 abbrev pub answerOf : Bool → ℕ → ℕ → HeartbeatRead
 answerOf quiet join request = cond (wrongRequest quiet join request) (beat.Refused Content) (bitsAnswer join request)
 
+-- without a request nothing is wrong
+pub unasked : (quiet : Bool) (join : ℕ) → wrongRequest quiet join 0 ≡ false
+unfolding wrongRequest
+unasked quiet join = refl
+
 module _ (start : ℕ) (h : List ℕ) (a : ℕ) (drive : List ℕ) (l : length h ≡ 5) where
   abbrev check : List ℕ
   check = bytesOf 3 (frameCheck start (h ++ (a ∷ 0 ∷ drive)))
