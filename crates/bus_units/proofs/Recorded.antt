@@ -3,7 +3,7 @@ use mathlib.Core.Path.{_≡_, refl, sym, ap, ap₂, _∙_, subst}
 use mathlib.Core.Logic.{_⊎_, inl, inr}
 use mathlib.Core.Bool.{Bool, true, false, not, _&&_, _||_, cond, false≢true}
 use mathlib.Core.List.{List, []}
-use mathlib.Core.Option.{Option}
+use mathlib.Core.Option.{Option, none, some}
 use Prim.Native.Nat.{ℕ, _≤_, _<_}
 use lib.Dec.{eqb, ltb, lit<}
 use lib.ListN.{getD}
@@ -13,9 +13,10 @@ use Rattle.sets.proofs.Membership.{has-diff, has-none, has-single, set-ext}
 use Rattle.sets.proofs.Nodes.{has-those, those-in, any-i}
 use Rattle.state.specs.declared.State.{State}
 use Rattle.state.specs.declared.State.the-variants.{Out, Joining, Member}
+use Rattle.state.specs.State.{formedState}
 use Rattle.rules.specs.declared.Faults.{Faults}
 use Rattle.rules.specs.declared.Config.{Config}
-use Rattle.rules.specs.OneCycle.{stopped, sendsMember}
+use Rattle.rules.specs.OneCycle.{stopped}
 use Rattle.rules.specs.Faults.{Row, at, tabulate, ruleOne, reaches, missesOther, disturbed, arriveIf, cycle}
 use Rattle.rules.proofs.Rows.{get-tabulate}
 use Rattle.rules.proofs.States.{none-some}
@@ -23,9 +24,9 @@ use Rattle.rules.specs.declared.Vote.{Vote}
 use Rattle.theorem_formed.proofs.Formed.{FormedRow, rule-one-formed}
 use Rattle.frames.specs.declared.HeartbeatReceived.{HeartbeatReceived}
 use Rattle.frames.specs.declared.HeartbeatReceived.the-variants as beats
-use Rattle.bus_units.specs.Units.{Bus, Copies, heartbeatGot, driveGot, voteCast, voteGot, received, unitsCycle}
-use Rattle.bus_units.specs.Carried.{Came, on-both, on-a, on-b, on-none, HeartbeatSent, VoteSent, sendsHeartbeat, heartbeatKind, Carries}
-use Rattle.bus_units.specs.Recorded.{Sound, lostOf, missedOf, isHeard, isSome, beatHeard, voteTaken, ruledAt, recordOf, Served, Untouched}
+use Rattle.bus_units.specs.Units.{Bus, heartbeatGot, driveGot, voteCast, voteFramed, voteGot, received, unitsCycle}
+use Rattle.bus_units.specs.Carried.{Came, on-both, on-a, on-b, on-none, HeartbeatSent, sendsHeartbeat, isSome, sendsVote, heartbeatKind, Carries}
+use Rattle.bus_units.specs.Recorded.{Sound, lostOf, missedOf, isHeard, beatHeard, voteTaken, ruledAt, recordOf, Served, Untouched}
 use Rattle.bus_units.proofs.Follow.{units-follow}
 use Rattle.bus_units.proofs.Delivered.{beat-came, ballot-came}
 
@@ -55,12 +56,11 @@ if-sent {Sent} {Refused} {a} {b} speaks false s (on-none x y) = subst (Came Sent
 beat-speaks : (count p : ℕ) (drive : List ℕ) (channel : ℕ) (z : List ℕ) (s : State) → HeartbeatSent count p drive s channel z → sendsHeartbeat s ≡ true
 beat-speaks count p drive channel z (Out r) k = absurd (none-some (k .5))
 beat-speaks count p drive channel z Joining k = refl
-beat-speaks count p drive channel z (Member g) k = refl
+beat-speaks count p drive channel z (Member g a) k = refl
 
-vote-speaks : (N count : ℕ) (h : Copies) (p channel : ℕ) (z : List ℕ) (s : State) → VoteSent N count h p s channel z → sendsMember s ≡ true
-vote-speaks N count h p channel z (Out r) k = absurd (none-some k)
-vote-speaks N count h p channel z Joining k = absurd (none-some k)
-vote-speaks N count h p channel z (Member g) k = refl
+vote-speaks : (count p channel : ℕ) (z : List ℕ) (o : Option Vote) → voteFramed count p o channel ≡ some z → isSome o ≡ true
+vote-speaks count p channel z none k = absurd (none-some k)
+vote-speaks count p channel z (some v) k = refl
 
 -- ---- the marks of one phase
 
@@ -124,12 +124,15 @@ module _ (N : ℕ) (sent : ℕ → Bool) (got : ℕ → ℕ → Bool) where
 
 -- ---- a sound bus carries the record of what came
 
-module _ (C : Config) (count : ℕ) (few : C .nodes ≤ 64) (counted : count < 64) (bus : Bus) (stop start : ℕ) (row : Row) (formed : FormedRow (C .nodes) row) where
+module _ (C : Config) (count : ℕ) (few : C .nodes ≤ 64) (counted : count < 64) (bus : Bus) (stop start : ℕ) (row : Row) (formed : FormedRow C row) where
   abbrev N : ℕ
   N = C .nodes
 
+  abbrev quiet : Bool
+  quiet = C .quiet
+
   abbrev c : Faults
-  c = recordOf N count bus stop start row
+  c = recordOf C count bus stop start row
 
   abbrev r : Row
   r = ruleOne N c row
@@ -137,6 +140,13 @@ module _ (C : Config) (count : ℕ) (few : C .nodes ≤ 64) (counted : count < 6
   now-is : (p : ℕ) → p < N → at r p ≡ ruledAt stop start row p
   unfolding recordOf ruleOne
   now-is p l = get-tabulate N p (ruledAt stop start row) stopped l
+
+  -- what unit p casts
+  abbrev cast : ℕ → Option Vote
+  cast p = voteCast C count (bus .heartbeats) p (at r p)
+
+  formed-at : (p : ℕ) → p < N → formedState quiet p N (at r p) ≡ true
+  formed-at p l = rule-one-formed C c row formed p l
 
   pub bus-recorded : Sound C count bus r → Carries C count bus c r
   unfolding recordOf
@@ -146,17 +156,17 @@ module _ (C : Config) (count : ℕ) (few : C .nodes ≤ 64) (counted : count < 6
             let x = sound .beats p q 0 lp lq o (lit< tt) in
             let y = sound .beats p q 1 lp lq o (lit< tt) in
             let k = if-sent (sendsHeartbeat (at r p)) (left x || left y) (λ channel z h. beat-speaks count p (sound .drive p lp) channel z (at r p) h) (of-copies x y) in
-            heard (left x || left y) (at r p) (heartbeatGot count (bus .heartbeats) q p) (beat-came C count few counted bus c p q lp (sound .drive p lp) (at r p) (left x || left y) k .0)
-            ∙ ap (λ (b : Bool). cond b (heartbeatKind (at r p)) beats.Missed) (sym (reaches-by N (λ x. sendsHeartbeat (ruledAt stop start row x)) (beatHeard count bus) p q lp lq o
-            ∙ ap (λ (s : State). not (sendsHeartbeat s && not (beatHeard count bus q p))) (sym (now-is p lp))));
-        ballots = λ p q lp lq o.
-            let x = sound .ballots p q 0 lp lq o (lit< tt) in
-            let y = sound .ballots p q 1 lp lq o (lit< tt) in
-            let k = if-sent (sendsMember (at r p)) (left x || left y) (λ channel z h. vote-speaks N count (bus .heartbeats) p channel z (at r p) h) (of-copies x y) in
-            arrived p (left x || left y) (at r p) (received (voteGot N count (bus .votes) q p))
-            (ballot-came C count few counted bus c p q lp (at r p) (left x || left y) (rule-one-formed N c row formed p lp) k)
-            ∙ ap (λ (b : Bool). arriveIf b (voteCast N count (bus .heartbeats) p (at r p))) (sym (reaches-by N (λ x. sendsMember (ruledAt stop start row x)) (voteTaken N count bus) p q lp lq o
-            ∙ ap (λ (s : State). not (sendsMember s && not (voteTaken N count bus q p))) (sym (now-is p lp))));
+            heard (left x || left y) (at r p) (heartbeatGot quiet count (bus .heartbeats) q p) (beat-came C count few counted bus c p q lp (sound .drive p lp) (at r p) (left x || left y) (formed-at p lp) k .0)
+            ∙ ap (λ (b : Bool). cond b (heartbeatKind (at r p)) beats.Missed) (sym (reaches-by N (λ x. sendsHeartbeat (ruledAt stop start row x)) (beatHeard quiet count bus) p q lp lq o
+            ∙ ap (λ (s : State). not (sendsHeartbeat s && not (beatHeard quiet count bus q p))) (sym (now-is p lp))));
+        ballots = λ p q lp lq d.
+            let x = sound .ballots p q 0 lp lq d (lit< tt) in
+            let y = sound .ballots p q 1 lp lq d (lit< tt) in
+            let o = cast p in
+            let k = if-sent (isSome o) (left x || left y) (λ channel z h. vote-speaks count p channel z o h) (of-copies x y) in
+            arrived (left x || left y) o (received (voteGot N count (bus .votes) q p)) (ballot-came C count few counted bus c p q lp (at r p) (left x || left y) (formed-at p lp) k)
+            ∙ ap (λ (b : Bool). arriveIf b o) (sym (reaches-by N (λ x. sendsVote C count (bus .heartbeats) x (ruledAt stop start row x)) (voteTaken N count bus) p q lp lq d
+            ∙ ap (λ (s : State). not (sendsVote C count (bus .heartbeats) p s && not (voteTaken N count bus q p))) (sym (now-is p lp))));
       }
     where
       heard : (t : Bool) (s : State) (got : HeartbeatReceived) → got ≡ cond t (heartbeatKind s) beats.Missed
@@ -166,48 +176,46 @@ module _ (C : Config) (count : ℕ) (few : C .nodes ≤ 64) (counted : count < 6
           go : (t : Bool) (s : State) → cond t (heartbeatKind s) beats.Missed ≡ cond (not (sendsHeartbeat s && not (isHeard (cond t (heartbeatKind s) beats.Missed)))) (heartbeatKind s) beats.Missed
           go true (Out z) = refl
           go true Joining = refl
-          go true (Member g) = refl
+          go true (Member g true) = refl
+          go true (Member g false) = refl
           go false (Out z) = refl
           go false Joining = refl
-          go false (Member g) = refl
+          go false (Member g a) = refl
 
-      arrived : (p : ℕ) (t : Bool) (s : State) (got : Option Vote) → got ≡ arriveIf t (voteCast N count (bus .heartbeats) p s)
-          → got ≡ arriveIf (not (sendsMember s && not (isSome got))) (voteCast N count (bus .heartbeats) p s)
-      arrived p t s got e = subst (λ (x : Option Vote). x ≡ arriveIf (not (sendsMember s && not (isSome x))) (voteCast N count (bus .heartbeats) p s)) (sym e) (go t s)
+      arrived : (t : Bool) (o got : Option Vote) → got ≡ arriveIf t o → got ≡ arriveIf (not (isSome o && not (isSome got))) o
+      arrived t o got e = subst (λ (x : Option Vote). x ≡ arriveIf (not (isSome o && not (isSome x))) o) (sym e) (go t o)
         where
-          go : (t : Bool) (s : State) → arriveIf t (voteCast N count (bus .heartbeats) p s)
-              ≡ arriveIf (not (sendsMember s && not (isSome (arriveIf t (voteCast N count (bus .heartbeats) p s))))) (voteCast N count (bus .heartbeats) p s)
-          go true (Out z) = refl
-          go true Joining = refl
-          go true (Member g) = refl
-          go false (Out z) = refl
-          go false Joining = refl
-          go false (Member g) = refl
+          go : (t : Bool) (o : Option Vote) → arriveIf t o ≡ arriveIf (not (isSome o && not (isSome (arriveIf t o)))) o
+          go true none = refl
+          go true (some v) = refl
+          go false none = refl
+          go false (some v) = refl
 
   -- a unit that hears another finds exactly the drive bytes that the other has, and none of one that it does not hear
   pub drives-recorded : (sound : Sound C count bus r) (p q : ℕ) (l : p < N) → q < N → eqb p q ≡ false
-      → driveGot count (bus .heartbeats) q p ≡ cond (beatHeard count bus q p) (sound .drive p l) []
+      → driveGot quiet count (bus .heartbeats) q p ≡ cond (beatHeard quiet count bus q p) (sound .drive p l) []
   drives-recorded sound p q lp lq o =
       let x = sound .beats p q 0 lp lq o (lit< tt) in
       let y = sound .beats p q 1 lp lq o (lit< tt) in
       let k = if-sent (sendsHeartbeat (at r p)) (left x || left y) (λ channel z h. beat-speaks count p (sound .drive p lp) channel z (at r p) h) (of-copies x y) in
-      let g = beat-came C count few counted bus c p q lp (sound .drive p lp) (at r p) (left x || left y) k in
+      let g = beat-came C count few counted bus c p q lp (sound .drive p lp) (at r p) (left x || left y) (formed-at p lp) k in
       g .1 ∙ ap (λ (b : Bool). cond b (sound .drive p lp) []) (sym (ap isHeard (g .0) ∙ go (left x || left y) (at r p)))
     where
       go : (t : Bool) (s : State) → isHeard (cond t (heartbeatKind s) beats.Missed) ≡ (sendsHeartbeat s && t)
       go true (Out z) = refl
       go true Joining = refl
-      go true (Member g) = refl
+      go true (Member g true) = refl
+      go true (Member g false) = refl
       go false (Out z) = refl
       go false Joining = refl
-      go false (Member g) = refl
+      go false (Member g a) = refl
 
 -- so that on every such bus the units' cycle is the rules' cycle under that record
-pub units-recorded : (C : Config) (count : ℕ) (bus : Bus) (stop start : ℕ) (row : Row) → C .nodes ≤ 64 → count < 64 → FormedRow (C .nodes) row
-    → Sound C count bus (ruleOne (C .nodes) (recordOf (C .nodes) count bus stop start row) row)
-    → unitsCycle C count bus (recordOf (C .nodes) count bus stop start row) row ≡ cycle C (recordOf (C .nodes) count bus stop start row) row
+pub units-recorded : (C : Config) (count : ℕ) (bus : Bus) (stop start : ℕ) (row : Row) → C .nodes ≤ 64 → count < 64 → FormedRow C row
+    → Sound C count bus (ruleOne (C .nodes) (recordOf C count bus stop start row) row)
+    → unitsCycle C count bus (recordOf C count bus stop start row) row ≡ cycle C (recordOf C count bus stop start row) row
 units-recorded C count bus stop start row few counted formed sound =
-    units-follow C count bus (recordOf (C .nodes) count bus stop start row) row (bus-recorded C count few counted bus stop start row formed sound)
+    units-follow C count bus (recordOf C count bus stop start row) row (bus-recorded C count few counted bus stop start row formed sound)
 
 -- ---- whom the record leaves untouched: who is not stopped and is served in both phases, and nobody else
 
@@ -241,37 +249,46 @@ module _ (N : ℕ) (sent : ℕ → Bool) (got : ℕ → ℕ → Bool) (q : ℕ) 
           keep true k = k
           keep false k = refl
 
-module _ (N count : ℕ) (bus : Bus) (stop start : ℕ) (row : Row) (q : ℕ) (l : q < N) where
+module _ (C : Config) (count : ℕ) (bus : Bus) (stop start : ℕ) (row : Row) (q : ℕ) (l : q < C .nodes) where
+  abbrev nodes : ℕ
+  nodes = C .nodes
+
+  abbrev hears : ℕ → ℕ → Bool
+  hears = beatHeard (C .quiet) count bus
+
+  abbrev takes : ℕ → ℕ → Bool
+  takes = voteTaken (C .nodes) count bus
+
   abbrev sent : ℕ → Bool
   sent p = sendsHeartbeat (ruledAt stop start row p)
 
-  abbrev cast : ℕ → Bool
-  cast p = sendsMember (ruledAt stop start row p)
+  abbrev voted : ℕ → Bool
+  voted p = sendsVote C count (bus .heartbeats) p (ruledAt stop start row p)
 
-  pub recorded-untouched : Untouched N count bus stop start row q → disturbed (recordOf N count bus stop start row) q ≡ false
+  pub recorded-untouched : Untouched C count bus stop start row q → disturbed (recordOf C count bus stop start row) q ≡ false
   unfolding recordOf disturbed
   recorded-untouched calm =
       rw (
         calm .runs,
-        not-lost N sent (beatHeard count bus) q l (calm .beats),
-        not-lost N cast (voteTaken N count bus) q l (calm .votes),
-        none-missed N sent (beatHeard count bus) q l (calm .beats),
-        none-missed N cast (voteTaken N count bus) q l (calm .votes),
+        not-lost nodes sent hears q l (calm .beats),
+        not-lost nodes voted takes q l (calm .votes),
+        none-missed nodes sent hears q l (calm .beats),
+        none-missed nodes voted takes q l (calm .votes),
       )
 
-  pub untouched-recorded : disturbed (recordOf N count bus stop start row) q ≡ false → Untouched N count bus stop start row q
+  pub untouched-recorded : disturbed (recordOf C count bus stop start row) q ≡ false → Untouched C count bus stop start row q
   unfolding recordOf disturbed
   untouched-recorded e =
       let a = has q stop in
-      let b = has q (lostOf N sent (beatHeard count bus)) in
-      let c = has q (lostOf N cast (voteTaken N count bus)) in
-      let d = missesOther q (getD (tabulate N (missedOf N sent (beatHeard count bus))) q 0) in
-      let f = missesOther q (getD (tabulate N (missedOf N cast (voteTaken N count bus))) q 0) in
+      let b = has q (lostOf nodes sent hears) in
+      let c = has q (lostOf nodes voted takes) in
+      let d = missesOther q (getD (tabulate nodes (missedOf nodes sent hears)) q 0) in
+      let f = missesOther q (getD (tabulate nodes (missedOf nodes voted takes)) q 0) in
       let abcd = or-f-l (a || b || c || d) f e in
       let abc = or-f-l (a || b || c) d abcd in
       let ab = or-f-l (a || b) c abc in
       record {
         runs = or-f-l a b ab;
-        beats = served-by N sent (beatHeard count bus) q l (or-f-r a b ab) (or-f-r (a || b || c) d abcd);
-        votes = served-by N cast (voteTaken N count bus) q l (or-f-r (a || b) c abc) (or-f-r (a || b || c || d) f e);
+        beats = served-by nodes sent hears q l (or-f-r a b ab) (or-f-r (a || b || c) d abcd);
+        votes = served-by nodes voted takes q l (or-f-r (a || b) c abc) (or-f-r (a || b || c || d) f e);
       }

@@ -12,7 +12,7 @@ use Rattle.theorem_formed.proofs.Formed.{FormedRow, cycle-formed}
 use Rattle.bus_units.specs.Run.{cycleCount, framedRows, plainRows, lastRow}
 use Rattle.bus_units.proofs.Delivered.{framed-is-plain}
 
-pub framed-run-is-plain : (C : Config) (n : ℕ) (row : Row) (cs : List Faults) → C .nodes ≤ 64 → FormedRow (C .nodes) row → framedRows C n row cs ≡ plainRows C row cs
+pub framed-run-is-plain : (C : Config) (n : ℕ) (row : Row) (cs : List Faults) → C .nodes ≤ 64 → FormedRow C row → framedRows C n row cs ≡ plainRows C row cs
 unfolding framedRows plainRows
 framed-run-is-plain C n row [] few w = refl
 framed-run-is-plain C n row (c ∷ cs) few w =

@@ -1,8 +1,8 @@
 -- The frames of a cycle as they are shown: where each stands, how many bytes they are, and that a run shows those of its last cycle. Assumes nothing.
 use mathlib.Core.Path.{_≡_, refl, sym, ap, _∙_}
-use mathlib.Core.Bool.{Bool, true, false}
+use mathlib.Core.Bool.{Bool, true, false, cond}
 use mathlib.Core.List.{List, [], _∷_, _++_}
-use mathlib.Core.Option.{Option}
+use mathlib.Core.Option.{Option, none, some}
 use Prim.Native.Nat.{ℕ, zero, suc, _+_, _-_, _*_, _≤_, _<_}
 use native.Mathlib.Nat.{add-zero}
 use native.Mathlib.Omega.{arith}
@@ -12,12 +12,13 @@ use lib.Seq.{getD-append-add}
 use borrow.Author.Tests.{eqb-true, eqb-false}
 use Rattle.state.specs.declared.State.{State}
 use Rattle.state.specs.declared.State.the-variants.{Out, Joining, Member}
+use Rattle.rules.specs.declared.Vote.{Vote}
 use Rattle.rules.specs.declared.Faults.{Faults}
 use Rattle.rules.specs.declared.Config.{Config}
 use Rattle.rules.specs.Faults.{Row, at, ruleOne}
 use Rattle.frames.specs.Written.{heartbeatFrame, voteFrame}
 use Rattle.frames.proofs.Lengths.{length-heartbeat, length-vote}
-use Rattle.bus_units.specs.Units.{Copies, heartbeatSent, unitVote, voteSent}
+use Rattle.bus_units.specs.Units.{heartbeatSent, voteCast, voteFramed, voteSent}
 use Rattle.bus_units.specs.Faulty.{present, busOf, framedCycle}
 use Rattle.bus_units.specs.Run.{cycleCount, framedRows, lastRow, padded, inSlots, heartbeatsShown, votesShown, framesShown, framesLength, framesAfter}
 
@@ -71,14 +72,13 @@ slot-byte (suc n) sent q i s l k = go (eqb q n) refl (slot-byte n sent q i (fewe
 
 beat-short : (count q : ℕ) (s : State) (channel : ℕ) → length (present (heartbeatSent 0 0 [] count q s channel)) ≤ 36
 beat-short count q (Out r) channel = lit≤ tt
-beat-short count q Joining channel = let e : length (heartbeatFrame q 1 0 0 count channel []) ≡ 10 = length-heartbeat q 1 0 0 count channel [] in omega arith
-beat-short count q (Member g) channel = let e : length (heartbeatFrame q 0 0 0 count channel []) ≡ 10 = length-heartbeat q 0 0 0 count channel [] in omega arith
+beat-short count q Joining channel = let e : length (heartbeatFrame q 1 0 0 0 count channel []) ≡ 10 = length-heartbeat q 1 0 0 0 count channel [] in omega arith
+beat-short count q (Member g a) channel =
+    let e : length (heartbeatFrame q 0 (cond a 1 0) 0 0 count channel []) ≡ 10 = length-heartbeat q 0 (cond a 1 0) 0 0 count channel [] in omega arith
 
-vote-short : (N count : ℕ) (h : Copies) (q : ℕ) (s : State) (channel : ℕ) → length (present (voteSent N count h q s channel)) ≤ 36
-vote-short N count h q (Out r) channel = lit≤ tt
-vote-short N count h q Joining channel = lit≤ tt
-vote-short N count h q (Member g) channel =
-    let e : length (voteFrame q (unitVote N count h q g) count channel) ≡ 36 = length-vote q (unitVote N count h q g) count channel in omega arith
+vote-short : (count q : ℕ) (o : Option Vote) (channel : ℕ) → length (present (voteFramed count q o channel)) ≤ 36
+vote-short count q none channel = lit≤ tt
+vote-short count q (some v) channel = let e : length (voteFrame q v count channel) ≡ 36 = length-vote q v count channel in omega arith
 
 -- ---- the four parts
 
@@ -108,13 +108,13 @@ module _ (C : Config) (count : ℕ) (c : Faults) (row : Row) where
   beat channel q = heartbeatSent 0 0 [] count q (at r q) channel
 
   abbrev ballot : ℕ → ℕ → Option (List ℕ)
-  ballot channel q = voteSent (C .nodes) count (busOf C count c row .heartbeats) q (at r q) channel
+  ballot channel q = voteSent C count (busOf C count c row .heartbeats) q (at r q) channel
 
   pub beats-short : (channel : ℕ) → Short 64 (beat channel)
   beats-short channel q l = beat-short count q (at r q) channel
 
   pub ballots-short : (channel : ℕ) → Short 64 (ballot channel)
-  ballots-short channel q l = vote-short (C .nodes) count (busOf C count c row .heartbeats) q (at r q) channel
+  ballots-short channel q l = vote-short count q (voteCast C count (busOf C count c row .heartbeats) q (at r q)) channel
 
   pub beats-length : (channel : ℕ) → length (heartbeatsShown C count c row channel) ≡ 2304
   unfolding heartbeatsShown

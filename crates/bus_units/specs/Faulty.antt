@@ -25,14 +25,14 @@ unfoldable pub heartbeatsOf : (drive : ℕ → List ℕ) → (count : ℕ) → F
 heartbeatsOf drive count c r p q channel = copyIf (heartbeatReaches c p q) (heartbeatSent 0 0 (drive p) count p (at r p) channel)
 
 -- the votes, by the heartbeats h that were heard
-unfoldable pub votesOf : (N count : ℕ) → Faults → Row → Copies → Copies
-votesOf N count c r h p q channel = copyIf (voteReaches c p q) (voteSent N count h p (at r p) channel)
+unfoldable pub votesOf : Config → (count : ℕ) → Faults → Row → Copies → Copies
+votesOf C count c r h p q channel = copyIf (voteReaches c p q) (voteSent C count h p (at r p) channel)
 
 unfoldable pub busWith : (drive : ℕ → List ℕ) → Config → (count : ℕ) → Faults → Row → Bus
 busWith drive C count c row =
     let r = ruleOne (C .nodes) c row in
     let h = heartbeatsOf drive count c r in
-    record { heartbeats = h; votes = votesOf (C .nodes) count c r h }
+    record { heartbeats = h; votes = votesOf C count c r h }
 
 -- that of a run
 unfoldable pub busOf : Config → (count : ℕ) → Faults → Row → Bus

@@ -43,7 +43,7 @@ heartbeatsShown C count c row channel = inSlots 64 (λ q. heartbeatSent 0 0 runD
 
 unfoldable pub votesShown : Config → (count : ℕ) → Faults → Row → (channel : ℕ) → List ℕ
 votesShown C count c row channel =
-    inSlots 64 (λ q. voteSent (C .nodes) count (busOf C count c row .heartbeats) q (at (ruleOne (C .nodes) c row) q) channel)
+    inSlots 64 (λ q. voteSent C count (busOf C count c row .heartbeats) q (at (ruleOne (C .nodes) c row) q) channel)
 
 -- heartbeats on A and on B, votes on A and on B
 unfoldable pub framesShown : Config → (count : ℕ) → Faults → Row → List ℕ

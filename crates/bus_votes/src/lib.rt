@@ -24,16 +24,16 @@ fn put_vote(
     sets: &[u64; 64],
     bases: &[u64; 64],
     views: &[u64; 64],
-    members: u64,
+    voting: u64,
     count: u32,
     channel: u32,
     q: usize,
 ) -> [u8; 2304]
     requires { ⌜ (q < 64) × (count < 64) ⌝ }
-    ensures { λ r. ⌜ r ≡ withSent q (votePut (now (numbers .entry)) (now (sets .entry)) (now (bases .entry)) (now (views .entry)) members count channel q) all ⌝ }
+    ensures { λ r. ⌜ r ≡ withSent q (votePut (now (numbers .entry)) (now (sets .entry)) (now (bases .entry)) (now (views .entry)) voting count channel q) all ⌝ }
 {
     let v = rule_steps::vote_at(numbers, sets, bases, views, q);
-    if sets::contains(members, q) {
+    if sets::contains(voting, q) {
         bus_channels::put(
             all,
             q,
@@ -50,17 +50,17 @@ pub fn votes(
     sets: &[u64; 64],
     bases: &[u64; 64],
     views: &[u64; 64],
-    members: u64,
+    voting: u64,
     count: u32,
     channel: u32,
 ) -> [u8; 2304]
     requires { ⌜ (n ≤ 64) × (count < 64) ⌝ }
-    ensures { λ r. ⌜ r ≡ channelOf n (votePut (now (numbers .entry)) (now (sets .entry)) (now (bases .entry)) (now (views .entry)) members count channel) ⌝ }
+    ensures { λ r. ⌜ r ≡ channelOf n (votePut (now (numbers .entry)) (now (sets .entry)) (now (bases .entry)) (now (views .entry)) voting count channel) ⌝ }
 {
     let mut all = [0u8; 2304];
     let mut q: usize = 0;
     while q < n {
-        let next = put_vote(all, numbers, sets, bases, views, members, count, channel, q);
+        let next = put_vote(all, numbers, sets, bases, views, voting, count, channel, q);
         all = next;
         q += 1;
     }

@@ -30,31 +30,37 @@ pub fn fault_code(f: Fault) -> u32
     }
 }
 
-// A heartbeat by its first word.
-fn heartbeat_of(a: u8, b: u8) -> HeartbeatRead
-    ensures { λ r. ⌜ r ≡ heartbeatOf a b ⌝ }
+// A heartbeat by its first word. The mode is looked at last: most heartbeats have no bit set.
+fn heartbeat_of(quiet: bool, a: u8, b: u8) -> HeartbeatRead
+    ensures { λ r. ⌜ r ≡ heartbeatOf quiet a b ⌝ }
 {
-    if a % 128 != 0 {
-        return HeartbeatRead::Refused(Fault::Content);
-    }
     if b != 0 {
         return HeartbeatRead::Refused(Fault::Content);
     }
     if a == 0 {
-        HeartbeatRead::Alive
+        return HeartbeatRead::Alive;
+    }
+    if a == 128 {
+        return HeartbeatRead::Join;
+    }
+    if a != 64 {
+        return HeartbeatRead::Refused(Fault::Content);
+    }
+    if quiet {
+        HeartbeatRead::Request
     } else {
-        HeartbeatRead::Join
+        HeartbeatRead::Refused(Fault::Content)
     }
 }
 
 // The heartbeat of node q in a cycle, from the copy on a channel.
-pub fn read_heartbeat(q: u32, cycle: u32, channel: u32, s: &[u8]) -> HeartbeatRead
+pub fn read_heartbeat(quiet: bool, q: u32, cycle: u32, channel: u32, s: &[u8]) -> HeartbeatRead
     requires { ⌜ q < 64 ⌝ }
-    ensures { λ r. ⌜ r ≡ readHeartbeat q cycle channel (now (s .entry)) ⌝ }
+    ensures { λ r. ⌜ r ≡ readHeartbeat quiet q cycle channel (now (s .entry)) ⌝ }
 {
     match frame_checks::look(q + 1, cycle, true, channel, s) {
         Looked::Refused(f) => HeartbeatRead::Refused(f),
-        Looked::Due => heartbeat_of(s[5], s[6]),
+        Looked::Due => heartbeat_of(quiet, s[5], s[6]),
     }
 }
 
@@ -119,6 +125,7 @@ fn is_good(r: HeartbeatRead) -> bool
     match r {
         HeartbeatRead::Alive => true,
         HeartbeatRead::Join => true,
+        HeartbeatRead::Request => true,
         HeartbeatRead::Refused(_) => false,
     }
 }
@@ -134,6 +141,10 @@ fn counted_on(copy: Copy, r: HeartbeatRead) -> HeartbeatCounted
         },
         HeartbeatRead::Join => HeartbeatCounted {
             heard: HeartbeatReceived::Join,
+            copy,
+        },
+        HeartbeatRead::Request => HeartbeatCounted {
+            heard: HeartbeatReceived::Request,
             copy,
         },
         HeartbeatRead::Refused(_) => HeartbeatCounted {
@@ -154,12 +165,12 @@ fn same_payload(a: &[u8], b: &[u8]) -> bool
 }
 
 // The heartbeat of node q in a cycle, from both copies: one good copy counts; two count if their payloads are equal.
-pub fn receive_heartbeat(q: u32, cycle: u32, a: &[u8], b: &[u8]) -> HeartbeatCounted
+pub fn receive_heartbeat(quiet: bool, q: u32, cycle: u32, a: &[u8], b: &[u8]) -> HeartbeatCounted
     requires { ⌜ q < 64 ⌝ }
-    ensures { λ r. ⌜ r ≡ receiveHeartbeat q cycle (now (a .entry)) (now (b .entry)) ⌝ }
+    ensures { λ r. ⌜ r ≡ receiveHeartbeat quiet q cycle (now (a .entry)) (now (b .entry)) ⌝ }
 {
-    let on_a = read_heartbeat(q, cycle, 0, a);
-    let on_b = read_heartbeat(q, cycle, 1, b);
+    let on_a = read_heartbeat(quiet, q, cycle, 0, a);
+    let on_b = read_heartbeat(quiet, q, cycle, 1, b);
     if !is_good(on_a) {
         return counted_on(Copy::OnB, on_b);
     }

@@ -49,10 +49,11 @@ pub fn wrong_drive(drive: &[u8]) -> bool
     252 < drive.len()
 }
 
-// A heartbeat with these drive bytes, into a buffer as long as it.
+// A heartbeat with these bits and drive bytes, into a buffer as long as it.
 pub fn write_heartbeat(
     q: u32,
     join: u32,
+    request: u32,
     sync: u32,
     startup: u32,
     cycle: u32,
@@ -62,16 +63,19 @@ pub fn write_heartbeat(
 )
     requires { ⌜ q < 64 ⌝ }
     requires { ⌜ join < 2 ⌝ }
+    requires { ⌜ request < 2 ⌝ }
     requires { ⌜ sync < 2 ⌝ }
     requires { ⌜ startup ≤ sync ⌝ }
     requires { ⌜ cycle < 64 ⌝ }
     requires { ⌜ wrongDrive (now drive) ≡ false ⌝ }
     requires { ⌜ length (now frame) ≡ 10 + length (now drive) ⌝ }
-    ensures { λ _. ⌜ now (frame .exit) ≡ heartbeatFrame q join sync startup cycle channel (now (drive .entry)) ⌝ }
+    ensures { λ _. ⌜ now (frame .exit) ≡ heartbeatFrame q join request sync startup cycle channel (now (drive .entry)) ⌝ }
 {
     let words = 1 + (drive.len() / 2) as u32;
     parts::put(frame, 0, &header_bytes(sync, startup, q + 1, words, cycle));
-    parts::put(frame, 5, &[(join * 128) as u8, 0]);
+    let bits = join * 128 + request * 64;
+    let first = bits as u8;
+    parts::put(frame, 5, &[first, 0]);
     parts::put(frame, 7, drive);
     let end = 7 + drive.len();
     let check = crc::frame_check(crc::channel_start(channel), &frame[..end]);

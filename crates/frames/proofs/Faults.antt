@@ -130,9 +130,9 @@ module _ (q cycle channel : ℕ) (s : List ℕ) where
   abbrev pub heartbeatFault : Option Fault
   heartbeatFault = faultOf (q + 1) cycle (wordsDue true s) (indicatorsOf true s) channel s
 
-  pub heartbeat-read : (o : Option Fault) → heartbeatFault ≡ o → readHeartbeat q cycle channel s ≡ heartbeatUnless o s
+  pub heartbeat-read : (quiet : Bool) (o : Option Fault) → heartbeatFault ≡ o → readHeartbeat quiet q cycle channel s ≡ heartbeatUnless quiet o s
   unfolding readHeartbeat wordsDue indicatorsOf
-  heartbeat-read o e = ap (λ (x : Option Fault). heartbeatUnless x s) e
+  heartbeat-read quiet o e = ap (λ (x : Option Fault). heartbeatUnless quiet x s) e
 
   abbrev pub voteFault : Option Fault
   voteFault = faultOf (q + 65) cycle (wordsDue false s) (indicatorsOf false s) channel s
@@ -142,9 +142,9 @@ module _ (q cycle channel : ℕ) (s : List ℕ) where
   vote-read n o e = ap (λ (x : Option Fault). voteUnless x n q s) e
 
 -- a copy that is not there is refused with 5
-pub no-heartbeat : (q cycle channel : ℕ) → readHeartbeat q cycle channel [] ≡ beat.Refused Length
+pub no-heartbeat : (quiet : Bool) (q cycle channel : ℕ) → readHeartbeat quiet q cycle channel [] ≡ beat.Refused Length
 unfolding wrongLength
-no-heartbeat q cycle channel = heartbeat-read q cycle channel [] (some Length) (by-length (q + 1) cycle (wordsDue true []) (indicatorsOf true []) channel [] refl)
+no-heartbeat quiet q cycle channel = heartbeat-read q cycle channel [] quiet (some Length) (by-length (q + 1) cycle (wordsDue true []) (indicatorsOf true []) channel [] refl)
 
 pub no-vote : (n q cycle channel : ℕ) → readVote n q cycle channel [] ≡ vote.Refused Length
 unfolding wrongLength

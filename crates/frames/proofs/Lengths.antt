@@ -1,13 +1,13 @@
 -- How long the parts of a frame are, and the frames. Assumes nothing.
 use mathlib.Core.Path.{_≡_, refl, ap, _∙_}
 use mathlib.Core.List.{List, _∷_, _++_}
-use Prim.Native.Nat.{ℕ, _+_, _*_, _/_, _^_}
+use Prim.Native.Nat.{ℕ, _+_, _/_}
 use native.Mathlib.Omega.{arith}
 use lib.ListN.{length, length-append}
 use Rattle.bigendian.proofs.Laws.{length-bytes}
 use Rattle.crc.specs.Crc.{channelStart}
 use Rattle.rules.specs.declared.Vote.{Vote}
-use Rattle.frames.specs.Written.{header, frame, heartbeatFrame, votePayload, voteFrame}
+use Rattle.frames.specs.Written.{header, frame, firstByte, heartbeatFrame, votePayload, voteFrame}
 
 pub length-header : (sync startup number words cycle : ℕ) → length (header sync startup number words cycle) ≡ 5
 unfolding header
@@ -28,10 +28,11 @@ pub length-payload : (v : Vote) → length (votePayload v) ≡ 28
 unfolding votePayload
 length-payload v = simp (length-append, length-bytes)
 
-pub length-heartbeat : (q join sync startup cycle channel : ℕ) (drive : List ℕ) → length (heartbeatFrame q join sync startup cycle channel drive) ≡ 10 + length drive
+pub length-heartbeat : (q join request sync startup cycle channel : ℕ) (drive : List ℕ)
+    → length (heartbeatFrame q join request sync startup cycle channel drive) ≡ 10 + length drive
 unfolding heartbeatFrame
-length-heartbeat q join sync startup cycle channel drive =
-    let e = length-with (channelStart channel) sync startup (q + 1) (1 + length drive / 2) cycle (length (join * 2 ^ 7 ∷ 0 ∷ drive)) (join * 2 ^ 7 ∷ 0 ∷ drive) refl in
+length-heartbeat q join request sync startup cycle channel drive =
+    let e = length-with (channelStart channel) sync startup (q + 1) (1 + length drive / 2) cycle (length (firstByte join request ∷ 0 ∷ drive)) (firstByte join request ∷ 0 ∷ drive) refl in
     omega arith
 
 pub length-vote : (q : ℕ) (v : Vote) (cycle channel : ℕ) → length (voteFrame q v cycle channel) ≡ 36

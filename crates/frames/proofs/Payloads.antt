@@ -2,7 +2,7 @@
 use mathlib.Core.Path.{_≡_, refl, sym, ap, ap₂, _∙_}
 use mathlib.Core.List.{List, [], _∷_, _++_, append-assoc}
 use mathlib.Core.Bool.{false}
-use Prim.Native.Nat.{ℕ, zero, suc, _+_, _-_, _*_, _/_, _%_, _^_, _≤_, _<_}
+use Prim.Native.Nat.{ℕ, zero, suc, _+_, _-_, _/_, _%_, _≤_, _<_}
 use native.Mathlib.Omega.{arith}
 use lib.Dec.{eqb, ltb}
 use lib.ListN.{length, take, drop, getD, length-append, length-drop, take-append-drop}
@@ -11,7 +11,7 @@ use borrow.Author.Tests.{eqb-false, ne-eqb, ltb-false, le-ltb}
 use Rattle.sets.proofs.Booleans.{or-f-l, or-f-r}
 use Rattle.bigendian.proofs.Laws.{length-bytes}
 use Rattle.crc.specs.Crc.{channelStart}
-use Rattle.frames.specs.Written.{header, frame, heartbeatFrame, wrongDrive}
+use Rattle.frames.specs.Written.{header, frame, firstByte, heartbeatFrame, wrongDrive}
 use Rattle.frames.specs.Read.{payloadOf, driveOf}
 use Rattle.frames.proofs.Lengths.{length-header}
 
@@ -46,12 +46,12 @@ payload-written : (start : ℕ) (h p : List ℕ) → length h ≡ 5 → payloadO
 unfolding frame
 payload-written start h p l = between h p _ l (length-bytes 3 _)
 
-module _ (q join sync startup cycle channel : ℕ) (drive : List ℕ) where
-  pub heartbeat-payload : payloadOf (heartbeatFrame q join sync startup cycle channel drive) ≡ join * 2 ^ 7 ∷ 0 ∷ drive
+module _ (q join request sync startup cycle channel : ℕ) (drive : List ℕ) where
+  pub heartbeat-payload : payloadOf (heartbeatFrame q join request sync startup cycle channel drive) ≡ firstByte join request ∷ 0 ∷ drive
   unfolding heartbeatFrame
-  heartbeat-payload = payload-written (channelStart channel) (header sync startup (q + 1) (1 + length drive / 2) cycle) (join * 2 ^ 7 ∷ 0 ∷ drive) (length-header sync startup (q + 1) (1 + length drive / 2) cycle)
+  heartbeat-payload = payload-written (channelStart channel) (header sync startup (q + 1) (1 + length drive / 2) cycle) (firstByte join request ∷ 0 ∷ drive) (length-header sync startup (q + 1) (1 + length drive / 2) cycle)
 
-  pub heartbeat-drive : driveOf (heartbeatFrame q join sync startup cycle channel drive) ≡ drive
+  pub heartbeat-drive : driveOf (heartbeatFrame q join request sync startup cycle channel drive) ≡ drive
   unfolding driveOf
   heartbeat-drive = ap (drop 2) heartbeat-payload
 

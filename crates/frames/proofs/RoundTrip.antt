@@ -1,18 +1,18 @@
 -- What is written reads back, and a frame that is accepted is, byte for byte, the one that would be written. Assumes nothing.
 use mathlib.Core.Path.{_≡_, refl, sym, ap, ap₂, _∙_, subst}
 use mathlib.Core.Logic.{_⊎_, inl, inr}
-use mathlib.Core.Bool.{Bool, true, false, _&&_, cond}
+use mathlib.Core.Bool.{Bool, true, false, not, _&&_, cond, true≢false}
 use mathlib.Core.List.{List, [], _∷_, _++_, append-assoc, append-nil}
 use mathlib.Core.Option.{Option, none, some}
 use Prim.Native.Nat.{ℕ, _+_, _-_, _*_, _/_, _%_, _^_, _≤_, _<_}
-use native.Mathlib.Nat.{mod-lt}
+use native.Mathlib.Nat.{mod-lt, add-zero}
 use native.Mathlib.Omega.{arith}
 use lib.Dec.{eqb, lit<}
 use lib.ListN.{length, take, drop, getD, length-append, drop-of-length-le}
 use lib.Pow.{pow-pos, pow-mono}
 use lib.Bits.{and-le-r}
 use lib.Seq.{take-at, getD-at}
-use borrow.Author.Tests.{eq-eqb, ne-eqb, eqb-false, le-leb, leb-true}
+use borrow.Author.Tests.{ne-eqb, le-leb, leb-true}
 use Rattle.sets.specs.Sets.{has, subset, below, _∩_}
 use Rattle.sets.proofs.Booleans.{and-l, and-r, eqb-true}
 use Rattle.sets.proofs.Membership.{bit2}
@@ -26,8 +26,8 @@ use Rattle.frames.specs.declared.VoteRead.the-variants as vote
 use Rattle.frames.specs.declared.Fault.{Fault}
 use Rattle.frames.specs.declared.Fault.the-variants.{Content}
 use Rattle.frames.specs.declared.HeartbeatRead.{HeartbeatRead}
-use Rattle.frames.specs.Written.{header, frame, heartbeatFrame, wrongDrive, votePayload, voteFrame, formedVote}
-use Rattle.frames.specs.Read.{syncOf, startupOf, wordsOf, heartbeatWords, voteWords, faultOf, heartbeatIndicators, voteIndicators, driveOf, heartbeatOf, heartbeatContent, heartbeatUnless, readHeartbeat, payloadVote, voteUnless, readVote}
+use Rattle.frames.specs.Written.{header, frame, firstByte, wrongRequest, heartbeatFrame, wrongDrive, votePayload, voteFrame, formedVote}
+use Rattle.frames.specs.Read.{syncOf, startupOf, wordsOf, heartbeatWords, voteWords, faultOf, heartbeatIndicators, voteIndicators, driveOf, heartbeatOf, heartbeatContent, heartbeatUnless, readHeartbeat, isGood, payloadVote, voteUnless, readVote}
 use Rattle.frames.proofs.Faults.{Clean, clean, clean-none, vote-length, heartbeat-length, all-five}
 use Rattle.frames.proofs.Lengths.{length-header, length-frame, length-with, length-payload}
 use Rattle.frames.proofs.Payloads.{drive-bounds, drive-good, heartbeat-drive, length-drive, payload-split, payload-rest}
@@ -145,9 +145,17 @@ module _ (number cycle : ℕ) (due indicators : Bool) (channel : ℕ) (s : List 
 
 -- ---- heartbeats
 
--- the answer of a heartbeat with that join bit
-abbrev pub joinAnswer : ℕ → HeartbeatRead
-joinAnswer join = cond (eqb join 0) beat.Alive beat.Join
+-- the answer of a heartbeat with these bits; and with any: one with a request that may not be gives 10
+abbrev pub bitsAnswer : ℕ → ℕ → HeartbeatRead
+bitsAnswer join request = cond (eqb join 0) (cond (eqb request 0) beat.Alive beat.Request) beat.Join
+
+abbrev pub answerOf : Bool → ℕ → ℕ → HeartbeatRead
+answerOf quiet join request = cond (wrongRequest quiet join request) (beat.Refused Content) (bitsAnswer join request)
+
+-- without a request nothing is wrong
+pub unasked : (quiet : Bool) (join : ℕ) → wrongRequest quiet join 0 ≡ false
+unfolding wrongRequest
+unasked quiet join = refl
 
 module _ (start : ℕ) (h : List ℕ) (a : ℕ) (drive : List ℕ) (l : length h ≡ 5) where
   abbrev check : List ℕ
@@ -163,27 +171,34 @@ module _ (start : ℕ) (h : List ℕ) (a : ℕ) (drive : List ℕ) (l : length h
       let e : (h ++ (a ∷ 0 ∷ drive)) ++ check ≡ (h ++ (a ∷ [])) ++ (0 ∷ (drive ++ check)) = simp append-assoc in
       ap (λ (s : List ℕ). getD s 6 0) e ∙ getD-at (h ++ (a ∷ [])) 0 (drive ++ check) 0 6 (simp (length-append, l))
 
-content-back : (join : ℕ) (s : List ℕ) → join < 2 → getD s 5 0 ≡ join * 2 ^ 7 → getD s 6 0 ≡ 0 → heartbeatContent s ≡ joinAnswer join
-unfolding heartbeatOf
-content-back join s l a b = go (bit2 join l)
+content-back : (quiet : Bool) (join request : ℕ) (s : List ℕ) → join < 2 → request < 2 → getD s 5 0 ≡ firstByte join request → getD s 6 0 ≡ 0
+    → heartbeatContent quiet s ≡ answerOf quiet join request
+unfolding heartbeatOf wrongRequest
+content-back quiet join request s lj lr a b = go quiet (bit2 join lj) (bit2 request lr)
   where
-    go : (join ≡ 0) ⊎ (join ≡ 1) → heartbeatContent s ≡ joinAnswer join
-    go (inl e) = rw (a, b, e)
-    go (inr e) = rw (a, b, e)
+    go : (quiet : Bool) → (join ≡ 0) ⊎ (join ≡ 1) → (request ≡ 0) ⊎ (request ≡ 1) → heartbeatContent quiet s ≡ answerOf quiet join request
+    go true (inl j) (inl r) = rw (a, b, j, r)
+    go true (inl j) (inr r) = rw (a, b, j, r)
+    go true (inr j) (inl r) = rw (a, b, j, r)
+    go true (inr j) (inr r) = rw (a, b, j, r)
+    go false (inl j) (inl r) = rw (a, b, j, r)
+    go false (inl j) (inr r) = rw (a, b, j, r)
+    go false (inr j) (inl r) = rw (a, b, j, r)
+    go false (inr j) (inr r) = rw (a, b, j, r)
 
 -- the length field of a heartbeat with such drive bytes
 words-fit : (drive : List ℕ) → wrongDrive drive ≡ false → (1 + length drive / 2 < 2 ^ 7) × (2 + length drive ≡ 2 * (1 + length drive / 2))
 words-fit drive e = let b = drive-bounds drive e in (omega arith, omega arith)
 
--- what is written is read as the same join bit and the same drive bytes
-pub heartbeat-back : (q join sync startup cycle channel : ℕ) (drive : List ℕ) → q < 64 → join < 2 → sync < 2 → startup ≤ sync → cycle < 64
-    → wrongDrive drive ≡ false
-    → let s = heartbeatFrame q join sync startup cycle channel drive in
-    (readHeartbeat q cycle channel s ≡ joinAnswer join) × (driveOf s ≡ drive)
+-- what is written is read as the same bits and the same drive bytes; a request that may not be is refused
+pub heartbeat-back : (quiet : Bool) (q join request sync startup cycle channel : ℕ) (drive : List ℕ) → q < 64 → join < 2 → request < 2 → sync < 2 → startup ≤ sync
+    → cycle < 64 → wrongDrive drive ≡ false
+    → let s = heartbeatFrame q join request sync startup cycle channel drive in
+    (readHeartbeat quiet q cycle channel s ≡ answerOf quiet join request) × (driveOf s ≡ drive)
 unfolding readHeartbeat heartbeatFrame
-heartbeat-back q join sync startup cycle channel drive hq hj hs ht hc hd =
+heartbeat-back quiet q join request sync startup cycle channel drive hq hj hr hs ht hc hd =
     let words = 1 + length drive / 2 in
-    let payload : List ℕ = join * 2 ^ 7 ∷ 0 ∷ drive in
+    let payload : List ℕ = firstByte join request ∷ 0 ∷ drive in
     let s = sent sync startup (q + 1) words cycle channel payload in
     let b : startup < 2 = omega arith in
     let n : q + 1 < 2 ^ 11 = omega arith in
@@ -196,81 +211,101 @@ heartbeat-back q join sync startup cycle channel drive hq hj hs ht hc hd =
     let c = sent-clean sync startup (q + 1) words cycle channel payload hs b n (w .0) hc k o i in
     let h = header sync startup (q + 1) words cycle in
     let l : length h ≡ 5 = length-header sync startup (q + 1) words cycle in (
-      rw (clean-none (q + 1) cycle (heartbeatWords s) (heartbeatIndicators s) channel s c)
-          (content-back join s hj (first-byte _ h (join * 2 ^ 7) drive l) (second-byte _ h (join * 2 ^ 7) drive l)),
-      heartbeat-drive q join sync startup cycle channel drive,
+      ap (λ (x : Option Fault). heartbeatUnless quiet x s) (clean-none (q + 1) cycle (heartbeatWords s) (heartbeatIndicators s) channel s c)
+          ∙ content-back quiet join request s hj hr (first-byte _ h (firstByte join request) drive l) (second-byte _ h (firstByte join request) drive l),
+      heartbeat-drive q join request sync startup cycle channel drive,
     )
 
--- an answer that is no refusal
-not-refused : (f : Fault) (t : Bool) → beat.Refused f ≡ cond t beat.Alive beat.Join → ⊥
-not-refused f true e = let z : _≡_ {A = ℕ} 0 1 = cc in omega arith
-not-refused f false e = let z : _≡_ {A = ℕ} 0 1 = cc in omega arith
+-- the bits of what was read
+abbrev pub joinIn : HeartbeatRead → ℕ
+joinIn beat.Alive = 0
+joinIn beat.Join = 1
+joinIn beat.Request = 0
+joinIn (beat.Refused f) = 0
 
-same-join : (a b : Bool) → cond a beat.Alive beat.Join ≡ cond b beat.Alive beat.Join → a ≡ b
-same-join true true e = refl
-same-join false false e = refl
-same-join true false e = absurd (let z : _≡_ {A = ℕ} 0 1 = cc in omega arith)
-same-join false true e = absurd (let z : _≡_ {A = ℕ} 0 1 = cc in omega arith)
+abbrev pub requestIn : HeartbeatRead → ℕ
+requestIn beat.Alive = 0
+requestIn beat.Join = 0
+requestIn beat.Request = 1
+requestIn (beat.Refused f) = 0
 
-picked : (a b c d : Bool) → cond (a && b) (cond c beat.Alive beat.Join) (beat.Refused Content) ≡ cond d beat.Alive beat.Join
-    → (a ≡ true) × (b ≡ true) × (c ≡ d)
-picked true true c d e = (refl, refl, same-join c d e)
-picked true false c d e = absurd (not-refused Content d e)
-picked false b c d e = absurd (not-refused Content d e)
+-- a first word of these bits, which may be
+abbrev Bits : Bool → ℕ → ℕ → HeartbeatRead → Type 0
+Bits quiet a b r = (wrongRequest quiet (joinIn r) (requestIn r) ≡ false) × (a ≡ firstByte (joinIn r) (requestIn r)) × (b ≡ 0)
 
--- a byte with nothing but the join bit
-join-byte : (x join : ℕ) → x < 256 → join < 2 → x % 2 ^ 7 ≡ 0 → eqb x 0 ≡ eqb join 0 → x ≡ join * 2 ^ 7
-join-byte x join lx lj r e = go (bit2 join lj)
+good-bits : (quiet : Bool) (a b : ℕ) → isGood (heartbeatOf quiet a b) ≡ true → Bits quiet a b (heartbeatOf quiet a b)
+unfolding heartbeatOf wrongRequest
+good-bits quiet a b good = go (eqb b 0) (eqb a 0) (eqb a (2 ^ 7)) (eqb a (2 ^ 6)) quiet refl refl refl refl good
   where
-    go : (join ≡ 0) ⊎ (join ≡ 1) → x ≡ join * 2 ^ 7
-    go (inl j) = let z : x ≡ 0 = eqb-true (e ∙ eq-eqb join 0 j) in omega arith
-    go (inr j) = let z : x ≡ 0 → ⊥ = eqb-false x 0 (e ∙ ap (λ (y : ℕ). eqb y 0) j) in omega arith
+    go : (z n j r w : Bool) → eqb b 0 ≡ z → eqb a 0 ≡ n → eqb a (2 ^ 7) ≡ j → eqb a (2 ^ 6) ≡ r
+        → let x = cond (not z) (beat.Refused Content) (cond n beat.Alive (cond j beat.Join (cond (r && w) beat.Request (beat.Refused Content)))) in
+        isGood x ≡ true → Bits w a b x
+    go true true j r w ez en ej er g = (refl, eqb-true en, eqb-true ez)
+    go true false true r w ez en ej er g = (refl, eqb-true ej, eqb-true ez)
+    go true false false true true ez en ej er g = (refl, eqb-true er, eqb-true ez)
+    go true false false true false ez en ej er g = absurd (true≢false (sym g))
+    go true false false false w ez en ej er g = absurd (true≢false (sym g))
+    go false n j r w ez en ej er g = absurd (true≢false (sym g))
 
 -- a heartbeat that is taken: no fault, and the two bytes of the first word
-taken-content : (o : Option Fault) (join : ℕ) (s : List ℕ) → join < 2 → Bytes s → heartbeatUnless o s ≡ joinAnswer join
-    → (o ≡ none) × (getD s 5 0 ≡ join * 2 ^ 7) × (getD s 6 0 ≡ 0)
-unfolding heartbeatOf
-taken-content (some f) join s l b e = absurd (not-refused f (eqb join 0) e)
-taken-content none join s l b e =
-    let p = picked (eqb (getD s 5 0 % 2 ^ 7) 0) (eqb (getD s 6 0) 0) (eqb (getD s 5 0) 0) (eqb join 0) e in
-    (refl, join-byte (getD s 5 0) join (b 5) l (eqb-true (p .0)) (p .2), eqb-true (p .1))
+taken-content : (quiet : Bool) (o : Option Fault) (s : List ℕ) → isGood (heartbeatUnless quiet o s) ≡ true
+    → (o ≡ none) × Bits quiet (getD s 5 0) (getD s 6 0) (heartbeatUnless quiet o s)
+taken-content quiet (some f) s g = absurd (true≢false (sym g))
+taken-content quiet none s g = (refl, good-bits quiet (getD s 5 0) (getD s 6 0) g)
 
--- a heartbeat that is accepted is, byte for byte, the one that would be written from its join bit, indicators and drive bytes
-pub heartbeat-only : (q join cycle channel : ℕ) (s : List ℕ) → join < 2 → Bytes s → readHeartbeat q cycle channel s ≡ joinAnswer join
-    → (startupOf s ≤ syncOf s) × (wrongDrive (driveOf s) ≡ false) × (s ≡ heartbeatFrame q join (syncOf s) (startupOf s) cycle channel (driveOf s))
+-- a heartbeat that is accepted is, byte for byte, the one that would be written from its bits, indicators and drive bytes; and these can be written
+pub heartbeat-only : (quiet : Bool) (q cycle channel : ℕ) (s : List ℕ) → Bytes s
+    → let r = readHeartbeat quiet q cycle channel s in
+    isGood r ≡ true
+    → (wrongRequest quiet (joinIn r) (requestIn r) ≡ false) × (startupOf s ≤ syncOf s) × (wrongDrive (driveOf s) ≡ false)
+    × (s ≡ heartbeatFrame q (joinIn r) (requestIn r) (syncOf s) (startupOf s) cycle channel (driveOf s))
 unfolding readHeartbeat heartbeatFrame
-heartbeat-only q join cycle channel s l b e =
-    let p = taken-content (faultOf (q + 1) cycle (heartbeatWords s) (heartbeatIndicators s) channel s) join s l b e in
+heartbeat-only quiet q cycle channel s b e =
+    let r = readHeartbeat quiet q cycle channel s in
+    let p = taken-content quiet (faultOf (q + 1) cycle (heartbeatWords s) (heartbeatIndicators s) channel s) s e in
     let c = clean (q + 1) cycle (heartbeatWords s) (heartbeatIndicators s) channel s (p .0) in
     let n = heartbeat-length (q + 1) cycle (heartbeatIndicators s) channel s (p .0) in
     let d = length-drive s (n .0) in
     let z = c .sized in
     let w : 1 + length (driveOf s) / 2 ≡ wordsOf s = omega arith in
     let h = header (syncOf s) (startupOf s) (q + 1) (1 + length (driveOf s) / 2) cycle in
-    let m : List ℕ = join * 2 ^ 7 ∷ 0 ∷ driveOf s in
+    let m : List ℕ = firstByte (joinIn r) (requestIn r) ∷ 0 ∷ driveOf s in
     let k : length (h ++ m) ≡ length s - 3 = let a = length-append h m in let x = length-header (syncOf s) (startupOf s) (q + 1) (1 + length (driveOf s) / 2) cycle in omega arith in
     let v : length (h ++ m) ≡ 5 + 2 * wordsOf s = omega arith in
-    let r : m ++ drop (length s - 3) s ≡ drop 5 s =
-    ap₂ (λ (x y : ℕ). (x ∷ y ∷ driveOf s) ++ drop (length s - 3) s) (sym (p .1)) (sym (p .2)) ∙ ap (λ (x : List ℕ). x ++ drop (length s - 3) s) (sym (payload-split s (n .0))) ∙ payload-rest s (n .0) in
-    let t : h ++ drop 5 s ≡ s =
+    let t : m ++ drop (length s - 3) s ≡ drop 5 s =
+    ap₂ (λ (x y : ℕ). (x ∷ y ∷ driveOf s) ++ drop (length s - 3) s) (sym (p .1 .1)) (sym (p .1 .2)) ∙ ap (λ (x : List ℕ). x ++ drop (length s - 3) s) (sym (payload-split s (n .0))) ∙ payload-rest s (n .0) in
+    let u : h ++ drop 5 s ≡ s =
     ap (λ (x : ℕ). header (syncOf s) (startupOf s) (q + 1) x cycle ++ drop 5 s) w ∙ taken-header (q + 1) cycle (heartbeatWords s) (heartbeatIndicators s) channel s b c in
-    let o : (h ++ m) ++ drop (length s - 3) s ≡ s = append-assoc h m (drop (length s - 3) s) ∙ ap (λ (x : List ℕ). h ++ x) r ∙ t in
+    let o : (h ++ m) ++ drop (length s - 3) s ≡ s = append-assoc h m (drop (length s - 3) s) ∙ ap (λ (x : List ℕ). h ++ x) t ∙ u in
     let even : length (driveOf s) % 2 ≡ 0 = omega (arith, n .2) in
     let most : length (driveOf s) ≤ 252 = omega (arith, n .1) in (
+      p .1 .0,
       leb-true (startupOf s) (syncOf s) (c .indicated),
       drive-good (driveOf s) even most,
       taken-frame (q + 1) cycle (heartbeatWords s) (heartbeatIndicators s) channel s b c (h ++ m) v (ap (λ (x : ℕ). (h ++ m) ++ drop x s) k ∙ o),
     )
 
--- with no drive bytes the frame is that of paper 01, one word with the join bit and nothing else; a frame of one word is read as there, where any other length was refused;
+-- without a request the frame is that of a press that votes in every cycle, all but the join bit 0 in its first word; and any frame without one is read alike in both
+pub no-request : (q join sync startup cycle channel : ℕ) (drive : List ℕ)
+    → (heartbeatFrame q join 0 sync startup cycle channel drive ≡ frame (channelStart channel) (header sync startup (q + 1) (1 + length drive / 2) cycle ++ (join * 2 ^ 7 ∷ 0 ∷ drive)))
+    × ((s : List ℕ) → (getD s 5 0 ≡ 2 ^ 6 → ⊥) → readHeartbeat true q cycle channel s ≡ readHeartbeat false q cycle channel s)
+unfolding heartbeatFrame readHeartbeat heartbeatOf
+no-request q join sync startup cycle channel drive =
+    (ap (λ (x : ℕ). frame (channelStart channel) (header sync startup (q + 1) (1 + length drive / 2) cycle ++ (x ∷ 0 ∷ drive))) (add-zero (join * 2 ^ 7)), λ s o. go s (ne-eqb (getD s 5 0) (2 ^ 6) o) (faultOf (q + 1) cycle (heartbeatWords s) (heartbeatIndicators s) channel s))
+  where
+    go : (s : List ℕ) → eqb (getD s 5 0) (2 ^ 6) ≡ false → (o : Option Fault) → heartbeatUnless true o s ≡ heartbeatUnless false o s
+    go s e (some f) = refl
+    go s e none = rw e
+
+-- with no drive bytes the frame is that of paper 01, one word with its bits and nothing else; a frame of one word is read as there, where any other length was refused;
 -- and there are then no drive bytes in it
-pub no-drive : (q join sync startup cycle channel : ℕ)
-    → (heartbeatFrame q join sync startup cycle channel [] ≡ frame (channelStart channel) (header sync startup (q + 1) 1 cycle ++ (join * 2 ^ 7 ∷ 0 ∷ [])))
+pub no-drive : (quiet : Bool) (q join request sync startup cycle channel : ℕ)
+    → (heartbeatFrame q join request sync startup cycle channel [] ≡ frame (channelStart channel) (header sync startup (q + 1) 1 cycle ++ (firstByte join request ∷ 0 ∷ [])))
     × ((s : List ℕ) → wordsOf s ≡ 1
-    → readHeartbeat q cycle channel s ≡ heartbeatUnless (faultOf (q + 1) cycle (eqb (wordsOf s) 1) (heartbeatIndicators s) channel s) s)
+    → readHeartbeat quiet q cycle channel s ≡ heartbeatUnless quiet (faultOf (q + 1) cycle (eqb (wordsOf s) 1) (heartbeatIndicators s) channel s) s)
     × ((s : List ℕ) → length s ≡ 10 → driveOf s ≡ [])
 unfolding heartbeatFrame readHeartbeat
-no-drive q join sync startup cycle channel = (refl, (λ s e. rw e), λ s e. nothing (driveOf s) (let l = length-drive s (omega arith) in omega arith))
+no-drive quiet q join request sync startup cycle channel = (refl, (λ s e. rw e), λ s e. nothing (driveOf s) (let l = length-drive s (omega arith) in omega arith))
   where
     nothing : (l : List ℕ) → length l ≡ 0 → l ≡ []
     nothing [] e = refl

@@ -1,4 +1,4 @@
--- Paper 01, "Frames" and refusals 5 to 10, with request 2 of paper 02: heartbeat and vote frames as they are read, and the two-channel rule.
+-- Paper 01, "Frames" and refusals 5 to 10, with requests 2 and 3 of paper 02: heartbeat and vote frames as they are read, and the two-channel rule.
 -- Assumes nothing.
 --     faultCode: the number of a frame's refusal, 5 to 10
 --     field: k bits of the header
@@ -12,7 +12,7 @@
 --     faultOf: the first refusal of 5 to 9 that holds
 --     payloadOf: what stands between header and frame check
 --     driveOf: the drive's part of a heartbeat's payload
---     heartbeatOf: what the first word of a heartbeat says, by its two bytes, or refusal 10
+--     heartbeatOf: what the first word of a heartbeat says, by its two bytes, in a quiet press or another, or refusal 10
 --     heartbeatContent: the same of a frame
 --     heartbeatUnless: the same, unless the frame is refused
 --     readHeartbeat: the heartbeat of node q from one copy
@@ -148,21 +148,27 @@ payloadOf s = take (length s - 8) (drop 5 s)
 unfoldable pub driveOf : List ℕ → List ℕ
 driveOf s = drop 2 (payloadOf s)
 
--- ---- heartbeats: "bit 7 of the first byte is join, all else 0"; "10: heartbeat bits that must be 0". Request 2: "10 looks at the first word alone"
+-- ---- heartbeats: "bit 7 of the first byte is join, all else 0"; "10: heartbeat bits that must be 0". Request 2: "10 looks at the first word alone". Request 3: "In a
+-- quiet press bit 6 of a heartbeat's first byte becomes a request. Read .. it gives 10 together with the join bit, and in mode 0 also alone"
 
-unfoldable pub heartbeatOf : ℕ → ℕ → HeartbeatRead
-heartbeatOf a b = cond (eqb (a % 2 ^ 7) 0 && eqb b 0) (cond (eqb a 0) beat.Alive beat.Join) (beat.Refused Content)
+unfoldable pub heartbeatOf : Bool → ℕ → ℕ → HeartbeatRead
+heartbeatOf quiet a b =
+    cond (not (eqb b 0)) (beat.Refused Content)
+    (cond (eqb a 0) beat.Alive
+    (cond (eqb a (2 ^ 7)) beat.Join
+    (cond (eqb a (2 ^ 6) && quiet) beat.Request
+    (beat.Refused Content))))
 
-abbrev pub heartbeatContent : List ℕ → HeartbeatRead
-heartbeatContent s = heartbeatOf (getD s 5 0) (getD s 6 0)
+abbrev pub heartbeatContent : Bool → List ℕ → HeartbeatRead
+heartbeatContent quiet s = heartbeatOf quiet (getD s 5 0) (getD s 6 0)
 
-abbrev pub heartbeatUnless : Option Fault → List ℕ → HeartbeatRead
-heartbeatUnless none s = heartbeatContent s
-heartbeatUnless (some f) s = beat.Refused f
+abbrev pub heartbeatUnless : Bool → Option Fault → List ℕ → HeartbeatRead
+heartbeatUnless quiet none s = heartbeatContent quiet s
+heartbeatUnless quiet (some f) s = beat.Refused f
 
 -- the heartbeat of node q in a cycle, from the copy on a channel
-unfoldable pub readHeartbeat : ℕ → ℕ → ℕ → List ℕ → HeartbeatRead
-readHeartbeat q cycle channel s = heartbeatUnless (faultOf (q + 1) cycle (heartbeatWords s) (heartbeatIndicators s) channel s) s
+unfoldable pub readHeartbeat : Bool → ℕ → ℕ → ℕ → List ℕ → HeartbeatRead
+readHeartbeat quiet q cycle channel s = heartbeatUnless quiet (faultOf (q + 1) cycle (heartbeatWords s) (heartbeatIndicators s) channel s) s
 
 -- ---- votes
 
@@ -186,11 +192,13 @@ readVote n q cycle channel s = voteUnless (faultOf (q + 65) cycle (voteWords s) 
 abbrev pub isGood : HeartbeatRead → Bool
 isGood beat.Alive = true
 isGood beat.Join = true
+isGood beat.Request = true
 isGood (beat.Refused f) = false
 
 abbrev pub countedOn : Copy → HeartbeatRead → HeartbeatCounted
 countedOn copy beat.Alive = record { heard = beats.Alive; copy = copy }
 countedOn copy beat.Join = record { heard = beats.Join; copy = copy }
+countedOn copy beat.Request = record { heard = beats.Request; copy = copy }
 countedOn copy (beat.Refused f) = record { heard = beats.Missed; copy = Neither }
 
 abbrev pub countedOf : HeartbeatRead → HeartbeatRead → Bool → HeartbeatCounted
@@ -201,8 +209,8 @@ unfoldable pub samePayload : List ℕ → List ℕ → Bool
 samePayload a b = sameBytes (payloadOf a) (payloadOf b)
 
 -- what comes of the copies a on channel A and b on channel B of a heartbeat of node q
-unfoldable pub receiveHeartbeat : ℕ → ℕ → List ℕ → List ℕ → HeartbeatCounted
-receiveHeartbeat q cycle a b = countedOf (readHeartbeat q cycle 0 a) (readHeartbeat q cycle 1 b) (samePayload a b)
+unfoldable pub receiveHeartbeat : Bool → ℕ → ℕ → List ℕ → List ℕ → HeartbeatCounted
+receiveHeartbeat quiet q cycle a b = countedOf (readHeartbeat quiet q cycle 0 a) (readHeartbeat quiet q cycle 1 b) (samePayload a b)
 
 -- the drive bytes with it, none where it is missed
 abbrev pub driveCounted : Copy → List ℕ → List ℕ → List ℕ
@@ -210,8 +218,8 @@ driveCounted Neither a b = []
 driveCounted OnA a b = driveOf a
 driveCounted OnB a b = driveOf b
 
-unfoldable pub driveHeard : ℕ → ℕ → List ℕ → List ℕ → List ℕ
-driveHeard q cycle a b = driveCounted (receiveHeartbeat q cycle a b .copy) a b
+unfoldable pub driveHeard : Bool → ℕ → ℕ → List ℕ → List ℕ → List ℕ
+driveHeard quiet q cycle a b = driveCounted (receiveHeartbeat quiet q cycle a b .copy) a b
 
 abbrev pub receiveVote : VoteRead → VoteRead → VoteReceived
 receiveVote (vote.Whole v) (vote.Whole w) = cond (sameVote v w) (votes.Whole v) votes.Missed

@@ -1,6 +1,6 @@
--- Paper 01, "Frames": heartbeat and vote frames as they are written.
+-- Paper 01, "Frames", with requests 2 and 3 of paper 02: heartbeat and vote frames as they are written.
 -- Assumes nothing.
-use mathlib.Core.Bool.{Bool, _&&_, _||_}
+use mathlib.Core.Bool.{Bool, not, _&&_, _||_}
 use mathlib.Core.List.{List, [], _∷_, _++_}
 use Prim.Native.Nat.{ℕ, _+_, _*_, _/_, _%_, _^_}
 use lib.Dec.{eqb, ltb}
@@ -20,11 +20,19 @@ header sync startup number words cycle =
 unfoldable pub frame : ℕ → List ℕ → List ℕ
 frame start s = s ++ bytesOf 3 (frameCheck start s)
 
+-- "bit 7 of the first byte is join, all else 0". Request 3: "In a quiet press bit 6 of a heartbeat's first byte becomes a request."
+abbrev pub firstByte : ℕ → ℕ → ℕ
+firstByte join request = join * 2 ^ 7 + request * 2 ^ 6
+
+-- Request 3: "Read or to be written, it gives 10 together with the join bit, and in mode 0 also alone".
+unfoldable pub wrongRequest : Bool → ℕ → ℕ → Bool
+wrongRequest quiet join request = eqb request 1 && (eqb join 1 || not quiet)
+
 -- "Heartbeat of node q: frame number q+1, one word; bit 7 of the first byte is join, all else 0; sync and startup free, but startup only with sync." Request 2: "A
 -- heartbeat may now have 1 to 127 words; the first is ours, the others belong to the drive."
-unfoldable pub heartbeatFrame : ℕ → ℕ → ℕ → ℕ → ℕ → ℕ → List ℕ → List ℕ
-heartbeatFrame q join sync startup cycle channel drive =
-    frame (channelStart channel) (header sync startup (q + 1) (1 + length drive / 2) cycle ++ (join * 2 ^ 7 ∷ 0 ∷ drive))
+unfoldable pub heartbeatFrame : ℕ → ℕ → ℕ → ℕ → ℕ → ℕ → ℕ → List ℕ → List ℕ
+heartbeatFrame q join request sync startup cycle channel drive =
+    frame (channelStart channel) (header sync startup (q + 1) (1 + length drive / 2) cycle ++ (firstByte join request ∷ 0 ∷ drive))
 
 -- Request 2: "A run's heartbeats keep one word."
 abbrev pub runDrive : List ℕ

@@ -11,10 +11,11 @@ pub enum Fault {
     Content,
 }
 
-// What reading a heartbeat finds: a member's, a joining node's, or a refusal.
+// What reading a heartbeat finds: a member's, a joining node's, a member's that requests, or a refusal.
 pub enum HeartbeatRead {
     Alive,
     Join,
+    Request,
     Refused(Fault),
 }
 
@@ -29,6 +30,7 @@ pub enum HeartbeatReceived {
     Missed,
     Alive,
     Join,
+    Request,
 }
 
 // Which of the two copies of a heartbeat counts.

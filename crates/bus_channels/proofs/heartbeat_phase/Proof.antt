@@ -1,6 +1,6 @@
 use borrow.Author.Needs.{needs}
 use Rattle.parts.proofs.Laws.{two-put}
-use Rattle.bus_channels.proofs.Hearing.{views-read}
+use Rattle.bus_channels.proofs.Hearing.{views-read, voting-read}
 use Rattle.bus_channels.proofs.heartbeat_phase.Statement.{statement}
 use Rattle.bus_channels.proofs.heartbeat_phase.Tie as tie
 
@@ -48,9 +48,13 @@ returns c =
     let a = s .args in
     let one = c .before .before .before .before .before .before .before .before .before .before .before .before .put .ensures in
     let next = c .before .before .before .before .before .before .before .put2 .ensures in (
-      views-read (a .n) (a .count) (a .w) (s .pre .0 .0) (s .pre .0 .1) (s .pre .1 .1) (a .lost) (two .before .heartbeats .result) (two .heartbeats2 .result) (a .sets .now) (a .missed .now) (c .views-of .result) (d .before .union .result) (d .difference .result)
-          (two .before .heartbeats .ensures) (two .heartbeats2 .ensures) (d .before .union .ensures) (d .difference .ensures) (c .views-of .ensures),
-      two-put _ _ _ _ _ _ _ 0 2304 next one (two .before .heartbeats .ensures) (two .heartbeats2 .ensures),
+      views-read (a .config) (a .count) (a .w) (s .pre .0 .0) (s .pre .0 .1) (s .pre .1 .1 .0) (s .pre .1 .1 .1) (a .lost) (two .before .heartbeats .result) (two .heartbeats2 .result) (a .sets .now) (a .missed .now) (d .before .union .result) (d .difference .result)
+          (two .before .heartbeats .ensures) (two .heartbeats2 .ensures) (d .before .union .ensures) (d .difference .ensures) (c .views-of .result .views) (c .views-of .ensures .0),
+      (
+        voting-read (a .config) (a .count) (a .w) (s .pre .0 .0) (s .pre .0 .1) (s .pre .1 .1 .0) (s .pre .1 .1 .1) (a .lost) (two .before .heartbeats .result) (two .heartbeats2 .result) (a .sets .now) (a .missed .now) (d .before .union .result) (d .difference .result)
+            (two .before .heartbeats .ensures) (two .heartbeats2 .ensures) (d .before .union .ensures) (d .difference .ensures) (c .views-of .result .views) (c .views-of .result .voting) (c .views-of .ensures .0) (c .views-of .ensures .1),
+        two-put _ _ _ _ _ _ _ 0 2304 next one (two .before .heartbeats .ensures) (two .heartbeats2 .ensures),
+      ),
     )
 
 pub heartbeat-phase-spec : {M : Type 1} → statement M

@@ -13,12 +13,12 @@ use Rattle.bus_channels.proofs.read_heartbeat.Statement.{statement}
 use Rattle.bus_channels.proofs.read_heartbeat.Tie as tie
 
 -- what is found in the two copies is what is read there
-found : (p count reach k : ℕ) (a b : List ℕ) {r : HeartbeatCounted} → k ≡ cond (has p reach) 10 0
-    → r ≡ receiveHeartbeat p count (take (36 * p + k - 36 * p) (drop (36 * p) a)) (take (36 * p + k - 36 * p) (drop (36 * p) b)) → r .heard ≡ heartbeatRead count reach a b p
+found : (quiet : Bool) (p count reach k : ℕ) (a b : List ℕ) {r : HeartbeatCounted} → k ≡ cond (has p reach) 10 0
+    → r ≡ receiveHeartbeat quiet p count (take (36 * p + k - 36 * p) (drop (36 * p) a)) (take (36 * p + k - 36 * p) (drop (36 * p) b)) → r .heard ≡ heartbeatRead quiet count reach a b p
 unfolding heartbeatRead
-found p count reach k a b e er =
+found quiet p count reach k a b e er =
     let l : 36 * p + k - 36 * p ≡ k = omega arith in
-    ap (λ (z : HeartbeatCounted). z .heard) (er ∙ ap (λ (n : ℕ). receiveHeartbeat p count (take n (drop (36 * p) a)) (take n (drop (36 * p) b))) (l ∙ e))
+    ap (λ (z : HeartbeatCounted). z .heard) (er ∙ ap (λ (n : ℕ). receiveHeartbeat quiet p count (take n (drop (36 * p) a)) (take n (drop (36 * p) b))) (l ∙ e))
 
 mul-at : tie.Need-mul-at
 mul-at c = search needs
@@ -60,7 +60,7 @@ returns : tie.Need-returns
 returns c =
     let len = c .before .before .before in
     let a = len .before .before .before .before .args in
-    found (a .p) (a .count) (a .reach) (len .copy-length .result) (a .a .now) (a .b .now) (len .copy-length .ensures .0 ∙ ap (λ (x : Bool). cond x 10 0) (len .before .contains .ensures))
+    found (a .quiet) (a .p) (a .count) (a .reach) (len .copy-length .result) (a .a .now) (a .b .now) (len .copy-length .ensures .0 ∙ ap (λ (x : Bool). cond x 10 0) (len .before .contains .ensures))
     (c .receive-heartbeat .ensures)
 
 pub read-heartbeat-spec : {M : Type 1} → statement M

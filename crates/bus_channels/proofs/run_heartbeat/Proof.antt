@@ -16,7 +16,7 @@ returns : tie.Need-returns
 returns c = search needs
 
 write-heartbeat-requires : tie.Need-write-heartbeat-requires
-write-heartbeat-requires c κs = (omega arith, (omega arith, (omega arith, (omega arith, (omega arith, (none-wrong, refl))))))
+write-heartbeat-requires c κs = (omega arith, (omega arith, (omega arith, (omega arith, (omega arith, (omega arith, (none-wrong, refl)))))))
 
 pub run-heartbeat-spec : {M : Type 1} → statement M
 run-heartbeat-spec =

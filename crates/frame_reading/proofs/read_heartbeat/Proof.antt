@@ -1,6 +1,6 @@
 -- `frame_reading::read_heartbeat` meets its contract: a frame that is due has its payload. Assumes nothing.
 use mathlib.Core.Path.{_≡_, sym, _∙_}
-use mathlib.Core.Bool.{true}
+use mathlib.Core.Bool.{Bool, true}
 use mathlib.Core.List.{List}
 use mathlib.Core.Option.{none}
 use Prim.Native.Nat.{ℕ, _+_, _≤_}
@@ -18,12 +18,12 @@ use Rattle.frames.proofs.Faults.{looked-refused, looked-due, heartbeatFault, he
 use Rattle.frame_reading.proofs.read_heartbeat.Statement.{statement}
 use Rattle.frame_reading.proofs.read_heartbeat.Tie as tie
 
-module _ (q cycle channel : ℕ) (s : List ℕ) {l : Looked} (answer : l ≡ looked (heartbeatFault q cycle channel s)) where
-  refused : {f : Fault} → l ≡ Refused f → beat.Refused f ≡ readHeartbeat q cycle channel s
-  refused e = sym (heartbeat-read q cycle channel s _ (looked-refused (heartbeatFault q cycle channel s) answer e))
+module _ (quiet : Bool) (q cycle channel : ℕ) (s : List ℕ) {l : Looked} (answer : l ≡ looked (heartbeatFault q cycle channel s)) where
+  refused : {f : Fault} → l ≡ Refused f → beat.Refused f ≡ readHeartbeat quiet q cycle channel s
+  refused e = sym (heartbeat-read q cycle channel s quiet _ (looked-refused (heartbeatFault q cycle channel s) answer e))
 
-  due : {r : HeartbeatRead} → l ≡ Due → r ≡ heartbeatOf (getD s 5 0) (getD s 6 0) → r ≡ readHeartbeat q cycle channel s
-  due e h = h ∙ sym (heartbeat-read q cycle channel s none (looked-due (heartbeatFault q cycle channel s) answer e))
+  due : {r : HeartbeatRead} → l ≡ Due → r ≡ heartbeatOf quiet (getD s 5 0) (getD s 6 0) → r ≡ readHeartbeat quiet q cycle channel s
+  due e h = h ∙ sym (heartbeat-read q cycle channel s quiet none (looked-due (heartbeatFault q cycle channel s) answer e))
 
   due-long : l ≡ Due → 8 ≤ length s
   unfolding wordsDue
@@ -44,23 +44,23 @@ enum-told c = search needs
 shared-slice-read-heartbeat-of : tie.Need-shared-slice-read-heartbeat-of
 shared-slice-read-heartbeat-of c =
     let a = c .before .before .before .before .before .args in
-    let l = due-long (a .q) (a .cycle) (a .channel) (a .s .now) (c .before .before .before .look .ensures) (c .before .enum-told .given .1) in
+    let l = due-long (a .quiet) (a .q) (a .cycle) (a .channel) (a .s .now) (c .before .before .before .look .ensures) (c .before .enum-told .given .1) in
     omega arith
 
 shared-slice-read-heartbeat-of-2 : tie.Need-shared-slice-read-heartbeat-of-2
 shared-slice-read-heartbeat-of-2 c =
     let a = c .before .before .before .before .before .before .args in
-    let l = due-long (a .q) (a .cycle) (a .channel) (a .s .now) (c .before .before .before .before .look .ensures) (c .before .before .enum-told .given .1) in
+    let l = due-long (a .quiet) (a .q) (a .cycle) (a .channel) (a .s .now) (c .before .before .before .before .look .ensures) (c .before .before .enum-told .given .1) in
     omega arith
 
 heartbeat-of-requires : tie.Need-heartbeat-of-requires
 heartbeat-of-requires c κs = search needs
 
 returns : tie.Need-returns
-returns c = let a = c .before .before .before .before .before .args in refused (a .q) (a .cycle) (a .channel) (a .s .now) (c .before .before .before .look .ensures) (c .before .f .given .1)
+returns c = let a = c .before .before .before .before .before .args in refused (a .quiet) (a .q) (a .cycle) (a .channel) (a .s .now) (c .before .before .before .look .ensures) (c .before .f .given .1)
 
 returns-2 : tie.Need-returns-2
-returns-2 c = let a = c .before .before .before .before .before .before .before .args in due (a .q) (a .cycle) (a .channel) (a .s .now) (c .before .before .before .before .before .look .ensures) (c .before .before .before .enum-told .given .1) (c .heartbeat-of .ensures)
+returns-2 c = let a = c .before .before .before .before .before .before .before .args in due (a .quiet) (a .q) (a .cycle) (a .channel) (a .s .now) (c .before .before .before .before .before .look .ensures) (c .before .before .before .enum-told .given .1) (c .heartbeat-of .ensures)
 
 pub read-heartbeat-spec : {M : Type 1} → statement M
 read-heartbeat-spec =

@@ -15,21 +15,21 @@ use Rattle.frame_reading.proofs.receive_heartbeat.Statement.{statement}
 use Rattle.frame_reading.proofs.receive_heartbeat.Tie as tie
 
 -- what two copies give, by what was read in them
-module _ (q cycle : ℕ) (a b : List ℕ) {x y : HeartbeatRead} (ex : x ≡ readHeartbeat q cycle 0 a) (ey : y ≡ readHeartbeat q cycle 1 b) where
+module _ (quiet : Bool) (q cycle : ℕ) (a b : List ℕ) {x y : HeartbeatRead} (ex : x ≡ readHeartbeat quiet q cycle 0 a) (ey : y ≡ readHeartbeat quiet q cycle 1 b) where
   abbrev equal : Bool
   equal = samePayload a b
 
-  received : {r : HeartbeatCounted} → r ≡ countedOf x y equal → r ≡ receiveHeartbeat q cycle a b
+  received : {r : HeartbeatCounted} → r ≡ countedOf x y equal → r ≡ receiveHeartbeat quiet q cycle a b
   unfolding receiveHeartbeat
   received e = e ∙ λ i. countedOf (ex i) (ey i) equal
 
-  from-b : {r : HeartbeatCounted} → isGood x ≡ false → r ≡ countedOn OnB y → r ≡ receiveHeartbeat q cycle a b
+  from-b : {r : HeartbeatCounted} → isGood x ≡ false → r ≡ countedOn OnB y → r ≡ receiveHeartbeat quiet q cycle a b
   from-b gx e = received (e ∙ sym (counted-b x y equal gx))
 
-  from-a : {r : HeartbeatCounted} → isGood x ≡ true → isGood y ≡ false → r ≡ countedOn OnA x → r ≡ receiveHeartbeat q cycle a b
+  from-a : {r : HeartbeatCounted} → isGood x ≡ true → isGood y ≡ false → r ≡ countedOn OnA x → r ≡ receiveHeartbeat quiet q cycle a b
   from-a gx gy e = received (e ∙ sym (counted-a x y equal gx gy))
 
-  from-both : {r : HeartbeatCounted} → isGood x ≡ true → isGood y ≡ true → (z : Bool) → equal ≡ z → r ≡ cond z (countedOn OnA x) missed → r ≡ receiveHeartbeat q cycle a b
+  from-both : {r : HeartbeatCounted} → isGood x ≡ true → isGood y ≡ true → (z : Bool) → equal ≡ z → r ≡ cond z (countedOn OnA x) missed → r ≡ receiveHeartbeat quiet q cycle a b
   from-both gx gy z ez e = received (e ∙ sym (counted-both x y equal gx gy ∙ ap (λ (w : Bool). cond w (countedOn OnA x) missed) ez))
 
 -- the two tests
@@ -57,7 +57,7 @@ counted-on-requires c κs = search needs
 returns : tie.Need-returns
 returns c =
     let r = c .before .before .before in
-    from-b _ _ _ _ (r .before .read-heartbeat .ensures) (r .read-heartbeat2 .ensures) (not-good (c .before)) (c .counted-on .ensures)
+    from-b _ _ _ _ _ (r .before .read-heartbeat .ensures) (r .read-heartbeat2 .ensures) (not-good (c .before)) (c .counted-on .ensures)
 
 is-good-requires-2 : tie.Need-is-good-requires-2
 is-good-requires-2 c κs = search needs
@@ -69,20 +69,20 @@ returns-2 : tie.Need-returns-2
 returns-2 c =
     let t = c .before in
     let r = t .before .before .before .before in
-    from-a _ _ _ _ (r .before .read-heartbeat .ensures) (r .read-heartbeat2 .ensures) (good-a (t .before .before)) (sym (t .before .is-good2 .ensures) ∙ not-true _ (t .if2 .taken)) (c .counted-on2 .ensures)
+    from-a _ _ _ _ _ (r .before .read-heartbeat .ensures) (r .read-heartbeat2 .ensures) (good-a (t .before .before)) (sym (t .before .is-good2 .ensures) ∙ not-true _ (t .if2 .taken)) (c .counted-on2 .ensures)
 
 same-payload-requires : tie.Need-same-payload-requires
 same-payload-requires c κs =
     let r = c .before .before .before .before in
-    let a = good-length _ _ _ _ (ap isGood (sym (r .before .read-heartbeat .ensures)) ∙ good-a (c .before .before)) .0 in
-    let b = good-length _ _ _ _ (ap isGood (sym (r .read-heartbeat2 .ensures)) ∙ good-b c) .0 in
+    let a = good-length _ _ _ _ _ (ap isGood (sym (r .before .read-heartbeat .ensures)) ∙ good-a (c .before .before)) .0 in
+    let b = good-length _ _ _ _ _ (ap isGood (sym (r .read-heartbeat2 .ensures)) ∙ good-b c) .0 in
     omega arith
 
 returns-3 : tie.Need-returns-3
 returns-3 c =
     let e = c .before .before in
     let r = e .before .before .before .before in
-    from-both _ _ _ _ (r .before .read-heartbeat .ensures) (r .read-heartbeat2 .ensures) (good-a (e .before .before)) (good-b e) false (sym (c .before .same-payload .ensures) ∙ not-true _ (c .if3 .taken)) refl
+    from-both _ _ _ _ _ (r .before .read-heartbeat .ensures) (r .read-heartbeat2 .ensures) (good-a (e .before .before)) (good-b e) false (sym (c .before .same-payload .ensures) ∙ not-true _ (c .if3 .taken)) refl
 
 counted-on-requires-3 : tie.Need-counted-on-requires-3
 counted-on-requires-3 c κs = search needs
@@ -91,7 +91,7 @@ returns-4 : tie.Need-returns-4
 returns-4 c =
     let e = c .before .before .before in
     let r = e .before .before .before .before in
-    from-both _ _ _ _ (r .before .read-heartbeat .ensures) (r .read-heartbeat2 .ensures) (good-a (e .before .before)) (good-b e) true (sym (c .before .before .same-payload .ensures) ∙ not-false _ (c .before .if3 .left)) (c .counted-on3 .ensures)
+    from-both _ _ _ _ _ (r .before .read-heartbeat .ensures) (r .read-heartbeat2 .ensures) (good-a (e .before .before)) (good-b e) true (sym (c .before .before .same-payload .ensures) ∙ not-false _ (c .before .if3 .left)) (c .counted-on3 .ensures)
 
 pub receive-heartbeat-spec : {M : Type 1} → statement M
 receive-heartbeat-spec =

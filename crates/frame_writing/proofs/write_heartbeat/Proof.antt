@@ -1,7 +1,7 @@
 -- `frame_writing::write_heartbeat` meets its contract: header, first word and drive bytes are put one after the other, and the check over them last. Assumes nothing.
 use mathlib.Core.Path.{_≡_, sym, ap, ap₂, _∙_}
 use mathlib.Core.List.{List, [], _∷_, _++_}
-use Prim.Native.Nat.{ℕ, _+_, _*_, _/_, _≤_}
+use Prim.Native.Nat.{ℕ, _+_, _/_, _≤_}
 use native.Mathlib.Omega.{arith}
 use lib.ListN.{length, take}
 use lib.Seq.{length-take-le}
@@ -10,7 +10,7 @@ use Rattle.bigendian.proofs.Laws.{length-bytes}
 use Rattle.crc.specs.Crc.{frameCheck, channelStart}
 use Rattle.parts.specs.Parts.{withPart}
 use Rattle.parts.proofs.Laws.{part-length, part-next}
-use Rattle.frames.specs.Written.{header, frame, heartbeatFrame}
+use Rattle.frames.specs.Written.{header, frame, firstByte, heartbeatFrame}
 use Rattle.frames.proofs.Lengths.{length-header}
 use Rattle.frames.proofs.Payloads.{drive-bounds}
 use Rattle.frame_writing.proofs.Framed.{framed}
@@ -18,19 +18,19 @@ use borrow.Author.Needs.{needs}
 use Rattle.frame_writing.proofs.write_heartbeat.Statement.{statement}
 use Rattle.frame_writing.proofs.write_heartbeat.Tie as tie
 
-whole : (q join sync startup cycle channel : ℕ) (drive h c f₀ f₁ f₂ f₃ f₄ : List ℕ) (start check : ℕ) → length f₀ ≡ 10 + length drive
+whole : (q join request sync startup cycle channel : ℕ) (drive h c f₀ f₁ f₂ f₃ f₄ : List ℕ) (start check : ℕ) → length f₀ ≡ 10 + length drive
     → h ≡ header sync startup (q + 1) (1 + length drive / 2) cycle → start ≡ channelStart channel → check ≡ frameCheck start (take (7 + length drive) f₃)
-    → c ≡ bytesOf 3 check → f₁ ≡ withPart 0 h f₀ → f₂ ≡ withPart 5 (join * 128 ∷ 0 ∷ []) f₁ → f₃ ≡ withPart 7 drive f₂ → f₄ ≡ withPart (7 + length drive) c f₃
-    → f₄ ≡ heartbeatFrame q join sync startup cycle channel drive
+    → c ≡ bytesOf 3 check → f₁ ≡ withPart 0 h f₀ → f₂ ≡ withPart 5 (firstByte join request ∷ 0 ∷ []) f₁ → f₃ ≡ withPart 7 drive f₂ → f₄ ≡ withPart (7 + length drive) c f₃
+    → f₄ ≡ heartbeatFrame q join request sync startup cycle channel drive
 unfolding heartbeatFrame
-whole q join sync startup cycle channel drive h c f₀ f₁ f₂ f₃ f₄ start check l eh es ek ec ph pw pd pc =
+whole q join request sync startup cycle channel drive h c f₀ f₁ f₂ f₃ f₄ start check l eh es ek ec ph pw pd pc =
     let lh : length h ≡ 5 = ap length eh ∙ length-header sync startup (q + 1) (1 + length drive / 2) cycle in
     let room : 0 + length h ≤ length f₀ = omega arith in
     let l₁ : length f₁ ≡ length f₀ = ap length ph ∙ part-length 0 h f₀ room in
     let fits : 5 ≤ length f₁ = omega arith in
-    let pp : f₃ ≡ withPart 5 (join * 128 ∷ 0 ∷ drive) f₁ = pd ∙ ap (withPart 7 drive) pw ∙ part-next 5 (join * 128 ∷ 0 ∷ []) f₁ fits drive 7 (omega arith) in
-    framed start (7 + length drive) check h (join * 128 ∷ 0 ∷ drive) c f₀ f₁ f₃ f₄ lh (omega arith) (omega arith) ph pp ek ec pc
-    ∙ ap₂ frame es (ap (λ (x : List ℕ). x ++ (join * 128 ∷ 0 ∷ drive)) eh)
+    let pp : f₃ ≡ withPart 5 (firstByte join request ∷ 0 ∷ drive) f₁ = pd ∙ ap (withPart 7 drive) pw ∙ part-next 5 (firstByte join request ∷ 0 ∷ []) f₁ fits drive 7 (omega arith) in
+    framed start (7 + length drive) check h (firstByte join request ∷ 0 ∷ drive) c f₀ f₁ f₃ f₄ lh (omega arith) (omega arith) ph pp ek ec pc
+    ∙ ap₂ frame es (ap (λ (x : List ℕ). x ++ (firstByte join request ∷ 0 ∷ drive)) eh)
 
 -- above all else: what is wrong in a frame is wrong here
 returns : tie.Need-returns
@@ -45,12 +45,12 @@ returns c =
     let h = p₁ .before .before in
     let s = h .before .before .before .before in
     let a = s .args in
-    whole (a .q) (a .join) (a .sync) (a .startup) (a .cycle) (a .channel) (a .drive .now) _ _ (a .frame .now) (p₁ .put .last .0) (p₂ .put2 .last .0) (p₃ .put3 .last .0) (p₄ .put4 .last .0) _ _
-    (s .pre .1 .1 .1 .1 .1 .1) (h .header-bytes .ensures) (n .channel-start .ensures .0) (k .frame-check .ensures .0) (w .write3 .ensures)
+    whole (a .q) (a .join) (a .request) (a .sync) (a .startup) (a .cycle) (a .channel) (a .drive .now) _ _ (a .frame .now) (p₁ .put .last .0) (p₂ .put2 .last .0) (p₃ .put3 .last .0) (p₄ .put4 .last .0) _ _
+    (s .pre .1 .1 .1 .1 .1 .1 .1) (h .header-bytes .ensures) (n .channel-start .ensures .0) (k .frame-check .ensures .0) (w .write3 .ensures)
     (p₁ .put .ensures) (p₂ .put2 .ensures) (p₃ .put3 .ensures) (p₄ .put4 .ensures)
 
 few : (s : tie.Start) → length (s .args .drive .now) ≤ 252
-few s = drive-bounds (s .args .drive .now) (s .pre .1 .1 .1 .1 .1 .0) .1
+few s = drive-bounds (s .args .drive .now) (s .pre .1 .1 .1 .1 .1 .1 .0) .1
 
 cast-words : tie.Need-cast-words
 cast-words c = let b = few (c .before .before) in omega arith
@@ -70,11 +70,17 @@ slice-aggregate-put c = search needs
 put-requires : tie.Need-put-requires
 put-requires c κs = search needs
 
-mul-t14 : tie.Need-mul-t14
-mul-t14 c = search needs
+mul-bits : tie.Need-mul-bits
+mul-bits c = search needs
 
-cast-t25 : tie.Need-cast-t25
-cast-t25 c = search needs
+mul-bits-2 : tie.Need-mul-bits-2
+mul-bits-2 c = search needs
+
+add-bits : tie.Need-add-bits
+add-bits c = search needs
+
+cast-first : tie.Need-cast-first
+cast-first c = search needs
 
 slice-aggregate-put-2 : tie.Need-slice-aggregate-put-2
 slice-aggregate-put-2 c = search needs
@@ -131,8 +137,10 @@ write-heartbeat-spec =
     header-bytes-requires
     slice-aggregate-put
     put-requires
-    mul-t14
-    cast-t25
+    mul-bits
+    mul-bits-2
+    add-bits
+    cast-first
     slice-aggregate-put-2
     put-requires-2
     put-requires-3
