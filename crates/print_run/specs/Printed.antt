@@ -50,11 +50,11 @@ refusedLine r = cond (eqb r 0) [] (ascii "refused " ++ (decimalText r ++ ascii "
 unfoldable pub reported : Config → ℕ → Cluster → Cycles → List ℕ
 reported C k b t = lines C k b (t .whole) ++ refusedLine (t .refusal)
 
--- "All nodes of a press are in the same mode": a press of N nodes, in that of the program
+-- "All nodes of a press are in the same mode": a press of N nodes, in the program's
 abbrev pub pressIn : Bool → ℕ → Config
 pressIn quiet N = record { nodes = N; quiet = quiet }
 
--- "The program `grouprun` reads a table from standard input": s; it is lent no row. "A program like it prints runs in mode 1."
+-- "The program `grouprun` reads a table from standard input": s; it is lent no row. "`grouprun` runs mode 0, and a program like it mode 1."
 unfoldable pub printed : Bool → List ℕ → List ℕ
 printed quiet s =
     let t = tableOf false 0 s in
