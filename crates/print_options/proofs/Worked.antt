@@ -12,8 +12,10 @@ use Rattle.print_options.specs.declared.Program.{Program}
 use Rattle.print_options.specs.declared.Program.the-variants.{Group, Quiet}
 use Rattle.print_options.specs.declared.Asked.{Asked}
 use Rattle.print_options.specs.declared.Asked.the-variants.{Run, Help, Version, Wrong}
+use Rattle.print_options.specs.declared.Failed.{Failed}
+use Rattle.print_options.specs.declared.Failed.the-variants.{Read, Write}
 use Rattle.parts.specs.Compared.{sameBytes}
-use Rattle.print_options.specs.Options.{nameOf, askedByOne, askedBy, usageLine, versionLine, hintLine, helpText, answerText, goesAside, unreadLine, unwrittenLine}
+use Rattle.print_options.specs.Options.{nameOf, askedByOne, askedBy, usageLine, versionLine, hintLine, helpText, answerText, goesAside, failureLine}
 
 -- so many arguments, the program's name among them, and the one after the name; what they ask for
 pub record Example : Type 0 where
@@ -66,10 +68,12 @@ unfolding nameOf answerText versionLine ascii
 version-is-a-line Group = refl
 version-is-a-line Quiet = refl
 
-pub failure-is-a-line : (p : Program) → isLine (unreadLine p) && isLine (unwrittenLine p) ≡ true
-unfolding nameOf unreadLine unwrittenLine ascii
-failure-is-a-line Group = refl
-failure-is-a-line Quiet = refl
+pub failure-is-a-line : (p : Program) (f : Failed) → isLine (failureLine p f) ≡ true
+unfolding nameOf failureLine ascii
+failure-is-a-line Group Read = refl
+failure-is-a-line Group Write = refl
+failure-is-a-line Quiet Read = refl
+failure-is-a-line Quiet Write = refl
 
 -- an option that stands alone is answered on standard output, and all else on standard error
 pub options-on-output : (count : ℕ) (first : List ℕ)

@@ -11,6 +11,8 @@ use Rattle.print_options.specs.declared.Program.{Program}
 use Rattle.print_options.specs.declared.Program.the-variants.{Group, Quiet}
 use Rattle.print_options.specs.declared.Asked.{Asked}
 use Rattle.print_options.specs.declared.Asked.the-variants.{Run, Help, Version, Wrong}
+use Rattle.print_options.specs.declared.Failed.{Failed}
+use Rattle.print_options.specs.declared.Failed.the-variants.{Read, Write}
 
 -- "`grouprun` runs mode 0, and a program like it mode 1."
 abbrev pub isQuiet : Program → Bool
@@ -99,9 +101,7 @@ goesAside Help = false
 goesAside Version = false
 goesAside Wrong = true
 
--- what is told on standard error where a read failed, and where a write did
-unfoldable pub unreadLine : Program → List ℕ
-unreadLine p = nameOf p ++ ascii ": the input could not be read\n"
-
-unfoldable pub unwrittenLine : Program → List ℕ
-unwrittenLine p = nameOf p ++ ascii ": the output could not be written\n"
+-- what is told on standard error, since a program has no exit status
+unfoldable pub failureLine : Program → Failed → List ℕ
+failureLine p Read = nameOf p ++ ascii ": the input could not be read\n"
+failureLine p Write = nameOf p ++ ascii ": the output could not be written\n"

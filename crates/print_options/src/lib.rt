@@ -4,7 +4,7 @@ ghost use mathlib.Core.List.{_++_};
 ghost use Prim.Native.Nat.{_+_, _≤_};
 ghost use lib.ListN.{length, replicate};
 ghost use Rattle.print_text.specs.Text.{Appended};
-ghost use Rattle.print_options.specs.Options.{isQuiet, nameOf, askedBy, argumentRoom, usageLine, hintLine, modeText, aboutText, optionsText, refusalsText, helpText, answerText, goesAside, unreadLine, unwrittenLine};
+ghost use Rattle.print_options.specs.Options.{isQuiet, nameOf, askedBy, argumentRoom, usageLine, hintLine, modeText, aboutText, optionsText, refusalsText, helpText, answerText, goesAside, failureLine};
 
 // The programs: grouprun, for presses that vote in every cycle, and quietrun, for quiet ones.
 pub enum Program {
@@ -18,6 +18,12 @@ pub enum Asked {
     Help,
     Version,
     Wrong,
+}
+
+// What failed: a read, or a write.
+pub enum Failed {
+    Read,
+    Write,
 }
 
 // Whether the press of a program's tables is quiet.
@@ -202,18 +208,13 @@ pub fn goes_aside(a: Asked) -> bool
     }
 }
 
-// Where a read failed.
-pub fn put_unread(out: &mut [u8], at: usize, p: Program) -> usize
-    requires { ⌜ at + 64 ≤ length (now out) ⌝ }
-    ensures { λ r. ⌜ Appended (now (out .entry)) at (unreadLine p) (now (out .exit)) r ⌝ }
+// The line that tells of a failure.
+pub fn put_failure(out: &mut [u8], at: usize, p: Program, f: Failed) -> usize
+    requires { ⌜ at + 43 ≤ length (now out) ⌝ }
+    ensures { λ r. ⌜ Appended (now (out .entry)) at (failureLine p f) (now (out .exit)) r ⌝ }
 {
-    put_named(out, at, b"", p, b": the input could not be read\n")
-}
-
-// Where a write failed.
-pub fn put_unwritten(out: &mut [u8], at: usize, p: Program) -> usize
-    requires { ⌜ at + 64 ≤ length (now out) ⌝ }
-    ensures { λ r. ⌜ Appended (now (out .entry)) at (unwrittenLine p) (now (out .exit)) r ⌝ }
-{
-    put_named(out, at, b"", p, b": the output could not be written\n")
+    match f {
+        Failed::Read => put_named(out, at, b"", p, b": the input could not be read\n"),
+        Failed::Write => put_named(out, at, b"", p, b": the output could not be written\n"),
+    }
 }

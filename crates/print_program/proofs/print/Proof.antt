@@ -1,4 +1,4 @@
--- `grouprun::print` meets its contract. The loop's invariant: what the run has come to, and that the next read may be made. Assumes nothing.
+-- `print_program::print` meets its contract. The loop's invariant: what the run has come to, and that the next read may be made. Assumes nothing.
 use mathlib.Core.Path.{_≡_, refl, sym, _∙_}
 use mathlib.Core.Bool.{false}
 use Prim.Native.Nat.{_-_, _≤_}
@@ -8,18 +8,18 @@ use lib.ListN.{length}
 use Rattle.sets.proofs.Booleans.{not-e, not-f}
 use Rattle.print_pieces.specs.Pieces.{held}
 use Rattle.print_stream.proofs.Chunks.{chunks-print, failed-prints}
-use Rattle.grouprun.specs.Run.{Ready, Along, hasEnded}
-use Rattle.grouprun.proofs.Calling.{begins-along, begins-ready, going, goes-along}
-use Rattle.grouprun.proofs.print.Statement.{statement}
-use Rattle.grouprun.proofs.print.Tie as tie
+use Rattle.print_program.specs.Run.{Ready, Along, hasEnded}
+use Rattle.print_program.proofs.Calling.{begins-along, begins-ready, going, goes-along}
+use Rattle.print_program.proofs.print.Statement.{statement}
+use Rattle.print_program.proofs.print.Tie as tie
 
 abbrev Inv-loop : tie.InvT-loop
-Inv-loop input₀ out₀ numbers₀ sets₀ bases₀ run₀ ended₀ input out numbers sets bases run ended =
-    Along run (held numbers sets bases) input × (run .last .over ≡ false → Ready input out (run .last)) × (length input ≡ length input₀) × (length out ≡ length out₀)
+Inv-loop quiet input₀ out₀ numbers₀ sets₀ bases₀ run₀ ended₀ input out numbers sets bases run ended =
+    Along quiet run (held numbers sets bases) input × (run .last .over ≡ false → Ready input out (run .last)) × (length input ≡ length input₀) × (length out ≡ length out₀)
     × (ended ≡ hasEnded run) × (run .reads ≤ 18446744073709551615)
 
 abbrev μ-loop : tie.MeasureT-loop
-μ-loop input₀ out₀ numbers₀ sets₀ bases₀ run₀ ended₀ input out numbers sets bases run ended = 18446744073709551615 - run .reads
+μ-loop quiet input₀ out₀ numbers₀ sets₀ bases₀ run₀ ended₀ input out numbers sets bases run ended = 18446744073709551615 - run .reads
 
 begin-requires : tie.Need-begin-requires Inv-loop μ-loop
 begin-requires c κs = omega arith
@@ -31,8 +31,8 @@ loop-holds : tie.Need-loop-holds Inv-loop μ-loop
 loop-holds c =
     let s = c .before .before .before .before .before .before .before in
     let b = c .before .before .before .begin in (
-      begins-along (now (s .args .out)) (b .last .0) (b .result) (now (s .args .input)) (b .ensures) _,
-      (λ o. begins-ready (now (s .args .out)) (b .last .0) (b .result) (now (s .args .input)) (b .ensures) (omega arith) (omega arith)),
+      begins-along (s .args .quiet) (now (s .args .out)) (b .last .1 .0) (b .result) (now (s .args .input)) (b .ensures) _,
+      (λ o. begins-ready (s .args .quiet) (now (s .args .out)) (b .last .1 .0) (b .result) (now (s .args .input)) (b .ensures) (omega arith) (omega arith)),
       refl,
       refl,
       c .has-ended .ensures,
@@ -59,7 +59,7 @@ loop-again c =
     let l = c .before .before .before .before .before .before .before .before .before .before .before .before .loop in
     let n = c .before .before .before .before .before .next in
     let on = going (l .run) (sym (l .inv .4) ∙ not-e (l .ended) (c .before .before .before .before .before .before .before .before .before .before .before .loop-test .taken)) in (
-      goes-along (l .run) _ (l .input) (n .result) _ _ _ (n .ensures .1) (l .inv .0) (on .0) (on .2) (n .ensures .0),
+      goes-along _ (l .run) _ (l .input) (n .result) _ _ _ (n .ensures .1) (l .inv .0) (on .0) (on .2) (n .ensures .0),
       (λ o. n .ensures .1 .ready o),
       omega (arith, l .inv .2, c .before .before .before .before .input),
       omega (arith, l .inv .3, c .before .before .out2),
@@ -80,8 +80,8 @@ returns c =
     record {
       along = a;
       ended = sym (l .inv .4) ∙ not-f (l .ended) (c .loop-test .left);
-      all = λ o. chunks-print (a .out) (a .out') (a .first) (a .founded) (a .chunks) (a .text) (a .begins) (a .over o);
-      cut = λ o. failed-prints (a .out) (a .out') (a .first) (a .founded) (a .chunks) _ _ (a .text) (a .begins) (a .goes o);
+      all = λ o. chunks-print _ (a .out) (a .out') (a .first) (a .founded) (a .chunks) (a .text) (a .begins) (a .over o);
+      cut = λ o. failed-prints _ (a .out) (a .out') (a .first) (a .founded) (a .chunks) _ _ (a .text) (a .begins) (a .goes o);
     }
 
 pub print-spec : {M : Type 1} → statement M

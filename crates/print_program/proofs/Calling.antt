@@ -18,8 +18,8 @@ use Rattle.print_pieces.specs.Pieces.{Groups, longest, Print, printOf, due, who
 use Rattle.print_stream.specs.declared.Taken.{Taken}
 use Rattle.print_stream.specs.Stream.{Begins, Takes}
 use Rattle.print_stream.specs.Chunks.{Calls, begun}
-use Rattle.grouprun.specs.declared.Run.{Run}
-use Rattle.grouprun.specs.Run.{Ready, stands, keptIn, Goes, Along, hasEnded}
+use Rattle.print_program.specs.declared.Run.{Run}
+use Rattle.print_program.specs.Run.{Ready, stands, keptIn, Goes, Along, hasEnded, Ended, Prints}
 
 -- what a read brings is within the window
 pub read-within : (mid : List ℕ) (kept more : ℕ) → kept ≤ length mid → more ≤ length (take (length mid - kept) (drop kept mid)) → kept + more ≤ length mid
@@ -60,8 +60,8 @@ module _ (z : Session) (g g' : Groups) (input mid : List ℕ) (kept more : ℕ) 
 
 -- ---- a run that begins
 
-module _ (out out' : List ℕ) (r : Taken) (input : List ℕ) (b : Begins out out' r) where
-  pub begins-along : (g : Groups) → Along (record { last = r; reads = 0; unread = false; lost = false }) g input
+module _ (quiet : Bool) (out out' : List ℕ) (r : Taken) (input : List ℕ) (b : Begins quiet out out' r) where
+  pub begins-along : (g : Groups) → Along quiet (record { last = r; reads = 0; unread = false; lost = false }) g input
   begins-along g =
       record {
         out = out;
@@ -78,7 +78,7 @@ module _ (out out' : List ℕ) (r : Taken) (input : List ℕ) (b : Begins out ou
 
   pub begins-ready : longest ≤ length input → 39 + (3 * length input + 128) ≤ length out' → Ready input out' r
   begins-ready wide room =
-      record { few = omega (arith, b .none); wide = wide; room = omega (arith, b .header .end, header-length); sound = b .sound }
+      record { few = omega (arith, b .none); wide = wide; room = omega (arith, b .header .end, header-length); sound = b .fresh .sound }
 
 -- ---- a run that has not ended
 
@@ -91,8 +91,8 @@ going r e =
 
 -- ---- a run, after one more read
 
-module _ (r : Run) (g : Groups) (input : List ℕ) (q : Run) (g' : Groups) (input' out' : List ℕ) (goes : Goes r g input q g' input' out')
-    (along : Along r g input) (on : r .last .over ≡ false) (heard : r .unread ≡ false) (more : q .reads ≡ r .reads + 1) where
+module _ (quiet : Bool) (r : Run) (g : Groups) (input : List ℕ) (q : Run) (g' : Groups) (input' out' : List ℕ) (goes : Goes r g input q g' input' out')
+    (along : Along quiet r g input) (on : r .last .over ≡ false) (heard : r .unread ≡ false) (more : q .reads ≡ r .reads + 1) where
   before : Reached Calls (begun (along .first) (along .founded)) [] (along .chunks) (stands r g) (keptIn r input) (along .text)
   before = along .goes on
 
@@ -100,7 +100,7 @@ module _ (r : Run) (g : Groups) (input : List ℕ) (q : Run) (g' : Groups) (inpu
   come : (chunks : List (List ℕ)) (text : List ℕ)
       → (q .last .over ≡ false → Reached Calls (begun (along .first) (along .founded)) [] chunks (stands q g') (keptIn q input') text)
       → (q .last .over ≡ true → Streamed Calls (begun (along .first) (along .founded)) [] chunks text)
-      → (q .unread ≡ false → q .last .over ≡ false → q .reads ≡ length chunks) → Along q g' input'
+      → (q .unread ≡ false → q .last .over ≡ false → q .reads ≡ length chunks) → Along quiet q g' input'
   come chunks text going over counted =
       record {
         out = along .out;
@@ -115,7 +115,7 @@ module _ (r : Run) (g : Groups) (input : List ℕ) (q : Run) (g' : Groups) (inpu
         counted = counted;
       }
 
-  failed : q .unread ≡ true → Along q g' input'
+  failed : q .unread ≡ true → Along quiet q g' input'
   failed e =
       let f = goes .fails e in
       come (along .chunks) (along .text)
@@ -125,13 +125,13 @@ module _ (r : Run) (g : Groups) (input : List ℕ) (q : Run) (g' : Groups) (inpu
       (λ u o. absurd (true≢false (sym e ∙ u)))
 
   module _ (read text : List ℕ) where
-    one : (over : Bool) → q .last .over ≡ over → Calls (stands r g) (keptIn r input) read (stands q g') (keptIn q input') over text → Along q g' input'
+    one : (over : Bool) → q .last .over ≡ over → Calls (stands r g) (keptIn r input) read (stands q g') (keptIn q input') over text → Along quiet q g' input'
     one false e c =
         come (along .chunks ++ (read ∷ [])) (along .text ++ text) (λ o. reached-more before (some-read due whole longest _ _ _ _ _ _ _ c refl) c) (λ o. absurd (true≢false (sym o ∙ e)))
         (λ u o. let n = along .counted heard on in let l = length-append (along .chunks) (read ∷ []) in omega (arith, n, l, more))
     one true e c = go (eqb (length read) 0) refl
       where
-        go : (b : Bool) → eqb (length read) 0 ≡ b → Along q g' input'
+        go : (b : Bool) → eqb (length read) 0 ≡ b → Along quiet q g' input'
         go false k =
             come (along .chunks ++ (read ∷ [])) (along .text ++ text) (λ o. absurd (true≢false (sym e ∙ o)))
             (λ o. reached-stops before (eqb-false (length read) 0 k) c) (λ u o. absurd (true≢false (sym e ∙ o)))
@@ -143,9 +143,14 @@ module _ (r : Run) (g : Groups) (input : List ℕ) (q : Run) (g' : Groups) (inpu
             empty [] h d = d
             empty (x ∷ l) h d = absurd (omega arith)
 
-  pub goes-along : Along q g' input'
+  pub goes-along : Along quiet q g' input'
   goes-along = go (q .unread) refl
     where
-      go : (b : Bool) → q .unread ≡ b → Along q g' input'
+      go : (b : Bool) → q .unread ≡ b → Along quiet q g' input'
       go true e = failed e
       go false e = let c = goes .calls e in one (c .0) (c .1) (q .last .over) refl (c .2)
+
+-- ---- a run that has ended, in a mode by another name
+
+pub prints-in : {quiet mode : Bool} {r : Run} {g : Groups} {input : List ℕ} → quiet ≡ mode → Ended quiet r g input → Prints mode r
+prints-in {quiet} {mode} {r} {g} {input} e ended = (g, input, subst (λ (m : Bool). Ended m r g input) e ended)

@@ -1,12 +1,12 @@
--- `grouprun::read_on` meets its contract: a read into a part leaves what stands before it. Assumes nothing.
+-- `print_program::read_on` meets its contract: a read into a part leaves what stands before it. Assumes nothing.
 use Prim.Native.Nat.{_-_}
 use lib.ListN.{length}
 use denote.Ref.{now}
 use native.Mathlib.Omega.{arith}
 use borrow.Author.Needs.{needs}
 use borrow.Rule.Slice.PartMut.{take-put}
-use Rattle.grouprun.proofs.read_on.Statement.{statement}
-use Rattle.grouprun.proofs.read_on.Tie as tie
+use Rattle.print_program.proofs.read_on.Statement.{statement}
+use Rattle.print_program.proofs.read_on.Tie as tie
 
 sub-read : tie.Need-sub-read
 sub-read c = search needs

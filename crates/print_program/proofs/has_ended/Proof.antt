@@ -1,10 +1,10 @@
--- `grouprun::has_ended` meets its contract. Assumes nothing.
+-- `print_program::has_ended` meets its contract. Assumes nothing.
 use mathlib.Core.Path.{sym, ap, ap₂, _∙_}
 use mathlib.Core.Bool.{Bool, _||_}
 use lib.Dec.{eqb}
-use Rattle.grouprun.specs.Run.{hasEnded}
-use Rattle.grouprun.proofs.has_ended.Statement.{statement}
-use Rattle.grouprun.proofs.has_ended.Tie as tie
+use Rattle.print_program.specs.Run.{hasEnded}
+use Rattle.print_program.proofs.has_ended.Statement.{statement}
+use Rattle.print_program.proofs.has_ended.Tie as tie
 
 returns : tie.Need-returns
 unfolding hasEnded

@@ -1,9 +1,9 @@
--- `grouprun::answer` is safe and ends: what is written is within its buffer. Assumes nothing.
+-- `print_program::answer` is safe and ends: what is written is within its buffer. Assumes nothing.
 use mathlib.Core.Path.{sym}
 use borrow.Author.Needs.{needs}
 use lib.Seq.{length-take-le}
-use Rattle.grouprun.proofs.answer.Statement.{statement}
-use Rattle.grouprun.proofs.answer.Tie as tie
+use Rattle.print_program.proofs.answer.Statement.{statement}
+use Rattle.print_program.proofs.answer.Tie as tie
 
 slice-aggregate-put-answer : tie.Need-slice-aggregate-put-answer
 slice-aggregate-put-answer c = search needs

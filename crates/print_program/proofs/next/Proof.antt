@@ -1,4 +1,4 @@
--- `grouprun::next` meets its contract. Assumes nothing.
+-- `print_program::next` meets its contract. Assumes nothing.
 use mathlib.Core.Path.{refl, sym}
 use mathlib.Core.Bool.{true≢false, false≢true}
 use denote.Ref.{now}
@@ -6,9 +6,9 @@ use native.Mathlib.Omega.{arith}
 use borrow.Author.Needs.{needs}
 use lib.Seq.{length-take-le}
 use Rattle.print_text.proofs.Appending.{room}
-use Rattle.grouprun.proofs.Calling.{read-within, called}
-use Rattle.grouprun.proofs.next.Statement.{statement}
-use Rattle.grouprun.proofs.next.Tie as tie
+use Rattle.print_program.proofs.Calling.{read-within, called}
+use Rattle.print_program.proofs.next.Statement.{statement}
+use Rattle.print_program.proofs.next.Tie as tie
 
 add-reads : tie.Need-add-reads
 add-reads c = omega arith
