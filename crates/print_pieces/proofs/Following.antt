@@ -1,17 +1,16 @@
 -- What follows of a table's print: nothing at its end, the line of a refusal, or the line of a cycle and what follows that. Assumes nothing.
 use mathlib.Core.Path.{_≡_, refl, sym, ap, _∙_}
-use mathlib.Core.Bool.{false}
+use mathlib.Core.Bool.{Bool, false}
 use mathlib.Core.List.{List, _++_}
 use Prim.Native.Nat.{ℕ, suc, _≤_}
 use native.Mathlib.Omega.{arith}
 use lib.ListN.{length, drop, length-drop}
 use Rattle.rules.specs.declared.Config.{Config}
-use Rattle.rules.specs.OneCycle.{ofNodes}
 use Rattle.rules.specs.Reference.{Cluster, beginning, step}
 use Rattle.table.specs.Records.{countAt, foundingAt, startRefusal, cycleLength, cycleRefusal, faultsAt}
 use Rattle.table.specs.Table.{Cycles, withCycle, tableOf}
 use Rattle.table.proofs.Laws.{cycles-end, cycles-refused, cycles-next, enough, table-refused, table-cycles}
-use Rattle.print_run.specs.Printed.{headerLine, line, lines, reported, printed}
+use Rattle.print_run.specs.Printed.{headerLine, line, lines, reported, pressIn, printed}
 use Rattle.print_window.specs.Window.{Report, textOf, preceded, lastly}
 use Rattle.print_pieces.specs.Pieces.{following, opening}
 
@@ -40,17 +39,23 @@ module _ (C : Config) (k : ℕ) (b : Cluster) where
       (enough (length rest) (length (drop (cycleLength rest) rest)) (C .nodes) (suc k) (drop (cycleLength rest) rest) l m)
 
 -- a whole table: a refusal of the first record, or what follows it
-pub opening-refused : (s : List ℕ) (r : ℕ) → r ≡ startRefusal false 0 s → (r ≡ 0 → ⊥) → opening s ≡ lastly r
-unfolding opening tableOf lines of
-opening-refused s r e z =
-    ap (of (ofNodes (countAt s)) 1 (beginning (ofNodes (countAt s)) 0 (foundingAt s))) (table-refused false 0 s (λ h. z (e ∙ h))) ∙ ap lastly (sym e)
+module _ (quiet : Bool) (s : List ℕ) where
+  -- its press, and the press before cycle 1
+  abbrev C : Config
+  C = pressIn quiet (countAt s)
 
-pub opening-goes : (s : List ℕ) → startRefusal false 0 s ≡ 0
-    → opening s ≡ following (ofNodes (countAt s)) 1 (beginning (ofNodes (countAt s)) 0 (foundingAt s)) (drop 12 s)
-unfolding opening tableOf following of
-opening-goes s z = ap (of (ofNodes (countAt s)) 1 (beginning (ofNodes (countAt s)) 0 (foundingAt s))) (table-cycles false 0 s z)
+  abbrev first : Cluster
+  first = beginning C 0 (foundingAt s)
 
--- all that is printed
-pub printed-is : (s : List ℕ) → printed s ≡ headerLine ++ textOf (opening s)
-unfolding printed reported opening
-printed-is s = refl
+  pub opening-refused : (r : ℕ) → r ≡ startRefusal false 0 s → (r ≡ 0 → ⊥) → opening quiet s ≡ lastly r
+  unfolding opening tableOf lines of
+  opening-refused r e z = ap (of C 1 first) (table-refused false 0 s (λ h. z (e ∙ h))) ∙ ap lastly (sym e)
+
+  pub opening-goes : startRefusal false 0 s ≡ 0 → opening quiet s ≡ following C 1 first (drop 12 s)
+  unfolding opening tableOf following of
+  opening-goes z = ap (of C 1 first) (table-cycles false 0 s z)
+
+  -- all that is printed
+  pub printed-is : printed quiet s ≡ headerLine ++ textOf (opening quiet s)
+  unfolding printed reported opening
+  printed-is = refl

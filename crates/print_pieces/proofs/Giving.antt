@@ -12,7 +12,6 @@ use Rattle.print_text.proofs.Appending.{none}
 use Rattle.state.specs.declared.Group.{Group}
 use Rattle.rules.specs.declared.Config.{Config}
 use Rattle.rules.specs.declared.Faults.{Faults}
-use Rattle.rules.specs.OneCycle.{ofNodes}
 use Rattle.rules.specs.Reference.{Cluster, beginning, keeps, step, haltedIn, enteredIn}
 use Rattle.table.specs.Records.{countAt, foundingAt, startRefusal, cycleLength, cycleRefusal, faultsAt}
 use Rattle.table.proofs.Laws.{accepted, begins}
@@ -20,7 +19,7 @@ use Rattle.cluster_states.specs.declared.Roles.{Roles}
 use Rattle.cluster_states.specs.States.{statesOf, rowOf}
 use Rattle.cluster_watched.specs.declared.Watch.{Watch}
 use Rattle.cluster_watched.specs.Watched.{referenceOf, clusterOf}
-use Rattle.print_run.specs.Printed.{fields, line, refusedLine}
+use Rattle.print_run.specs.Printed.{fields, line, refusedLine, pressIn}
 use Rattle.print_run.proofs.Lengths.{fields-length}
 use Rattle.print_window.specs.Window.{Shows, Report, preceded, lastly}
 use Rattle.print_pieces.specs.declared.Session.{Session}
@@ -59,7 +58,7 @@ gives-last z g left out at out' end r text sound e a all =
 module _ (z : Session) (g : Groups) (left : List ℕ) (begun : z .begun ≡ true) (sound : Sound z) where
   follows : (rest : List ℕ) → remaining z g rest ≡ following (z .config) (z .cycle) (standing z g) rest
   unfolding remaining
-  follows rest = ap (λ (b : Bool). cond b (following (z .config) (z .cycle) (standing z g) rest) (opening rest)) begun
+  follows rest = ap (λ (b : Bool). cond b (following (z .config) (z .cycle) (standing z g) rest) (opening (z .config .quiet) rest)) begun
 
   later : (ended : Bool) → (ended || wholeIn (z .begun) left) ≡ true → (ended || wholeIn true left) ≡ true
   later ended e = ap (λ (b : Bool). ended || wholeIn b left) (sym begun) ∙ e
@@ -151,9 +150,9 @@ module _ (z : Session) (g : Groups) (left : List ℕ) (begun : z .begun ≡ true
 -- ---- the first record
 
 module _ (z : Session) (g : Groups) (left : List ℕ) (fresh : z .begun ≡ false) (sound : Sound z) where
-  opens : (rest : List ℕ) → remaining z g rest ≡ opening rest
+  opens : (rest : List ℕ) → remaining z g rest ≡ opening (z .config .quiet) rest
   unfolding remaining
-  opens rest = ap (λ (b : Bool). cond b (following (z .config) (z .cycle) (standing z g) rest) (opening rest)) fresh
+  opens rest = ap (λ (b : Bool). cond b (following (z .config) (z .cycle) (standing z g) rest) (opening (z .config .quiet) rest)) fresh
 
   first : (ended : Bool) → (ended || wholeIn (z .begun) left) ≡ true → (ended || wholeIn false left) ≡ true
   first ended e = ap (λ (b : Bool). ended || wholeIn b left) (sym fresh) ∙ e
@@ -163,17 +162,20 @@ module _ (z : Session) (g : Groups) (left : List ℕ) (fresh : z .begun ≡ fals
       → Appended out at (refusedLine r) out' end → Gives z g left out at out' (lastAt z end) g
   opens-refused out at out' end r kr refused a =
       gives-last z g left out at out' end r (refusedLine r) sound refl a
-      (λ ended ready rest shows. opens rest ∙ opening-refused rest r (kr ∙ seen-start left rest ended shows (first ended ready) false 0) refused)
+      (λ ended ready rest shows. opens rest ∙ opening-refused (z .config .quiet) rest r (kr ∙ seen-start left rest ended shows (first ended ready) false 0) refused)
 
   -- one that is not
   module _ (accept : startRefusal false 0 left ≡ 0) (n founding : ℕ) (kn : n ≡ countAt left) (kf : founding ≡ foundingAt left) (y : Session)
-      (h : Groups) (begun : SessionBegun n founding y h) where
-    begins-as : (rest : List ℕ) → following (ofNodes n) 1 (beginning (ofNodes n) 0 founding) rest ≡ remaining y h rest
+      (h : Groups) (begun : SessionBegun (pressIn (z .config .quiet) n) founding y h) where
+    abbrev C : Config
+    C = pressIn (z .config .quiet) n
+
+    begins-as : (rest : List ℕ) → following C 1 (beginning C 0 founding) rest ≡ remaining y h rest
     unfolding remaining
     begins-as rest =
-        ap (λ (b : Cluster). following (ofNodes n) 1 b rest) (sym (begun .cluster))
-        ∙ ap₂ (λ (C : Config) (k : ℕ). following C k (clusterOf (C .nodes) (statesHeld y h) (y .watch)) rest) (sym (begun .nodes)) (sym (begun .first))
-        ∙ ap (λ (b : Bool). cond b (following (y .config) (y .cycle) (standing y h) rest) (opening rest)) (sym (begun .begun))
+        ap (λ (b : Cluster). following C 1 b rest) (sym (begun .cluster))
+        ∙ ap₂ (λ (D : Config) (k : ℕ). following D k (clusterOf (D .nodes) (statesHeld y h) (y .watch)) rest) (sym (begun .config)) (sym (begun .first))
+        ∙ ap (λ (b : Bool). cond b (following (y .config) (y .cycle) (standing y h) rest) (opening (y .config .quiet) rest)) (sym (begun .begun))
 
     pub opens-goes : (out : List ℕ) (at : ℕ) → at ≤ length out → Gives z g left out at out (goingAt y 12 at) h
     opens-goes out at room =
@@ -189,8 +191,8 @@ module _ (z : Session) (g : Groups) (left : List ℕ) (fresh : z .begun ≡ fals
                       refusal = 0;
                       all =
                           λ rest shows. opens rest
-                          ∙ opening-goes rest (sym (seen-start left rest ended shows (first ended ready) false 0) ∙ accept)
-                          ∙ ap₂ (λ (m f : ℕ). following (ofNodes m) 1 (beginning (ofNodes m) 0 f) (drop 12 rest))
+                          ∙ opening-goes (z .config .quiet) rest (sym (seen-start left rest ended shows (first ended ready) false 0) ∙ accept)
+                          ∙ ap₂ (λ (m f : ℕ). following (pressIn (z .config .quiet) m) 1 (beginning (pressIn (z .config .quiet) m) 0 f) (drop 12 rest))
                           (sym (kn ∙ seen-count left rest ended shows (t .there))) (sym (kf ∙ seen-founding left rest ended shows (t .there)))
                           ∙ begins-as (drop 12 rest);
                       is = refl;
@@ -200,7 +202,7 @@ module _ (z : Session) (g : Groups) (left : List ℕ) (fresh : z .begun ≡ fals
               };
           sound =
               record {
-                few = subst (λ (C : Config). C .nodes ≤ 64) (sym (begun .nodes)) (omega (arith, t .most));
+                few = subst (λ (D : Config). D .nodes ≤ 64) (sym (begun .config)) (omega (arith, t .most));
                 counted = omega (arith, begun .first);
               };
         }

@@ -7,14 +7,13 @@ use Prim.Native.Nat.{ℕ, _≤_}
 use lib.Dec.{leb}
 use lib.ListN.{length}
 use Rattle.rules.specs.declared.Config.{Config}
-use Rattle.rules.specs.OneCycle.{ofNodes}
 use Rattle.rules.specs.Reference.{Cluster, beginning}
 use Rattle.table.specs.Records.{cycleLength}
 use Rattle.table.specs.Table.{cyclesIn, tableOf}
 use Rattle.cluster_states.specs.declared.States.{States}
 use Rattle.cluster_states.specs.States.{statesOf}
 use Rattle.cluster_watched.specs.Watched.{clusterOf}
-use Rattle.print_run.specs.Printed.{lines}
+use Rattle.print_run.specs.Printed.{lines, pressIn}
 use Rattle.print_window.specs.Window.{Report}
 use Rattle.print_window.specs.Stream.{Turned}
 use Rattle.print_pieces.specs.declared.Session.{Session}
@@ -24,11 +23,11 @@ use Rattle.print_pieces.specs.declared.Piece.{Piece}
 unfoldable pub following : Config → ℕ → Cluster → List ℕ → Report
 following C k b rest = let t = cyclesIn (length rest) (C .nodes) k rest in record { lines = lines C k b (t .whole); refusal = t .refusal }
 
--- what is to be printed of a whole table, after the header line
-unfoldable pub opening : List ℕ → Report
-opening s =
+-- what is to be printed of a whole table in a mode, after the header line
+unfoldable pub opening : Bool → List ℕ → Report
+opening quiet s =
     let t = tableOf false 0 s in
-    let C = ofNodes (t .nodes) in
+    let C = pressIn quiet (t .nodes) in
     record { lines = lines C 1 (beginning C 0 (t .founding)) (t .cycles .whole); refusal = t .cycles .refusal }
 
 -- the groups of a session's nodes, which the caller holds in three arrays
@@ -49,7 +48,7 @@ standing z g = clusterOf (z .config .nodes) (statesHeld z g) (z .watch)
 
 -- what is still to be printed of a session
 unfoldable pub remaining : Session → Groups → List ℕ → Report
-remaining z g rest = cond (z .begun) (following (z .config) (z .cycle) (standing z g) rest) (opening rest)
+remaining z g rest = cond (z .begun) (following (z .config) (z .cycle) (standing z g) rest) (opening (z .config .quiet) rest)
 
 -- the next record is whole in what is seen: the first record, or a later one
 unfoldable pub wholeIn : Bool → List ℕ → Bool
@@ -65,12 +64,18 @@ pub record Sound (z : Session) : Type 0 where
   pub few : z .config .nodes ≤ 64
   pub counted : z .cycle ≤ 4294967296
 
+-- a session before the first record, which knows the mode alone
+pub record Fresh (quiet : Bool) (z : Session) : Type 0 where
+  pub begun : z .begun ≡ false
+  pub mode : z .config .quiet ≡ quiet
+  pub sound : Sound z
+
 -- a session before cycle 1
-pub record SessionBegun (n founding : ℕ) (z : Session) (g : Groups) : Type 0 where
+pub record SessionBegun (C : Config) (founding : ℕ) (z : Session) (g : Groups) : Type 0 where
   pub begun : z .begun ≡ true
-  pub nodes : z .config ≡ ofNodes n
+  pub config : z .config ≡ C
   pub first : z .cycle ≡ 1
-  pub cluster : clusterOf n (statesHeld z g) (z .watch) ≡ beginning (ofNodes n) 0 founding
+  pub cluster : clusterOf (C .nodes) (statesHeld z g) (z .watch) ≡ beginning C 0 founding
 
 -- a print between two records: its session, and the groups that the caller holds
 pub record Print : Type 0 where

@@ -4,13 +4,13 @@ ghost use mathlib.Core.Bool.{true, false};
 ghost use Prim.Native.Nat.{_+_, _≤_};
 ghost use lib.ListN.{length};
 ghost use Rattle.table.specs.Records.{cycleRefusal};
-ghost use Rattle.print_pieces.specs.Pieces.{wholeIn, held, Sound, SessionBegun, Gives};
+ghost use Rattle.print_pieces.specs.Pieces.{wholeIn, held, Sound, Fresh, SessionBegun, Gives};
 use cluster_states::Roles;
 use cluster_watched::Watch;
 use rules::Config;
 
-// A table's run between two records: whether its first record is read; and then its nodes, the number of the next cycle, who is what, and what is
-// watched. The caller holds the groups of the nodes, in three arrays.
+// A table's run between two records: whether its first record is read, and the mode; and then its nodes, the number of the next cycle, who is what, and
+// what is watched. The caller holds the groups of the nodes, in three arrays.
 pub struct Session {
     pub begun: bool,
     pub config: Config,
@@ -27,16 +27,17 @@ pub struct Piece {
     pub over: bool,
 }
 
-// The run of a table of which nothing is read. Free: all of it but `begun`, since nothing is printed by it before the first record.
-pub fn fresh() -> Session
-    ensures { λ r. ⌜ (r .begun ≡ false) × Sound r ⌝ }
+// The run of a table of which nothing is read. Free: all of it but `begun` and the mode, since nothing is printed by it before the first record.
+pub fn fresh(quiet: bool) -> Session
+    ensures { λ r. ⌜ Fresh quiet r ⌝ }
 {
     Session {
         begun: false,
-        config: Config { nodes: 0 },
+        config: Config { nodes: 0, quiet },
         cycle: 0,
         roles: Roles {
             members: 0,
+            asking: 0,
             joining: 0,
             no_quorum: 0,
             outvoted: 0,
@@ -60,16 +61,16 @@ pub fn is_whole(begun: bool, left: &[u8]) -> bool
 
 // A session before cycle 1, and into the arrays the groups of its nodes.
 fn begin(
-    nodes: usize,
+    config: Config,
     founding: u64,
     numbers: &mut [u32; 64],
     sets: &mut [u64; 64],
     bases: &mut [u64; 64],
 ) -> Session
-    requires { ⌜ nodes ≤ 64 ⌝ }
-    ensures { λ r. ⌜ SessionBegun nodes founding r (held (now (numbers .exit)) (now (sets .exit)) (now (bases .exit))) ⌝ }
+    requires { ⌜ config .nodes ≤ 64 ⌝ }
+    ensures { λ r. ⌜ SessionBegun config founding r (held (now (numbers .exit)) (now (sets .exit)) (now (bases .exit))) ⌝ }
 {
-    let states = cluster_states::begin(nodes, founding);
+    let states = cluster_states::begin(config.nodes, founding);
     let watch = cluster_reference::begin(founding);
     let first_numbers = states.numbers;
     let first_sets = states.sets;
@@ -79,10 +80,11 @@ fn begin(
     *bases = first_bases;
     Session {
         begun: true,
-        config: Config { nodes },
+        config,
         cycle: 1,
         roles: Roles {
             members: states.members,
+            asking: states.asking,
             joining: states.joining,
             no_quorum: states.no_quorum,
             outvoted: states.outvoted,
@@ -119,7 +121,10 @@ fn open(
     let nodes = table_first::start_count(left) as usize;
     Piece {
         session: begin(
-            nodes,
+            Config {
+                nodes,
+                quiet: z.config.quiet,
+            },
             table_first::start_founding(left),
             numbers,
             sets,

@@ -30,6 +30,13 @@ first-if : (s : List ℕ) → 12 ≤ length s → wholeIn false s ≡ true
 unfolding wholeIn
 first-if s h = le-leb 12 (length s) h
 
+no-first : (quiet : Bool) (s : List ℕ) → wholeIn false s ≡ false → opening quiet s .lines ≡ []
+no-first quiet s w = go (eqb (startRefusal false 0 s) 0) refl
+  where
+    go : (b : Bool) → eqb (startRefusal false 0 s) 0 ≡ b → opening quiet s .lines ≡ []
+    go true e = absurd (true≢false (sym (first-if s (begins false 0 s (eqb-true (startRefusal false 0 s) 0 e) .there)) ∙ w))
+    go false e = ap (λ (r : Report). r .lines) (opening-refused quiet s (startRefusal false 0 s) refl (eqb-false (startRefusal false 0 s) 0 e))
+
 module _ (z : Session) (g : Groups) (s : List ℕ) where
   no-cycle : wholeIn true s ≡ false → following (z .config) (z .cycle) (standing z g) s .lines ≡ []
   no-cycle w = go (eqb (length s) 0) refl (eqb (cycleRefusal (z .config .nodes) (z .cycle) s) 0) refl
@@ -45,44 +52,38 @@ module _ (z : Session) (g : Groups) (s : List ℕ) where
           (following-refused (z .config) (z .cycle) (standing z g) s (cycleRefusal (z .config .nodes) (z .cycle) s) refl (eqb-false (length s) 0 ea)
           (eqb-false (cycleRefusal (z .config .nodes) (z .cycle) s) 0 eb))
 
-  no-first : wholeIn false s ≡ false → opening s .lines ≡ []
-  no-first w = go (eqb (startRefusal false 0 s) 0) refl
-    where
-      go : (b : Bool) → eqb (startRefusal false 0 s) 0 ≡ b → opening s .lines ≡ []
-      go true e = absurd (true≢false (sym (first-if s (begins false 0 s (eqb-true (startRefusal false 0 s) 0 e) .there)) ∙ w))
-      go false e = ap (λ (r : Report). r .lines) (opening-refused s (startRefusal false 0 s) refl (eqb-false (startRefusal false 0 s) 0 e))
-
   none-due : wholeIn (z .begun) s ≡ false → remaining z g s .lines ≡ []
   unfolding remaining
   none-due w = go (z .begun) w
     where
-      go : (b : Bool) → wholeIn b s ≡ false → (cond b (following (z .config) (z .cycle) (standing z g) s) (opening s)) .lines ≡ []
+      go : (b : Bool) → wholeIn b s ≡ false → (cond b (following (z .config) (z .cycle) (standing z g) s) (opening (z .config .quiet) s)) .lines ≡ []
       go true e = no-cycle e
-      go false e = no-first e
+      go false e = no-first (z .config .quiet) s e
 
 -- ---- the whole
 
-module _ (out out' : List ℕ) (r : Taken) (g : Groups) (b : Begins out out' r) where
+module _ (quiet : Bool) (out out' : List ℕ) (r : Taken) (g : Groups) (b : Begins quiet out out' r) where
   first-is : firstText out' r ≡ headerLine
   first-is = front (b .header)
 
-  all-due : (s : List ℕ) → due (begun r g) s ≡ opening s
+  all-due : (s : List ℕ) → due (begun r g) s ≡ opening quiet s
   unfolding remaining
-  all-due s = ap (λ (u : Bool). cond u (following (r .session .config) (r .session .cycle) (standing (r .session) g) s) (opening s)) (b .fresh)
+  all-due s =
+      ap₂ (λ (u q : Bool). cond u (following (r .session .config) (r .session .cycle) (standing (r .session) g) s) (opening q s)) (b .fresh .begun) (b .fresh .mode)
 
 pub chunks-print : ChunksPrint
-chunks-print out out' r g chunks t b calls =
-    ap₂ (λ (h l : List ℕ). h ++ l) (first-is out out' r g b)
-    (sym (chunks-give due whole longest calls) ∙ ap (λ (d : Report). textOf d) (all-due out out' r g b (joined chunks)))
-    ∙ sym (printed-is (joined chunks))
+chunks-print quiet out out' r g chunks t b calls =
+    ap₂ (λ (h l : List ℕ). h ++ l) (first-is quiet out out' r g b)
+    (sym (chunks-give due whole longest calls) ∙ ap (λ (d : Report). textOf d) (all-due quiet out out' r g b (joined chunks)))
+    ∙ sym (printed-is quiet (joined chunks))
 
 pub failed-prints : FailedPrints
 unfolding wholeIn
-failed-prints out out' r g chunks s kept t b calls =
-    ap₂ (λ (h l : List ℕ). h ++ l) (first-is out out' r g b)
+failed-prints quiet out out' r g chunks s kept t b calls =
+    ap₂ (λ (h l : List ℕ). h ++ l) (first-is quiet out out' r g b)
     (sym (append-nil t)
     ∙ ap (λ (l : List ℕ). t ++ l) (sym (none-due (s .session) (s .groups) kept (reached-none due whole longest fresh calls)))
-    ∙ ap (λ (d : Report). d .lines) (sym (reached-due due whole longest calls) ∙ all-due out out' r g b (joined chunks)))
+    ∙ ap (λ (d : Report). d .lines) (sym (reached-due due whole longest calls) ∙ all-due quiet out out' r g b (joined chunks)))
   where
     fresh : wholeIn (r .session .begun) [] ≡ false
-    fresh = ap (λ (u : Bool). wholeIn u []) (b .fresh)
+    fresh = ap (λ (u : Bool). wholeIn u []) (b .fresh .begun)

@@ -1,5 +1,5 @@
--- Paper 01, "Printed run": `grouprun` reads its table from standard input, and a table may be larger than memory. What the calls print of a table that is read in
--- chunks of any size.
+-- Paper 01, "Printed run": `grouprun` reads its table from standard input, and a table may be larger than memory. What the calls print, in either mode, of a table
+-- that is read in chunks of any size.
 -- Assumes nothing.
 use mathlib.Core.Path.{_≡_}
 use mathlib.Core.Bool.{Bool}
@@ -26,15 +26,15 @@ abbrev pub begun : Taken → Groups → Print
 begun r g = printOf (r .session) g
 
 -- the header and the lines of the whole cycles of a file that may be cut anywhere, and no refusal
-abbrev pub wholeLines : List ℕ → List ℕ
-wholeLines s = headerLine ++ opening s .lines
+abbrev pub wholeLines : Bool → List ℕ → List ℕ
+wholeLines quiet s = headerLine ++ opening quiet s .lines
 
 -- For every file and every way to cut it into chunks, none of them empty, the texts one after the other are `printed` of the file.
 abbrev pub ChunksPrint : Type 0
-ChunksPrint = (out out' : List ℕ) (r : Taken) (g : Groups) (chunks : List (List ℕ)) (t : List ℕ) → Begins out out' r
-    → Streamed Calls (begun r g) [] chunks t → firstText out' r ++ t ≡ printed (joined chunks)
+ChunksPrint = (quiet : Bool) (out out' : List ℕ) (r : Taken) (g : Groups) (chunks : List (List ℕ)) (t : List ℕ) → Begins quiet out out' r
+    → Streamed Calls (begun r g) [] chunks t → firstText out' r ++ t ≡ printed quiet (joined chunks)
 
 -- Where the read after some chunks fails, what was given are the header and the lines of the whole cycles before it.
 abbrev pub FailedPrints : Type 0
-FailedPrints = (out out' : List ℕ) (r : Taken) (g : Groups) (chunks : List (List ℕ)) (b : Print) (kept t : List ℕ) → Begins out out' r
-    → Reached Calls (begun r g) [] chunks b kept t → firstText out' r ++ t ≡ wholeLines (joined chunks)
+FailedPrints = (quiet : Bool) (out out' : List ℕ) (r : Taken) (g : Groups) (chunks : List (List ℕ)) (b : Print) (kept t : List ℕ) → Begins quiet out out' r
+    → Reached Calls (begun r g) [] chunks b kept t → firstText out' r ++ t ≡ wholeLines quiet (joined chunks)

@@ -15,14 +15,14 @@ pub struct Taken {
     pub over: bool,
 }
 
-// Begins a print, with the header line.
-pub fn begin(out: &mut [u8]) -> Taken
+// Begins a print in a mode, with the header line.
+pub fn begin(quiet: bool, out: &mut [u8]) -> Taken
     requires { ⌜ 39 ≤ length (now out) ⌝ }
-    ensures { λ r. ⌜ Begins (now (out .entry)) (now (out .exit)) r ⌝ }
+    ensures { λ r. ⌜ Begins quiet (now (out .entry)) (now (out .exit)) r ⌝ }
 {
     let header = print_lines::put_header(out, 0);
     Taken {
-        session: print_pieces::fresh(),
+        session: print_pieces::fresh(quiet),
         kept: 0,
         at: header,
         over: false,

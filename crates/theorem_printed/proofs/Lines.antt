@@ -74,22 +74,22 @@ line-kept C k b c g e f = ap₂ (λ (x : Bool) (o : Option Group). fields k x o 
 
 -- ---- the print of a table, around that line
 
-module _ (s : List ℕ) (past : List Faults) (c : Faults) (rest : List Faults) (whole : tableOf false 0 s .cycles .whole ≡ past ++ (c ∷ rest)) where
+module _ (quiet : Bool) (s : List ℕ) (past : List Faults) (c : Faults) (rest : List Faults) (whole : tableOf false 0 s .cycles .whole ≡ past ++ (c ∷ rest)) where
   abbrev C : Config
-  C = pressOf s
+  C = pressOf quiet s
 
   abbrev b : Cluster
-  b = clusterAt s past
+  b = clusterAt quiet s past
 
-  last : clusterAt s (past ++ (c ∷ [])) ≡ step C b c
+  last : clusterAt quiet s (past ++ (c ∷ [])) ≡ step C b c
   last = after-append C _ past (c ∷ []) ∙ after-one C b c
 
-  printed-around : printed s ≡ around s past c rest (line C (suc (length past)) b c)
+  printed-around : printed quiet s ≡ around quiet s past c rest (line C (suc (length past)) b c)
   unfolding printed reported
   printed-around =
       let k : length past + 1 ≡ suc (length past) = omega arith in
       let first = lines C 1 (beginning C 0 (foundersOf s)) past in
-      let behind : lines C (suc (suc (length past))) (step C b c) rest ≡ lines C (suc (suc (length past))) (clusterAt s (past ++ (c ∷ []))) rest =
+      let behind : lines C (suc (suc (length past))) (step C b c) rest ≡ lines C (suc (suc (length past))) (clusterAt quiet s (past ++ (c ∷ []))) rest =
       ap (λ (x : Cluster). lines C (suc (suc (length past))) x rest) (sym last) in
       ap (λ (x : List ℕ). headerLine ++ (x ++ refusedLine (tableOf false 0 s .cycles .refusal)))
       (ap (lines C 1 (beginning C 0 (foundersOf s))) whole ∙ lines-split C 1 (beginning C 0 (foundersOf s)) past c rest
@@ -97,13 +97,13 @@ module _ (s : List ℕ) (past : List Faults) (c : Faults) (rest : List Faults) (
       ∙ ap (λ (x : List ℕ). first ++ (line C (suc (length past)) b c ++ x)) behind)
       ∙ ap (λ (x : List ℕ). headerLine ++ x) (simp append-assoc)
 
-  shows : keeps C b c ≡ true → (g : Group) × Kept C 0 (foundersOf s) (past ++ (c ∷ [])) × Reference (clusterAt s (past ++ (c ∷ []))) g
-      × (printed s ≡ around s past c rest (fields (suc (length past)) true (some g) (haltedIn C c (b .row)) (enteredIn C c (b .row))))
+  shows : keeps C b c ≡ true → (g : Group) × Kept C 0 (foundersOf s) (past ++ (c ∷ [])) × Reference (clusterAt quiet s (past ++ (c ∷ []))) g
+      × (printed quiet s ≡ around quiet s past c rest (fields (suc (length past)) true (some g) (haltedIn C c (b .row)) (enteredIn C c (b .row))))
   shows e =
       let kept = kept-before C (beginning C 0 (foundersOf s)) past c e in
       let d = defined C 0 (foundersOf s) (past ++ (c ∷ [])) kept in
       let text = line-kept C (suc (length past)) b c (d .0) e (sym (ap (λ (x : Cluster). x .reference) last) ∙ d .1) in
-      (d .0, kept, d .1, printed-around ∙ ap (around s past c rest) text)
+      (d .0, kept, d .1, printed-around ∙ ap (around quiet s past c rest) text)
 
 pub over-printed : OverPrinted
-over-printed s past c rest whole = record { shows = shows s past c rest whole; claims = demand3 (pressOf s) 0 (foundersOf s) }
+over-printed quiet s past c rest whole = record { shows = shows quiet s past c rest whole; claims = demand3 (pressOf quiet s) 0 (foundersOf s) }

@@ -5,18 +5,28 @@ use Rattle.print_options.specs.Options.{usageLine}
 use Rattle.print_options.proofs.put_usage.Statement.{statement}
 use Rattle.print_options.proofs.put_usage.Tie as tie
 
-slice-aggregate-put : tie.Need-slice-aggregate-put
-slice-aggregate-put c = search needs
+slice-aggregate-put-named : tie.Need-slice-aggregate-put-named
+slice-aggregate-put-named c = search needs
 
-put-requires : tie.Need-put-requires
-put-requires c κs = search needs
+slice-aggregate-put-named-2 : tie.Need-slice-aggregate-put-named-2
+slice-aggregate-put-named-2 c = search needs
+
+put-named-requires : tie.Need-put-named-requires
+put-named-requires c κs = search needs
 
 same-length : tie.Need-same-length
 same-length c = search needs
 
 returns : tie.Need-returns
 unfolding usageLine ascii
-returns c = c .before .before .put .ensures
+returns c = c .before .before .put-named .ensures
 
 pub put-usage-spec : {M : Type 1} → statement M
-put-usage-spec = tie.close (tie.spec slice-aggregate-put put-requires same-length returns)
+put-usage-spec =
+    tie.close
+    (tie.spec
+    slice-aggregate-put-named
+    slice-aggregate-put-named-2
+    put-named-requires
+    same-length
+    returns)

@@ -1,7 +1,6 @@
 -- `print_pieces::begin` meets its contract. Assumes nothing.
 use mathlib.Core.Path.{refl}
 use native.Mathlib.Omega.{arith}
-use Rattle.rules.specs.OneCycle.{ofNodes}
 use Rattle.print_pieces.proofs.begin.Statement.{statement}
 use Rattle.print_pieces.proofs.begin.Tie as tie
 
@@ -16,9 +15,9 @@ returns c =
     let b = c .before .before .before in
     record {
       begun = refl;
-      nodes = refl;
+      config = refl;
       first = refl;
-      cluster = b .begin2 .ensures (ofNodes (b .before .before .args .nodes)) (b .before .begin .result) (b .before .begin .ensures);
+      cluster = b .begin2 .ensures (b .before .before .args .config) (b .before .begin .result) (b .before .begin .ensures);
     }
 
 pub begin-spec : {M : Type 1} → statement M
