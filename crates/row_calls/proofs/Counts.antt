@@ -11,6 +11,7 @@ use Rattle.refusal.specs.Refusal.{when}
 use Rattle.refusal.proofs.Laws.{none}
 use Rattle.sets.proofs.Booleans.{or-f-l, or-f-r, not-f}
 use Rattle.state.specs.declared.Node.{Node}
+use Rattle.rules.specs.OneCycle.{wrongMode, quietIn}
 use Rattle.bus_units.specs.Run.{framesLength}
 use Rattle.table.specs.Records.{countAt, startRefusal, cycleLength, cycleRefusal}
 use Rattle.table.specs.Table.{cyclesIn, tableOf}
@@ -28,23 +29,24 @@ pub record Fits (n len : ℕ) : Type 0 where
   pub count : Counted n
   pub entries : len ≡ n
 
-pub row-fits : (n len : ℕ) (ordered : Bool) (s : List ℕ) → rowStatus n len ordered s ≡ 0 → Fits n len
+pub row-fits : (n mode len : ℕ) (ordered : Bool) (s : List ℕ) → rowStatus n mode len ordered s ≡ 0 → Fits n len
 unfolding rowStatus
-row-fits n len ordered s e =
+row-fits n mode len ordered s e =
     let other = not (eqb len n) in
     let long = ltb (cycleLength s) (length s) in
     let last = when (not ordered) 4 ∷ [] in
-    let a = none (ltb n 2 || ltb 64 n) 1 (when (other || long) 3 ∷ last) refl e in
-    let b = none (other || long) 3 last refl (a .1) in
+    let a = none (ltb n 2 || ltb 64 n) 1 (when (wrongMode mode) 2 ∷ when (other || long) 3 ∷ last) refl e in
+    let m = none (wrongMode mode) 2 (when (other || long) 3 ∷ last) refl (a .1) in
+    let b = none (other || long) 3 last refl (m .1) in
     record {
       count = (ltb-false n 2 (or-f-l (ltb n 2) (ltb 64 n) (a .0)), ltb-false 64 n (or-f-r (ltb n 2) (ltb 64 n) (a .0)));
       entries = eqb-true len n (not-f (eqb len n) (or-f-l other long (b .0)));
     }
 
 -- a cycle is accepted only on a row that is
-pub cycle-fits : (n : ℕ) (nodes : List Node) (s : List ℕ) → cycleStatus n nodes s ≡ 0 → Fits n (length nodes)
+pub cycle-fits : (n mode : ℕ) (nodes : List Node) (s : List ℕ) → cycleStatus n mode nodes s ≡ 0 → Fits n (length nodes)
 unfolding cycleStatus
-cycle-fits n nodes s e = row-fits n (length nodes) (inOrder n 0 nodes) s (go (rowStatus n (length nodes) (inOrder n 0 nodes) s) e)
+cycle-fits n mode nodes s e = row-fits n mode (length nodes) (inOrder (quietIn mode) n 0 nodes) s (go (rowStatus n mode (length nodes) (inOrder (quietIn mode) n 0 nodes) s) e)
   where
     go : (row : ℕ) → cond (eqb row 0) (cycleRefusal n 1 s) row ≡ 0 → row ≡ 0
     go row e = by (eqb row 0) refl e
@@ -74,18 +76,29 @@ table-counted entries s = go (eqb r 0) refl
     go true f e = begun (eqb-true r 0 f)
     go false f e = begun e
 
+-- a run is accepted in a mode that there is
+in-mode : (mode k : ℕ) → cond (wrongMode mode) 2 k ≡ 0 → k ≡ 0
+in-mode mode k = go (wrongMode mode)
+  where
+    go : (b : Bool) → cond b 2 k ≡ 0 → k ≡ 0
+    go true e = absurd (omega arith)
+    go false e = e
+
+pub run-fits : (mode : ℕ) (nodes : List Node) (s : List ℕ) → runStatus mode nodes s ≡ 0 → tableOf true (length nodes) s .cycles .refusal ≡ 0
+unfolding runStatus
+run-fits mode nodes s e = in-mode mode _ e
+
 -- a run through frames that is not refused was lent room for them, and so is the plain run on its row
-pub framed-fits : (entries room : ℕ) (s : List ℕ) → framedStatus entries room s ≡ 0 → (room ≡ framesLength) × (tableOf true entries s .cycles .refusal ≡ 0)
+pub framed-fits : (mode entries room : ℕ) (s : List ℕ) → framedStatus mode entries room s ≡ 0 → (room ≡ framesLength) × (tableOf true entries s .cycles .refusal ≡ 0)
 unfolding framedStatus
-framed-fits entries room s = go (eqb room framesLength) refl
+framed-fits mode entries room s e = go (eqb room framesLength) refl (in-mode mode _ e)
   where
     go : (b : Bool) → eqb room framesLength ≡ b → tableOf true (cond b entries 0) s .cycles .refusal ≡ 0
         → (room ≡ framesLength) × (tableOf true entries s .cycles .refusal ≡ 0)
     go true f e = (eqb-true room framesLength f, e)
     go false f e = absurd (let few : 2 ≤ 0 = table-counted 0 s e .0 in omega arith)
 
-pub counted : (t : Task) (n : ℕ) (nodes : List Node) (room : ℕ) (s : List ℕ) → callStatus t n nodes room s ≡ 0 → Counted (length nodes)
-unfolding runStatus
-counted Cycle n nodes room s e = fitting n (length nodes) (cycle-fits n nodes s e)
-counted Run n nodes room s e = table-counted (length nodes) s e
-counted FramedRun n nodes room s e = table-counted (length nodes) s (framed-fits (length nodes) room s e .1)
+pub counted : (t : Task) (n mode : ℕ) (nodes : List Node) (room : ℕ) (s : List ℕ) → callStatus t n mode nodes room s ≡ 0 → Counted (length nodes)
+counted Cycle n mode nodes room s e = fitting n (length nodes) (cycle-fits n mode nodes s e)
+counted Run n mode nodes room s e = table-counted (length nodes) s (run-fits mode nodes s e)
+counted FramedRun n mode nodes room s e = table-counted (length nodes) s (framed-fits mode (length nodes) room s e .1)

@@ -11,7 +11,8 @@ use borrow.Author.Tests.{eqb-true, eqb-false, ne-eqb}
 use Rattle.refusal.specs.Refusal.{first, unless}
 use Rattle.state.specs.declared.Node.{Node}
 use Rattle.rules.specs.declared.Faults.{Faults}
-use Rattle.rules.specs.OneCycle.{ofNodes}
+use Rattle.rules.specs.declared.Config.{Config}
+use Rattle.rules.specs.OneCycle.{wrongMode, inMode}
 use Rattle.rules.specs.Faults.{Row}
 use Rattle.rules.specs.Reference.{beginning}
 use Rattle.theorem_formed.proofs.Formed.{FormedRow, founding-formed}
@@ -33,47 +34,51 @@ begun-table lent entries s e = go (eqb (startRefusal lent entries s) 0) refl
         sym (ap (λ (r : Cycles). r .refusal) (table-refused lent entries s (eqb-false (startRefusal lent entries s) 0 f))) ∙ e
 
 -- the cycles of a table whose first record is refused are none; of any other it begins well formed
-through-plain : (entries : ℕ) (s : List ℕ) → framedThrough (tableOf true entries s) ≡ plainThrough (tableOf true entries s)
+through-plain : (mode entries : ℕ) (s : List ℕ) → framedThrough mode (tableOf true entries s) ≡ plainThrough mode (tableOf true entries s)
 unfolding tableOf beginning framedRows plainRows
-through-plain entries s = go (eqb (startRefusal true entries s) 0) refl
+through-plain mode entries s = go (eqb (startRefusal true entries s) 0) refl
   where
     t : Table
     t = tableOf true entries s
 
-    none : (row : Row) (cs : List Faults) → cs ≡ [] → framedRows (ofNodes (t .nodes)) 1 row cs ≡ plainRows (ofNodes (t .nodes)) row cs
-    none row cs e = ap (framedRows (ofNodes (t .nodes)) 1 row) e ∙ sym (ap (plainRows (ofNodes (t .nodes)) row) e)
+    C : Config
+    C = inMode mode (t .nodes)
 
-    begun : startRefusal true entries s ≡ 0 → FormedRow (t .nodes) (rowBegun t)
-    begun e = founding-formed (countAt s) 0 (foundingAt s) (pow-pos 32) (begins true entries s e .founding)
+    none : (row : Row) (cs : List Faults) → cs ≡ [] → framedRows C 1 row cs ≡ plainRows C row cs
+    none row cs e = ap (framedRows C 1 row) e ∙ sym (ap (plainRows C row) e)
 
-    few : startRefusal true entries s ≡ 0 → framedThrough t ≡ plainThrough t
-    few e = framed-run-is-plain (ofNodes (t .nodes)) 1 (rowBegun t) (t .cycles .whole) (begins true entries s e .most) (begun e)
+    begun : startRefusal true entries s ≡ 0 → FormedRow C (rowBegun mode t)
+    begun e = founding-formed C 0 (foundingAt s) (pow-pos 32) (begins true entries s e .founding)
 
-    go : (b : Bool) → eqb (startRefusal true entries s) 0 ≡ b → framedThrough t ≡ plainThrough t
+    few : startRefusal true entries s ≡ 0 → framedThrough mode t ≡ plainThrough mode t
+    few e = framed-run-is-plain C 1 (rowBegun mode t) (t .cycles .whole) (begins true entries s e .most) (begun e)
+
+    go : (b : Bool) → eqb (startRefusal true entries s) 0 ≡ b → framedThrough mode t ≡ plainThrough mode t
     go true e = few (eqb-true (startRefusal true entries s) 0 e)
-    go false e = none (rowBegun t) (t .cycles .whole) (ap (λ (c : Cycles). c .whole) (table-refused true entries s (eqb-false (startRefusal true entries s) 0 e)))
+    go false e = none (rowBegun mode t) (t .cycles .whole) (ap (λ (c : Cycles). c .whole) (table-refused true entries s (eqb-false (startRefusal true entries s) 0 e)))
 
-framed-status : (nodes : List Node) (s : List ℕ) → framedStatus (length nodes) framesLength s ≡ runStatus nodes s
+framed-status : (mode : ℕ) (nodes : List Node) (s : List ℕ) → framedStatus mode (length nodes) framesLength s ≡ runStatus mode nodes s
 unfolding framedStatus runStatus
-framed-status nodes s = refl
+framed-status mode nodes s = refl
 
-framed-to : (entries : ℕ) (s : List ℕ) → framedTo (tableOf true entries s) ≡ ranTo (tableOf true entries s)
-framed-to entries s =
+framed-to : (mode entries : ℕ) (s : List ℕ) → framedTo mode (tableOf true entries s) ≡ ranTo mode (tableOf true entries s)
+framed-to mode entries s =
     let t = tableOf true entries s in
-    ap (nodesOf (t .nodes)) (ap (lastRow (rowBegun t)) (through-plain entries s) ∙ last-plain (ofNodes (t .nodes)) (beginning (ofNodes (t .nodes)) 0 (t .founding)) (t .cycles .whole))
+    let C = inMode mode (t .nodes) in
+    ap (nodesOf (t .nodes)) (ap (lastRow (rowBegun mode t)) (through-plain mode entries s) ∙ last-plain C (beginning C 0 (t .founding)) (t .cycles .whole))
 
-pub framed-as-plain : (nodes : List Node) (s : List ℕ) → FramedAsPlain nodes s
+pub framed-as-plain : (mode : ℕ) (nodes : List Node) (s : List ℕ) → FramedAsPlain mode nodes s
 unfolding framedLeft runLeft
-framed-as-plain nodes s =
+framed-as-plain mode nodes s =
     record {
-      status = framed-status nodes s;
-      states = through-plain (length nodes) s;
-      left = ap₂ (λ (k : ℕ) (x : List Node). unless k x nodes) (framed-status nodes s) (framed-to (length nodes) s);
+      status = framed-status mode nodes s;
+      states = through-plain mode (length nodes) s;
+      left = ap₂ (λ (k : ℕ) (x : List Node). unless k x nodes) (framed-status mode nodes s) (framed-to mode (length nodes) s);
     }
 
 -- so that one that is not refused leaves what the plain run leaves
-pub framed-left : (nodes : List Node) (room : ℕ) (s : List ℕ) → framedStatus (length nodes) room s ≡ 0 → framedLeft nodes room s ≡ runLeft nodes s
-framed-left nodes room s e = ap (λ (k : ℕ). framedLeft nodes k s) (framed-fits (length nodes) room s e .0) ∙ framed-as-plain nodes s .left
+pub framed-left : (mode : ℕ) (nodes : List Node) (room : ℕ) (s : List ℕ) → framedStatus mode (length nodes) room s ≡ 0 → framedLeft mode nodes room s ≡ runLeft mode nodes s
+framed-left mode nodes room s e = ap (λ (k : ℕ). framedLeft mode nodes k s) (framed-fits mode (length nodes) room s e .0) ∙ framed-as-plain mode nodes s .left
 
 -- ---- frames of another length: 3, in the place of the row's
 
@@ -91,9 +96,9 @@ start-3 entries s e =
     go false false false true r z f w e = absurd (eqb-false 1 0 refl e)
     go false false false false r z f w e = ap (λ (t : Bool). cond t 3 (cond f 13 0)) w
 
-pub wrong-frames : (entries room : ℕ) (s : List ℕ) → eqb room framesLength ≡ false → startRefusal true entries s ≡ 0 → framedStatus entries room s ≡ 3
+pub wrong-frames : (mode entries room : ℕ) (s : List ℕ) → wrongMode mode ≡ false → eqb room framesLength ≡ false → startRefusal true entries s ≡ 0 → framedStatus mode entries room s ≡ 3
 unfolding framedStatus
-wrong-frames entries room s o e =
+wrong-frames mode entries room s w o e =
     let three = start-3 entries s e in
-    ap (λ (b : Bool). tableOf true (cond b entries 0) s .cycles .refusal) o
+    ap₂ (λ (a b : Bool). cond a 2 (tableOf true (cond b entries 0) s .cycles .refusal)) w o
     ∙ ap (λ (c : Cycles). c .refusal) (table-refused true 0 s (λ z. eqb-false 3 0 refl (sym three ∙ z))) ∙ three

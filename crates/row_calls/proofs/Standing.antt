@@ -12,7 +12,7 @@ use Rattle.sets.proofs.Booleans.{and-i, or-f-l, or-f-r, not-e, not-f}
 use Rattle.state.specs.declared.State.{State}
 use Rattle.state.specs.declared.Node.{Node}
 use Rattle.state.specs.State.{formedPlace, formedState, formed}
-use Rattle.rules.specs.OneCycle.{ofNodes}
+use Rattle.rules.specs.OneCycle.{wrongMode, quietIn, inMode}
 use Rattle.rules.specs.Faults.{at}
 use Rattle.rules.specs.Reference.{beginning}
 use Rattle.table.specs.Records.{isKind, beyond, wrongRow, countAt, foundingAt, startRefusal, cycleLength, wrongCycle, cycleRefusal, faultsAt}
@@ -28,19 +28,19 @@ use Rattle.row_calls.proofs.OverCalls.{stands-length}
 
 -- ---- in order
 
-placed : (n q : ℕ) (s : State) → 2 ≤ n → n ≤ 64 → q < n → formedState q n s ≡ true → formed (record { state = s; id = q; nodes = n }) ≡ true
+placed : (quiet : Bool) (n q : ℕ) (s : State) → 2 ≤ n → n ≤ 64 → q < n → formedState quiet q n s ≡ true → formed quiet (record { state = s; id = q; nodes = n }) ≡ true
 unfolding formed formedPlace
-placed n q s least most l f =
+placed quiet n q s least most l f =
     let place = and-i (leb 2 n && leb n 64) (ltb q n) (and-i (leb 2 n) (leb n 64) (le-leb 2 n least) (le-leb n 64 most)) (lt-ltb q n l) in
-    and-i (formedPlace q n) (formedState q n s) place f
+    and-i (formedPlace q n) (formedState quiet q n s) place f
 
-pub stands-in-order : (n : ℕ) (nodes : List Node) (h : History) → Stands n nodes h → 2 ≤ n → n ≤ 64 → inOrder n 0 nodes ≡ true
+pub stands-in-order : (mode n : ℕ) (nodes : List Node) (h : History) → Stands mode n nodes h → 2 ≤ n → n ≤ 64 → inOrder (quietIn mode) n 0 nodes ≡ true
 unfolding beginning
-stands-in-order n nodes h w least most =
-    ap (inOrder n 0) (w .holds)
-    ∙ in-order n (ruled n h)
-    (λ q l. placed n q (at (ruled n h) q) least most l
-    (after-formed (ofNodes n) (beginning (ofNodes n) 0 (h .founding)) (h .cycles) (founding-formed n 0 (h .founding) (pow-pos 32) (w .founders)) q l))
+stands-in-order mode n nodes h w least most =
+    ap (inOrder (quietIn mode) n 0) (w .holds)
+    ∙ in-order (quietIn mode) n (ruled mode n h)
+    (λ q l. placed (quietIn mode) n q (at (ruled mode n h) q) least most l
+    (after-formed (inMode mode n) (beginning (inMode mode n) 0 (h .founding)) (h .cycles) (founding-formed (inMode mode n) 0 (h .founding) (pow-pos 32) (w .founders)) q l))
 
 -- ---- refusals of records and tables are none of 4
 
@@ -107,39 +107,51 @@ table-not-4 entries s e = go (eqb (startRefusal true entries s) 0) e
 
 -- ---- a call on a row that stands
 
-row-not-4 : (n m : ℕ) (nodes : List Node) (h : History) (s : List ℕ) → Stands n nodes h → rowStatus m (length nodes) (inOrder m 0 nodes) s ≡ 4 → ⊥
-unfolding rowStatus first
-row-not-4 n m nodes h s w e =
-    go (ltb m 2 || ltb 64 m) refl (not (eqb (length nodes) m) || ltb (cycleLength s) (length s)) refl (not (inOrder m 0 nodes)) refl e
-  where
-    go : (count : Bool) → (ltb m 2 || ltb 64 m) ≡ count
-        → (other : Bool) → (not (eqb (length nodes) m) || ltb (cycleLength s) (length s)) ≡ other
-        → (disorder : Bool) → not (inOrder m 0 nodes) ≡ disorder
-        → _≡_ {A = ℕ} (cond count 1 (cond other 3 (cond disorder 4 0))) 4 → ⊥
-    go true c other o disorder d e = eqb-false 1 4 refl e
-    go false c true o disorder d e = eqb-false 3 4 refl e
-    go false c false o false d e = eqb-false 0 4 refl e
-    go false c false o true d e =
-        let fits : length nodes ≡ m = eqb-true (length nodes) m (not-f (eqb (length nodes) m) (or-f-l (not (eqb (length nodes) m)) (ltb (cycleLength s) (length s)) o)) in
-        let same : n ≡ m = sym (stands-length n nodes h w) ∙ fits in
-        let here = subst (λ (k : ℕ). Stands k nodes h) same w in
-        let least = ltb-false m 2 (or-f-l (ltb m 2) (ltb 64 m) c) in
-        let most = ltb-false 64 m (or-f-r (ltb m 2) (ltb 64 m) c) in
-        true≢false (sym (stands-in-order m nodes h here least most) ∙ not-e (inOrder m 0 nodes) d)
+module _ (mode n m : ℕ) (nodes : List Node) (h : History) (s : List ℕ) (w : Stands mode n nodes h) where
+  row-not-4 : rowStatus m mode (length nodes) (inOrder (quietIn mode) m 0 nodes) s ≡ 4 → ⊥
+  unfolding rowStatus first
+  row-not-4 e =
+      go (ltb m 2 || ltb 64 m) refl (wrongMode mode) (not (eqb (length nodes) m) || ltb (cycleLength s) (length s)) refl (not (inOrder (quietIn mode) m 0 nodes)) refl e
+    where
+      go : (count : Bool) → (ltb m 2 || ltb 64 m) ≡ count
+          → (wrong other : Bool) → (not (eqb (length nodes) m) || ltb (cycleLength s) (length s)) ≡ other
+          → (disorder : Bool) → not (inOrder (quietIn mode) m 0 nodes) ≡ disorder
+          → _≡_ {A = ℕ} (cond count 1 (cond wrong 2 (cond other 3 (cond disorder 4 0)))) 4 → ⊥
+      go true c wrong other o disorder d e = eqb-false 1 4 refl e
+      go false c true other o disorder d e = eqb-false 2 4 refl e
+      go false c false true o disorder d e = eqb-false 3 4 refl e
+      go false c false false o false d e = eqb-false 0 4 refl e
+      go false c false false o true d e =
+          let fits : length nodes ≡ m = eqb-true (length nodes) m (not-f (eqb (length nodes) m) (or-f-l (not (eqb (length nodes) m)) (ltb (cycleLength s) (length s)) o)) in
+          let same : n ≡ m = sym (stands-length mode n nodes h w) ∙ fits in
+          let here = subst (λ (k : ℕ). Stands mode k nodes h) same w in
+          let least = ltb-false m 2 (or-f-l (ltb m 2) (ltb 64 m) c) in
+          let most = ltb-false 64 m (or-f-r (ltb m 2) (ltb 64 m) c) in
+          true≢false (sym (stands-in-order mode m nodes h here least most) ∙ not-e (inOrder (quietIn mode) m 0 nodes) d)
 
-cycle-not-4 : (n m : ℕ) (nodes : List Node) (h : History) (s : List ℕ) → Stands n nodes h → cycleStatus m nodes s ≡ 4 → ⊥
-unfolding cycleStatus
-cycle-not-4 n m nodes h s w e = go (eqb (rowStatus m (length nodes) (inOrder m 0 nodes) s) 0) e
-  where
-    go : (good : Bool) → cond good (cycleRefusal m 1 s) (rowStatus m (length nodes) (inOrder m 0 nodes) s) ≡ 4 → ⊥
-    go true e = record-not-4 m 1 s e
-    go false e = row-not-4 n m nodes h s w e
+  cycle-not-4 : cycleStatus m mode nodes s ≡ 4 → ⊥
+  unfolding cycleStatus
+  cycle-not-4 e = go (eqb (rowStatus m mode (length nodes) (inOrder (quietIn mode) m 0 nodes) s) 0) e
+    where
+      go : (good : Bool) → cond good (cycleRefusal m 1 s) (rowStatus m mode (length nodes) (inOrder (quietIn mode) m 0 nodes) s) ≡ 4 → ⊥
+      go true e = record-not-4 m 1 s e
+      go false e = row-not-4 e
 
-not-4 : (n : ℕ) (t : Task) (m : ℕ) (nodes : List Node) (room : ℕ) (h : History) (s : List ℕ) → Stands n nodes h → callStatus t m nodes room s ≡ 4 → ⊥
-unfolding runStatus framedStatus
-not-4 n Cycle m nodes room h s w e = cycle-not-4 n m nodes h s w e
-not-4 n Run m nodes room h s w e = table-not-4 (length nodes) s e
-not-4 n FramedRun m nodes room h s w e = table-not-4 (framedEntries room (length nodes)) s e
+  -- a run's mode is looked at first
+  run-not-4 : (entries : ℕ) → cond (wrongMode mode) 2 (tableOf true entries s .cycles .refusal) ≡ 4 → ⊥
+  run-not-4 entries = go (wrongMode mode)
+    where
+      go : (wrong : Bool) → cond wrong 2 (tableOf true entries s .cycles .refusal) ≡ 4 → ⊥
+      go true e = eqb-false 2 4 refl e
+      go false e = table-not-4 entries s e
 
-pub never-4 : (n : ℕ) (c : Call) (nodes : List Node) (h : History) → Stands n nodes h → status c nodes ≡ 4 → ⊥
-never-4 n c nodes h w e = not-4 n (c .task) (c .count) nodes (c .room) h (c .bytes) w e
+  not-4 : (t : Task) (room : ℕ) → callStatus t m mode nodes room s ≡ 4 → ⊥
+  unfolding runStatus framedStatus
+  not-4 Cycle room e = cycle-not-4 e
+  not-4 Run room e = run-not-4 (length nodes) e
+  not-4 FramedRun room e = run-not-4 (framedEntries room (length nodes)) e
+
+-- in the mode of the row
+pub never-4 : (mode n : ℕ) (c : Call) (nodes : List Node) (h : History) → c .mode ≡ mode → Stands mode n nodes h → status c nodes ≡ 4 → ⊥
+never-4 mode n c nodes h own w e =
+    not-4 mode n (c .count) nodes h (c .bytes) w (c .task) (c .room) (ap (λ (k : ℕ). callStatus (c .task) (c .count) k nodes (c .room) (c .bytes)) (sym own) ∙ e)
