@@ -12,8 +12,8 @@ use Rattle.sets.proofs.Booleans.{and-l, ltb-true}
 use Rattle.sets.proofs.Membership.{has-diff}
 use Rattle.rules.specs.declared.Config.{Config}
 use Rattle.rules.specs.declared.Vote.{Vote}
-use Rattle.rules.specs.OneCycle.{Ballots, memberDecides, joinerDecides}
-use Rattle.rules.specs.Ballots.{voteAt, ballotsOf}
+use Rattle.rules.specs.OneCycle.{Ballots, memberDecides, silentDecides, joinerDecides}
+use Rattle.rules.specs.Ballots.{groupAt, voteAt, ballotsOf}
 use Rattle.rules.proofs.Votes.{vote-self}
 use Rattle.frames.specs.declared.Fault.the-variants.{Length}
 use Rattle.frames.specs.declared.VoteRead.the-variants as vote
@@ -31,26 +31,26 @@ use Rattle.bus_units.specs.Units.{received}
 use Rattle.bus_channels.specs.Channels.{channelOf, votePut, copyOf, voteRead, ballotsRead, decidedRead}
 use Rattle.bus_channels.proofs.Carried.{Carries, carries}
 
-module _ (C : Config) (count members : ℕ) (numbers sets bases views : List ℕ) (few : C .nodes ≤ 64) (counted : count < 64) where
+module _ (C : Config) (count voting : ℕ) (numbers sets bases views : List ℕ) (few : C .nodes ≤ 64) (counted : count < 64) where
   abbrev n : ℕ
   n = C .nodes
 
   -- what stands on a channel
   abbrev pub cast : ℕ → List ℕ
-  cast channel = channelOf n (votePut numbers sets bases views members count channel)
+  cast channel = channelOf n (votePut numbers sets bases views voting count channel)
 
   sent-is : (channel p : ℕ) (v : Vote) (m : Bool) (x : List ℕ) → cond m (some (voteFrame p v count channel)) none ≡ some x → length x ≡ 36
   sent-is channel p v true x e = let z : voteFrame p v count channel ≡ x = cc in ap (λ (s : List ℕ). length s) (sym z) ∙ length-vote p v count channel
   sent-is channel p v false x e = absurd (let z : _≡_ {A = ℕ} 0 1 = cc in omega arith)
 
-  pub carried : (channel : ℕ) → Carries n (votePut numbers sets bases views members count channel) (cast channel)
-  carried channel = carries (votePut numbers sets bases views members count channel) (λ q x e. short x (sent-is channel q (voteAt numbers sets bases views q) (has q members) x e)) n few
+  pub carried : (channel : ℕ) → Carries n (votePut numbers sets bases views voting count channel) (cast channel)
+  carried channel = carries (votePut numbers sets bases views voting count channel) (λ q x e. short x (sent-is channel q (voteAt numbers sets bases views q) (has q voting) x e)) n few
     where
       short : (x : List ℕ) → length x ≡ 36 → length x ≤ 36
       short x e = omega arith
 
-  module _ (formed : (p : ℕ) → has p members ≡ true → (p < n) × (getD numbers p 0 < 2 ^ 32) × (formedVote n p (voteAt numbers sets bases views p) ≡ true)) (reach : ℕ)
-      (within : (p : ℕ) → has p reach ≡ true → has p members ≡ true) where
+  module _ (formed : (p : ℕ) → has p voting ≡ true → (p < n) × (getD numbers p 0 < 2 ^ 32) × (formedVote n p (voteAt numbers sets bases views p) ≡ true)) (reach : ℕ)
+      (within : (p : ℕ) → has p reach ≡ true → has p voting ≡ true) where
     one-copy : (channel p : ℕ)
         → readVote n p count channel (copyOf 36 reach p (cast channel)) ≡ cond (has p reach) (vote.Whole (voteAt numbers sets bases views p)) (vote.Refused Length)
     one-copy channel p = go (has p reach) refl
@@ -66,7 +66,7 @@ module _ (C : Config) (count members : ℕ) (numbers sets bases views : List ℕ
         go true e =
             let m = within p e in
             let f = formed p m in
-            let sent : votePut numbers sets bases views members count channel p ≡ some x = rw m in
+            let sent : votePut numbers sets bases views voting count channel p ≡ some x = rw m in
             ap (λ (b : Bool). readVote n p count channel (take (cond b 36 0) (drop (36 * p) (cast channel)))) e
             ∙ ap (λ (k : ℕ). readVote n p count channel (take k (drop (36 * p) (cast channel)))) (sym (length-vote p v count channel))
             ∙ ap (readVote n p count channel) (carried channel .there p x (f .0) sent) ∙ vote-back n p v count channel few (f .0) counted (f .1) (f .2)
@@ -100,28 +100,29 @@ module _ (C : Config) (count members : ℕ) (numbers sets bases views : List ℕ
         each p =
             ap (λ (o : Option Vote). cond (ltb p n) o none) (ap received (both-copies p) ∙ got (has p reach) (voteAt numbers sets bases views p)) ∙ below p (has p reach) refl
 
-    pub decided-read : (w : Roles) (q : ℕ) → decidedRead numbers sets bases views C count w reach (cast 0) (cast 1) q ≡ decidedAt numbers sets bases views C w reach q
+    pub decided-read : (w : Roles) (q : ℕ) → decidedRead numbers sets bases views C count w voting reach (cast 0) (cast 1) q ≡ decidedAt numbers sets bases views C w voting reach q
     unfolding decidedRead decidedAt
     decided-read w q =
         ap (λ (b : Ballots).
-        cond (has q (w .members)) (memberDecides C q (voteAt numbers sets bases views q) b) (cond (has q (w .joining)) (joinerDecides C q b) (outAt w q)))
+        cond (has q voting) (memberDecides C q (voteAt numbers sets bases views q) b)
+        (cond (has q (w .members)) (silentDecides C q (groupAt numbers sets bases q) b) (cond (has q (w .joining)) (joinerDecides C q b) (outAt w q))))
         ballots-read
 
 -- the same from the values that the code has on its way: the channels a and b, and the nodes whose votes go out
-pub states-read : (C : Config) (count lost sent : ℕ) (w : Roles) (numbers sets bases views missed a b : List ℕ) (r : States) → C .nodes ≤ 64 → count < 64
-    → ((p : ℕ) → has p (w .members) ≡ true → (p < C .nodes) × (getD numbers p 0 < 2 ^ 32) × (formedVote (C .nodes) p (voteAt numbers sets bases views p) ≡ true))
-    → a ≡ channelOf (C .nodes) (votePut numbers sets bases views (w .members) count 0) → b ≡ channelOf (C .nodes) (votePut numbers sets bases views (w .members) count 1) → sent ≡ w .members ∖ lost
-    → ((q : ℕ) → q < C .nodes → stateAt r q ≡ decidedRead numbers sets bases views C count w (sent ∖ getD missed q 0) a b q)
-    → (q : ℕ) → q < C .nodes → stateAt r q ≡ decidedAt numbers sets bases views C w (w .members ∖ lost ∖ getD missed q 0) q
-states-read C count lost sent w numbers sets bases views missed a b r few counted formed ea eb es made q h =
-    made q h ∙ ap₂ (λ (x y : List ℕ). decidedRead numbers sets bases views C count w (sent ∖ getD missed q 0) x y q) ea eb
-    ∙ ap
-    (λ (x : ℕ).
-    decidedRead numbers sets bases views C count w (x ∖ getD missed q 0) (channelOf (C .nodes) (votePut numbers sets bases views (w .members) count 0)) (channelOf (C .nodes) (votePut numbers sets bases views (w .members) count 1)) q)
-    es
-    ∙ decided-read C count (w .members) numbers sets bases views few counted formed (w .members ∖ lost ∖ getD missed q 0) within w q
+pub states-read : (C : Config) (count voting lost sent : ℕ) (w : Roles) (numbers sets bases views missed a b : List ℕ) (r : States) → C .nodes ≤ 64 → count < 64
+    → ((p : ℕ) → has p voting ≡ true → (p < C .nodes) × (getD numbers p 0 < 2 ^ 32) × (formedVote (C .nodes) p (voteAt numbers sets bases views p) ≡ true))
+    → a ≡ channelOf (C .nodes) (votePut numbers sets bases views voting count 0) → b ≡ channelOf (C .nodes) (votePut numbers sets bases views voting count 1) → sent ≡ voting ∖ lost
+    → ((q : ℕ) → q < C .nodes → stateAt r q ≡ decidedRead numbers sets bases views C count w voting (sent ∖ getD missed q 0) a b q)
+    → (q : ℕ) → q < C .nodes → stateAt r q ≡ decidedAt numbers sets bases views C w voting (voting ∖ lost ∖ getD missed q 0) q
+states-read C count voting lost sent w numbers sets bases views missed a b r few counted formed ea eb es made q h =
+    made q h ∙ ap₂ (λ (x y : List ℕ). decidedRead numbers sets bases views C count w voting (sent ∖ getD missed q 0) x y q) ea eb
+    ∙ ap (λ (x : ℕ). decidedRead numbers sets bases views C count w voting (x ∖ getD missed q 0) (channel 0) (channel 1) q) es
+    ∙ decided-read C count voting numbers sets bases views few counted formed (voting ∖ lost ∖ getD missed q 0) within w q
   where
-    within : (p : ℕ) → has p (w .members ∖ lost ∖ getD missed q 0) ≡ true → has p (w .members) ≡ true
+    channel : ℕ → List ℕ
+    channel k = channelOf (C .nodes) (votePut numbers sets bases views voting count k)
+
+    within : (p : ℕ) → has p (voting ∖ lost ∖ getD missed q 0) ≡ true → has p voting ≡ true
     within p e =
-        let k : has p (w .members ∖ lost) ≡ true = and-l (has p (w .members ∖ lost)) (not (has p (getD missed q 0))) (sym (has-diff p (w .members ∖ lost) (getD missed q 0)) ∙ e) in
-        and-l (has p (w .members)) (not (has p lost)) (sym (has-diff p (w .members) lost) ∙ k)
+        let k : has p (voting ∖ lost) ≡ true = and-l (has p (voting ∖ lost)) (not (has p (getD missed q 0))) (sym (has-diff p (voting ∖ lost) (getD missed q 0)) ∙ e) in
+        and-l (has p voting) (not (has p lost)) (sym (has-diff p voting lost) ∙ k)

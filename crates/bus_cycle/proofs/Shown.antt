@@ -5,7 +5,7 @@ use mathlib.Core.List.{List}
 use Prim.Native.Nat.{ℕ, _≤_, _<_}
 use native.Mathlib.Omega.{arith}
 use lib.ListN.{length, getD}
-use Rattle.sets.specs.Sets.{_∖_}
+use Rattle.sets.specs.Sets.{_∩_, _∖_}
 use Rattle.state.specs.State.{formedState}
 use Rattle.rules.specs.declared.Faults.{Faults}
 use Rattle.rules.specs.declared.Config.{Config}
@@ -19,40 +19,47 @@ use Rattle.parts.proofs.Laws.{part-length, four-parts}
 use Rattle.cluster_states.specs.declared.Roles.{Roles}
 use Rattle.cluster_states.specs.declared.States.{States}
 use Rattle.cluster_states.specs.States.{rolesOf, stateAt, rowOf}
-use Rattle.cluster_states.specs.Decided.{rolesAfter, viewAt}
+use Rattle.cluster_states.specs.Decided.{rolesAfter, viewAt, votingOf}
 use Rattle.cluster_states.proofs.Whole.{roles}
 use Rattle.bus_channels.specs.Channels.{channelOf, heartbeatPut, votePut}
 use Rattle.bus_units.proofs.Shown.{beats-length, ballots-length}
 use Rattle.bus_cycle.proofs.Slots.{heartbeats-shown, votes-shown}
 
-row-formed : (n : ℕ) (s : States) → ((q : ℕ) → q < n → formedState q n (stateAt s q) ≡ true) → FormedRow n (rowOf n s)
+row-formed : (C : Config) (s : States) → ((q : ℕ) → q < C .nodes → formedState (C .quiet) q (C .nodes) (stateAt s q) ≡ true) → FormedRow C (rowOf (C .nodes) s)
 unfolding rowOf
-row-formed n s w q l = ap (formedState q n) (get-tabulate n q (stateAt s) stopped l) ∙ w q l
+row-formed C s w q l = ap (formedState (C .quiet) q (C .nodes)) (get-tabulate (C .nodes) q (stateAt s) stopped l) ∙ w q l
 
 module _ (C : Config) (count : ℕ) (s : States) (f : Faults) (views frames : List ℕ) (few : C .nodes ≤ 64) (counted : count < 64) (sized : length frames ≡ framesLength)
-    (formed : (q : ℕ) → q < C .nodes → formedState q (C .nodes) (stateAt s q) ≡ true) where
+    (formed : (q : ℕ) → q < C .nodes → formedState (C .quiet) q (C .nodes) (stateAt s q) ≡ true) where
   abbrev n : ℕ
   n = C .nodes
 
   abbrev beats : Roles → ℕ → List ℕ
   beats w channel = channelOf n (heartbeatPut w count channel)
 
-  abbrev ballots : Roles → ℕ → List ℕ
-  ballots w channel = channelOf n (votePut (s .numbers) (s .sets) (s .bases) views (w .members) count channel)
+  -- d are the members that vote
+  abbrev ballots : ℕ → ℕ → List ℕ
+  ballots d channel = channelOf n (votePut (s .numbers) (s .sets) (s .bases) views d count channel)
 
   abbrev Seen : Roles → Type 0
   Seen w = (p : ℕ) → p < n → getD views p 0 ≡ viewAt n (s .sets) (w .members ∖ f .«heartbeat_lost») (w .joining ∖ f .«heartbeat_lost») (f .«heartbeat_missed») p
+
+  abbrev votingIn : Roles → ℕ
+  votingIn w = votingOf C (s .sets) views w ((w .members ∩ w .asking) ∖ f .«heartbeat_lost») (f .«heartbeat_missed»)
 
   -- where the masks are those after rule 1
   module _ (seen : Seen (roles C s f)) where
     abbrev row : Row
     row = rowOf n s
 
-    votes-are : (channel : ℕ) → ballots (roles C s f) channel ≡ votesShown C count f row channel
-    votes-are channel = votes-shown C s f count channel few counted (row-formed n s formed) views seen
+    abbrev d : ℕ
+    d = votingIn (roles C s f)
 
-    filled : withPart 6912 (ballots (roles C s f) 1) (withPart 4608 (ballots (roles C s f) 0) (withPart 2304 (beats (roles C s f) 1) (withPart 0 (beats (roles C s f) 0) frames)))
-        ≡ framesShown C count f row
+    votes-are : (channel : ℕ) → ballots d channel ≡ votesShown C count f row channel
+    unfolding rolesAfter
+    votes-are channel = votes-shown C s f count channel few counted (row-formed C s formed) views seen
+
+    filled : withPart 6912 (ballots d 1) (withPart 4608 (ballots d 0) (withPart 2304 (beats (roles C s f) 1) (withPart 0 (beats (roles C s f) 0) frames))) ≡ framesShown C count f row
     unfolding framesShown
     filled =
         ap₂ (λ (x y : List ℕ). withPart 6912 y (withPart 4608 x (withPart 2304 (beats (roles C s f) 1) (withPart 0 (beats (roles C s f) 0) frames)))) (votes-are 0) (votes-are 1)
@@ -61,13 +68,13 @@ module _ (C : Config) (count : ℕ) (s : States) (f : Faults) (views frames : Li
         (beats-length C count f row 0) (omega (arith, beats-length C count f row 1)) (omega (arith, ballots-length C count f row 0))
         (omega (arith, ballots-length C count f row 1, sized))
 
-  -- from the values that the code has on its way: the masks w after rule 1, and the lent frames after each phase
-  pub cycle-shown : (w : Roles) (h z : List ℕ) → w ≡ rolesAfter n (rolesOf s) (f .stop) (f .start) → Seen w
-      → h ≡ withPart 2304 (beats w 1) (withPart 0 (beats w 0) frames) → z ≡ withPart 6912 (ballots w 1) (withPart 4608 (ballots w 0) h)
+  -- from the values that the code has on its way: the masks w after rule 1, those that vote, and the lent frames after each phase
+  pub cycle-shown : (w : Roles) (d : ℕ) (h z : List ℕ) → w ≡ rolesAfter n (rolesOf s) (f .stop) (f .start) → Seen w → d ≡ votingIn w
+      → h ≡ withPart 2304 (beats w 1) (withPart 0 (beats w 0) frames) → z ≡ withPart 6912 (ballots d 1) (withPart 4608 (ballots d 0) h)
       → z ≡ framesShown C count f (rowOf n s)
-  cycle-shown w h z e seen eh ez =
-      ez ∙ ap (λ (x : List ℕ). withPart 6912 (ballots w 1) (withPart 4608 (ballots w 0) x)) eh
-      ∙ ap (λ (x : Roles). withPart 6912 (ballots x 1) (withPart 4608 (ballots x 0) (withPart 2304 (beats x 1) (withPart 0 (beats x 0) frames)))) e
+  cycle-shown w d h z e seen ed eh ez =
+      ez ∙ ap₂ (λ (x : ℕ) (y : List ℕ). withPart 6912 (ballots x 1) (withPart 4608 (ballots x 0) y)) ed eh
+      ∙ ap (λ (x : Roles). withPart 6912 (ballots (votingIn x) 1) (withPart 4608 (ballots (votingIn x) 0) (withPart 2304 (beats x 1) (withPart 0 (beats x 0) frames)))) e
       ∙ filled (subst Seen e seen)
 
   beats-sized : (channel : ℕ) → length (beats (roles C s f) channel) ≡ 2304

@@ -11,27 +11,27 @@ use lib.Seq.{take-at, drop-at, drop-append-add}
 use Rattle.parts.specs.Parts.{withPart}
 use Rattle.sets.specs.Sets.{has, _∖_}
 use Rattle.state.specs.declared.State.{State}
-use Rattle.state.specs.declared.State.the-variants.{Out, Joining, Member}
 use Rattle.rules.specs.declared.Vote.{Vote}
 use Rattle.rules.specs.declared.Faults.{Faults}
 use Rattle.rules.specs.declared.Config.{Config}
-use Rattle.rules.specs.OneCycle.{stopped, stopAndStart, sendsMember, sendsJoin}
-use Rattle.rules.specs.Faults.{Row, at, ruleOne}
-use Rattle.rules.proofs.Rows.{get-tabulate-out}
+use Rattle.rules.specs.OneCycle.{stopped, stopAndStart}
+use Rattle.rules.specs.Faults.{Row, at, ruleOne, voteOf, votes}
+use Rattle.rules.specs.Ballots.{voteAt, ballotsOf}
+use Rattle.rules.proofs.Rows.{get-tabulate, get-tabulate-out}
 use Rattle.theorem_formed.proofs.Formed.{FormedRow, rule-one-formed}
 use Rattle.frames.specs.Written.{heartbeatFrame, voteFrame}
-use Rattle.bus_units.specs.Units.{Bus, heartbeatSent, unitVote, voteSent}
+use Rattle.bus_units.specs.Units.{Bus, heartbeatSent, voteCast, voteFramed, voteSent}
 use Rattle.bus_units.specs.Faulty.{present, busOf}
 use Rattle.bus_units.specs.Carried.{Carries}
 use Rattle.bus_units.specs.Run.{padded, inSlots, heartbeatsShown, votesShown}
 use Rattle.bus_units.proofs.Shown.{Short, fewer-short, length-slots, beats-short, ballots-short}
-use Rattle.bus_units.proofs.Follow.{vote-is}
+use Rattle.bus_units.proofs.Follow.{cast-is}
 use Rattle.bus_units.proofs.Delivered.{delivers-carries, bus-delivers}
 use Rattle.cluster_states.specs.declared.Roles.{Roles}
 use Rattle.cluster_states.specs.declared.States.{States}
 use Rattle.cluster_states.specs.States.{groupAt, rowOf}
-use Rattle.cluster_states.specs.Decided.{viewAt}
-use Rattle.cluster_states.proofs.Whole.{roles, byRole, after-at, sends-member, sends-join, own-vote}
+use Rattle.cluster_states.specs.Decided.{rolesAfter, viewAt}
+use Rattle.cluster_states.proofs.Whole.{roles, byRole, after-at, voting, sent}
 use Rattle.bus_channels.specs.Channels.{withFrame, withSent, channelOf, heartbeatPut, votePut}
 
 -- ---- lists of one value
@@ -115,13 +115,20 @@ module _ (C : Config) (s : States) (f : Faults) (count channel : ℕ) (few : C .
   abbrev w : Roles
   w = roles C s f
 
+  -- the frames of a node that is a member or joining, and whether it requests
+  abbrev frameOf : ℕ → Bool → Bool → Bool → Option (List ℕ)
+  frameOf q m j k = cond m (some (heartbeatFrame q 0 (cond k 1 0) 0 0 count channel [])) (cond j (some (heartbeatFrame q 1 0 0 0 count channel [])) none)
+
   heartbeat-put : (q : ℕ) → q < n → heartbeatPut w count channel q ≡ heartbeatSent 0 0 [] count q (at r q) channel
-  heartbeat-put q l = sym (go (at r q) ∙ ap₂ (λ (m j : Bool). cond m (some (heartbeatFrame q 0 0 0 count channel [])) (cond j (some (heartbeatFrame q 1 0 0 count channel [])) none)) (sends-member C s f q l) (sends-join C s f q l))
+  unfolding rolesAfter
+  heartbeat-put q l = sym (ap (λ (t : State). heartbeatSent 0 0 [] count q t channel) (after-at C s f q l) ∙ go (has q (w .members)) (has q (w .joining)) (has q (w .«no_quorum»)) (has q (w .outvoted)) (has q (s .asking)))
     where
-      go : (t : State) → heartbeatSent 0 0 [] count q t channel ≡ cond (sendsMember t) (some (heartbeatFrame q 0 0 0 count channel [])) (cond (sendsJoin t) (some (heartbeatFrame q 1 0 0 count channel [])) none)
-      go (Out z) = refl
-      go Joining = refl
-      go (Member g) = refl
+      go : (m j u v a : Bool) → heartbeatSent 0 0 [] count q (byRole m j u v (groupAt s q) a) channel ≡ frameOf q m j a
+      go true j u v a = refl
+      go false true u v a = refl
+      go false false true v a = refl
+      go false false false true a = refl
+      go false false false false a = refl
 
   pub heartbeats-shown : channelOf n (heartbeatPut w count channel) ≡ heartbeatsShown C count f (rowOf n s) channel
   unfolding heartbeatsShown
@@ -129,29 +136,29 @@ module _ (C : Config) (s : States) (f : Faults) (count channel : ℕ) (few : C .
       channel-shown n (heartbeatPut w count channel) (λ q. heartbeatSent 0 0 [] count q (at r q) channel) few
       (beats-short C count f (rowOf n s) channel) heartbeat-put (λ q l. ap (λ (t : State). heartbeatSent 0 0 [] count q t channel) (past-out n f (rowOf n s) q l))
 
-  module _ (counted : count < 64) (formed : FormedRow n (rowOf n s)) (views : List ℕ)
+  module _ (counted : count < 64) (formed : FormedRow C (rowOf n s)) (views : List ℕ)
       (seen : (p : ℕ) → p < n → getD views p 0 ≡ viewAt n (s .sets) (w .members ∖ f .«heartbeat_lost») (w .joining ∖ f .«heartbeat_lost») (f .«heartbeat_missed») p) where
     abbrev bus : Bus
     bus = busOf C count f (rowOf n s)
 
     carried : Carries C count bus f r
-    carried = delivers-carries C count few counted bus f r (rule-one-formed n f (rowOf n s) formed) (bus-delivers C count f (rowOf n s))
+    carried = delivers-carries C count few counted bus f r (rule-one-formed C f (rowOf n s) formed) (bus-delivers C count f (rowOf n s))
 
-    vote-put : (q : ℕ) → q < n → votePut (s .numbers) (s .sets) (s .bases) views (w .members) count channel q ≡ voteSent n count (bus .heartbeats) q (at r q) channel
-    vote-put q l =
-        sym (ap (λ (t : State). voteSent n count (bus .heartbeats) q t channel) (after-at C s f q l)
-        ∙ go (has q (w .members)) (has q (w .joining)) (has q (w .«no_quorum»)) (has q (w .outvoted))
-        ∙ ap (λ (v : Vote). cond (has q (w .members)) (some (voteFrame q v count channel)) none) (vote-is C count bus f r carried q (groupAt s q) l ∙ own-vote C s f views seen q l))
+    -- what each casts by the masks of those that vote
+    cast : (q : ℕ) → q < n → voteCast C count (bus .heartbeats) q (at r q) ≡ ballotsOf (s .numbers) (s .sets) (s .bases) views (voting C s f views seen) q
+    unfolding votes
+    cast q l = cast-is C count bus f r carried q (at r q) l refl ∙ sym (get-tabulate n q (λ x. voteOf C f r x (at r x)) none l) ∙ sent C s f views seen q
+
+    vote-put : (q : ℕ) → q < n → votePut (s .numbers) (s .sets) (s .bases) views (voting C s f views seen) count channel q ≡ voteSent C count (bus .heartbeats) q (at r q) channel
+    unfolding ballotsOf
+    vote-put q l = sym (ap (λ (o : Option Vote). voteFramed count q o channel) (cast q l) ∙ go (has q (voting C s f views seen)) (voteAt (s .numbers) (s .sets) (s .bases) views q))
       where
-        go : (m j u v : Bool) → voteSent n count (bus .heartbeats) q (byRole m j u v (groupAt s q)) channel ≡ cond m (some (voteFrame q (unitVote n count (bus .heartbeats) q (groupAt s q)) count channel)) none
-        go true j u v = refl
-        go false true u v = refl
-        go false false true v = refl
-        go false false false true = refl
-        go false false false false = refl
+        go : (b : Bool) (v : Vote) → voteFramed count q (cond b (some v) none) channel ≡ cond b (some (voteFrame q v count channel)) none
+        go true v = refl
+        go false v = refl
 
-    pub votes-shown : channelOf n (votePut (s .numbers) (s .sets) (s .bases) views (w .members) count channel) ≡ votesShown C count f (rowOf n s) channel
+    pub votes-shown : channelOf n (votePut (s .numbers) (s .sets) (s .bases) views (voting C s f views seen) count channel) ≡ votesShown C count f (rowOf n s) channel
     unfolding votesShown
     votes-shown =
-        channel-shown n (votePut (s .numbers) (s .sets) (s .bases) views (w .members) count channel) (λ q. voteSent n count (bus .heartbeats) q (at r q) channel) few
-        (ballots-short C count f (rowOf n s) channel) vote-put (λ q l. ap (λ (t : State). voteSent n count (bus .heartbeats) q t channel) (past-out n f (rowOf n s) q l))
+        channel-shown n (votePut (s .numbers) (s .sets) (s .bases) views (voting C s f views seen) count channel) (λ q. voteSent C count (bus .heartbeats) q (at r q) channel) few
+        (ballots-short C count f (rowOf n s) channel) vote-put (λ q l. ap (λ (t : State). voteSent C count (bus .heartbeats) q t channel) (past-out n f (rowOf n s) q l))

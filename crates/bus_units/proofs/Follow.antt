@@ -99,7 +99,7 @@ module _ (C : Config) (count : ℕ) (bus : Bus) (c : Faults) (r : Row) (carried 
   votes-is q g false l e =
       ap₂ (λ (v : Vote) (x : ℕ). willVote C (g .set) (v .view) (called (g .set) false x)) (vote-is q g l) (requests-heard q l e)
 
-  cast-is : (q : ℕ) (s : State) → q < N → at r q ≡ s → voteCast C count (bus .heartbeats) q s ≡ voteOf C c r q s
+  pub cast-is : (q : ℕ) (s : State) → q < N → at r q ≡ s → voteCast C count (bus .heartbeats) q s ≡ voteOf C c r q s
   cast-is q (Out z) l e = refl
   cast-is q Joining l e = refl
   cast-is q (Member g a) l e = ap₂ (λ (b : Bool) (v : Vote). cond b (some v) none) (votes-is q g a l (ap asks e)) (vote-is q g l)

@@ -218,7 +218,7 @@ module _ (C : Config) (s : States) (f : Faults) where
         has-those q n (λ p. has p (roles .members) && votesAt C (s .sets) views (roles .asking) (asking ∖ f .«heartbeat_lost») (f .«heartbeat_missed») p)
         ∙ ap (λ (x : Bool). x && (has q (roles .members) && votesAt C (s .sets) views (roles .asking) (asking ∖ f .«heartbeat_lost») (f .«heartbeat_missed») q)) h
 
-    sent : (p : ℕ) → getD (votes C f row) p none ≡ ballotsOf (s .numbers) (s .sets) (s .bases) views voting p
+    pub sent : (p : ℕ) → getD (votes C f row) p none ≡ ballotsOf (s .numbers) (s .sets) (s .bases) views voting p
     unfolding votes ballotsOf
     sent p = go (ltb p n) refl
       where

@@ -1,10 +1,7 @@
 use mathlib.Core.Path.{refl}
-use lib.ListN.{getD}
 use borrow.Author.Needs.{needs}
-use Rattle.sets.specs.Sets.{_∖_}
-use Rattle.cluster_states.specs.States.{rolesOf}
 use Rattle.cluster_states.proofs.Whole.{run-cycle}
-use Rattle.bus_cycle.proofs.Formed.{apart, votes-formed}
+use Rattle.bus_cycle.proofs.Formed.{apart, requests-allowed, votes-formed}
 use Rattle.bus_cycle.proofs.Shown.{cycle-shown, still-sized}
 use Rattle.bus_cycle.proofs.cycle.Statement.{statement}
 use Rattle.bus_cycle.proofs.cycle.Tie as tie
@@ -17,31 +14,39 @@ heartbeat-phase-requires c κs =
     let w = c .before .before .before .before .before .before .before .before in
     let a = w .before .before .args in
     let p = w .before .before .pre in
-    (p .0, (p .1 .0, apart (a .config .nodes) (a .f .stop) (a .f .start) (rolesOf (a .s)) (w .rule-one .result) (w .rule-one .ensures)))
+    (p .0, (p .1 .0, (requests-allowed (a .config) (a .s) (a .f) (w .rule-one .result) (w .rule-one .ensures) (p .1 .1), apart (a .config) (a .s) (a .f) (w .rule-one .result) (w .rule-one .ensures))))
+
+-- the masks after rule 1, and what the heartbeats give
+abbrev ruled : tie.After-heartbeat-phase → tie.After-rule-one
+ruled h = h .before .before .before .before .before .before .before .before .before
+
+abbrev heard : tie.After-vote-phase-arg → tie.After-heartbeat-phase
+heard c = c .before .before .before .before .before .before .before .before .before
 
 returns : tie.Need-returns
 returns c =
     let v = c .before .before in
-    let h = c .before .before .before .before .before .before .before .before .before .before .before in
-    let w = c .before .before .before .before .before .before .before .before .before .before .before .before .before .before .before .before .before .before .before .before in
+    let h = heard (v .before) in
+    let w = ruled h in
     let a = w .before .before .args in
-    let p = w .before .before .pre in (
-      run-cycle (a .config) (a .s) (a .f) (w .rule-one .result) _ _ _ (h .heartbeat-phase .result) (v .vote-phase .result) (w .rule-one .ensures) refl refl refl (h .heartbeat-phase .ensures .0) (v .vote-phase .ensures .0),
-      cycle-shown (a .config) (a .count) (a .s) (a .f) (h .heartbeat-phase .result) (a .frames .now) (p .0 .0) (p .0 .1) (p .1 .0) (p .1 .1) (w .rule-one .result) _ _ (w .rule-one .ensures) (h .heartbeat-phase .ensures .0)
-          (h .heartbeat-phase .ensures .1) (v .vote-phase .ensures .1),
+    let p = w .before .before .pre in
+    let seen = h .heartbeat-phase .result in (
+      run-cycle (a .config) (a .s) (a .f) (w .rule-one .result) _ _ _ _ (seen .voting) _ (seen .views) (v .vote-phase .result) (w .rule-one .ensures) refl refl refl refl (h .heartbeat-phase .ensures .1 .0) refl (h .heartbeat-phase .ensures .0) (v .vote-phase .ensures .0),
+      cycle-shown (a .config) (a .count) (a .s) (a .f) (seen .views) (a .frames .now) (p .0 .0) (p .0 .1) (p .1 .0) (p .1 .1) (w .rule-one .result) (seen .voting) _ _ (w .rule-one .ensures) (h .heartbeat-phase .ensures .0) (h .heartbeat-phase .ensures .1 .0)
+          (h .heartbeat-phase .ensures .1 .1) (v .vote-phase .ensures .1),
     )
 
 vote-phase-requires : tie.Need-vote-phase-requires
 vote-phase-requires c κs =
-    let h = c .before .before .before .before .before .before .before .before in
-    let w = c .before .before .before .before .before .before .before .before .before .before .before .before .before .before .before .before .before in
+    let h = heard c in
+    let w = ruled h in
     let a = w .before .before .args in
-    let p = w .before .before .pre in (
+    let p = w .before .before .pre in
+    let seen = h .heartbeat-phase .result in (
       p .0,
       (
-        still-sized (a .config) (a .count) (a .s) (a .f) (h .heartbeat-phase .result) (a .frames .now) (p .0 .0) (p .0 .1) (p .1 .0) (p .1 .1) (w .rule-one .result) _ (w .rule-one .ensures) (h .heartbeat-phase .ensures .1),
-        votes-formed (a .config .nodes) (a .f .stop) (a .f .start) (a .s) (w .rule-one .result) (rolesOf (a .s)) (λ q. w .rule-one .result .members ∖ a .f .«heartbeat_lost» ∖ getD (a .f .«heartbeat_missed») q 0)
-            (λ q. w .rule-one .result .joining ∖ a .f .«heartbeat_lost» ∖ getD (a .f .«heartbeat_missed») q 0) (h .heartbeat-phase .result) refl (w .rule-one .ensures) (p .1 .1) (h .heartbeat-phase .ensures .0),
+        still-sized (a .config) (a .count) (a .s) (a .f) (seen .views) (a .frames .now) (p .0 .0) (p .0 .1) (p .1 .0) (p .1 .1) (w .rule-one .result) _ (w .rule-one .ensures) (h .heartbeat-phase .ensures .1 .1),
+        votes-formed (a .config) (a .s) (a .f) (w .rule-one .result) (w .rule-one .ensures) (p .1 .1) _ _ _ (seen .voting) (a .f .«heartbeat_missed») (seen .views) (h .heartbeat-phase .ensures .1 .0) (h .heartbeat-phase .ensures .0),
       ),
     )
 

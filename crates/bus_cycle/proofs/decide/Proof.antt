@@ -1,7 +1,7 @@
 use mathlib.Core.Path.{sym, ap, _∙_}
 use borrow.Author.Needs.{needs}
 use Rattle.rules.specs.declared.Vote.{Vote}
-use Rattle.rules.specs.OneCycle.{memberDecides}
+use Rattle.rules.specs.OneCycle.{memberDecides, silentDecides}
 use Rattle.bus_channels.specs.Channels.{ballotsRead, decidedRead}
 use Rattle.bus_cycle.proofs.decide.Statement.{statement}
 use Rattle.bus_cycle.proofs.decide.Tie as tie
@@ -17,6 +17,12 @@ member-decides-requires c κs = search needs
 
 contains-requires-2 : tie.Need-contains-requires-2
 contains-requires-2 c κs = search needs
+
+silent-decides-requires : tie.Need-silent-decides-requires
+silent-decides-requires c κs = search needs
+
+contains-requires-3 : tie.Need-contains-requires-3
+contains-requires-3 c κs = search needs
 
 joiner-decides-requires : tie.Need-joiner-decides-requires
 joiner-decides-requires c κs = search needs
@@ -38,14 +44,26 @@ unfolding decidedRead
 returns-2 c =
     let t = c .before in
     let e = t .before .before in
-    rw (sym (e .before .contains .ensures) ∙ e .if1 .left, sym (t .before .contains2 .ensures) ∙ t .if2 .taken) (c .joiner-decides .ensures)
+    let v = e .before .before in
+    let a = v .before .before .before .args in
+    rw (sym (e .before .contains .ensures) ∙ e .if1 .left, sym (t .before .contains2 .ensures) ∙ t .if2 .taken)
+    (c .silent-decides .ensures ∙ ap (λ (x : Vote). silentDecides (a .config) (a .q) (x .group) (ballotsRead (a .config .nodes) (a .count) (a .reach) (a .a .now) (a .b .now))) (v .vote-at .ensures))
 
 returns-3 : tie.Need-returns-3
 unfolding decidedRead
 returns-3 c =
     let t = c .before in
-    let e = t .before .before in
-    rw (sym (e .before .contains .ensures) ∙ e .if1 .left, sym (t .before .contains2 .ensures) ∙ t .if2 .left) (c .out-at .ensures)
+    let m = t .before .before in
+    let e = m .before .before in
+    rw (sym (e .before .contains .ensures) ∙ e .if1 .left, sym (m .before .contains2 .ensures) ∙ m .if2 .left, sym (t .before .contains3 .ensures) ∙ t .if3 .taken) (c .joiner-decides .ensures)
+
+returns-4 : tie.Need-returns-4
+unfolding decidedRead
+returns-4 c =
+    let t = c .before in
+    let m = t .before .before in
+    let e = m .before .before in
+    rw (sym (e .before .contains .ensures) ∙ e .if1 .left, sym (m .before .contains2 .ensures) ∙ m .if2 .left, sym (t .before .contains3 .ensures) ∙ t .if3 .left) (c .out-at .ensures)
 
 pub decide-spec : {M : Type 1} → statement M
 decide-spec =
@@ -55,8 +73,11 @@ decide-spec =
     contains-requires
     member-decides-requires
     contains-requires-2
+    silent-decides-requires
+    contains-requires-3
     joiner-decides-requires
     out-at-requires
     returns
     returns-2
-    returns-3)
+    returns-3
+    returns-4)

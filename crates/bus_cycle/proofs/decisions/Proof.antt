@@ -10,11 +10,11 @@ use Rattle.bus_cycle.proofs.decisions.Statement.{statement}
 use Rattle.bus_cycle.proofs.decisions.Tie as tie
 
 abbrev Inv-loop : tie.InvT-loop
-Inv-loop config count w sent missed numbers sets bases views a b next₀ new-numbers₀ new-sets₀ new-bases₀ q₀ next new-numbers new-sets new-bases q =
-    (q ≤ config .nodes) × Holds (λ j. decidedRead numbers sets bases views config count w (sent ∖ getD missed j 0) a b j) q next new-numbers new-sets new-bases
+Inv-loop config count w voting sent missed numbers sets bases views a b next₀ new-numbers₀ new-sets₀ new-bases₀ q₀ next new-numbers new-sets new-bases q =
+    (q ≤ config .nodes) × Holds (λ j. decidedRead numbers sets bases views config count w voting (sent ∖ getD missed j 0) a b j) q next new-numbers new-sets new-bases
 
 abbrev μ-loop : tie.MeasureT-loop
-μ-loop config count w sent missed numbers sets bases views a b next₀ new-numbers₀ new-sets₀ new-bases₀ q₀ next new-numbers new-sets new-bases q =
+μ-loop config count w voting sent missed numbers sets bases views a b next₀ new-numbers₀ new-sets₀ new-bases₀ q₀ next new-numbers new-sets new-bases q =
     config .nodes - q
 
 loop-holds : tie.Need-loop-holds Inv-loop μ-loop
@@ -68,8 +68,8 @@ loop-again c =
     let l = d .before .before .before .before .before in
     let a = l .before .before .before .args in (
       omega arith,
-      holds-next (λ j. decidedRead (a .numbers .now) (a .sets .now) (a .bases .now) (a .views .now) (a .config) (a .count) (a .w) (a .sent ∖ getD (a .missed .now) j 0) (a .a .now) (a .b .now) j) (l .loop .q) (l .loop .next) _ _ _ _ (d .decide .result) (c .before .held-by .result) (omega arith) (l .loop .inv .1)
-          (d .decide .ensures ∙ ap (λ (x : ℕ). decidedRead (a .numbers .now) (a .sets .now) (a .bases .now) (a .views .now) (a .config) (a .count) (a .w) x (a .a .now) (a .b .now) (l .loop .q)) (d .before .difference .ensures)) (c .before .held-by .ensures) (c .with-state .ensures),
+      holds-next (λ j. decidedRead (a .numbers .now) (a .sets .now) (a .bases .now) (a .views .now) (a .config) (a .count) (a .w) (a .voting) (a .sent ∖ getD (a .missed .now) j 0) (a .a .now) (a .b .now) j) (l .loop .q) (l .loop .next) _ _ _ _ (d .decide .result) (c .before .held-by .result) (omega arith) (l .loop .inv .1)
+          (d .decide .ensures ∙ ap (λ (x : ℕ). decidedRead (a .numbers .now) (a .sets .now) (a .bases .now) (a .views .now) (a .config) (a .count) (a .w) (a .voting) x (a .a .now) (a .b .now) (l .loop .q)) (d .before .difference .ensures)) (c .before .held-by .ensures) (c .with-state .ensures),
     )
 
 returns : tie.Need-returns Inv-loop μ-loop
@@ -77,7 +77,7 @@ returns c =
     let l = c .before .before .loop in
     let a = c .before .before .before .before .before .args in
     let done : l .q ≡ a .config .nodes = omega arith in
-    holds-state (λ j. decidedRead (a .numbers .now) (a .sets .now) (a .bases .now) (a .views .now) (a .config) (a .count) (a .w) (a .sent ∖ getD (a .missed .now) j 0) (a .a .now) (a .b .now) j) (a .config .nodes) (l .q) (l .next) (l .new-numbers) (l .new-sets) (l .new-bases) (l .inv .1) done
+    holds-state (λ j. decidedRead (a .numbers .now) (a .sets .now) (a .bases .now) (a .views .now) (a .config) (a .count) (a .w) (a .voting) (a .sent ∖ getD (a .missed .now) j 0) (a .a .now) (a .b .now) j) (a .config .nodes) (l .q) (l .next) (l .new-numbers) (l .new-sets) (l .new-bases) (l .inv .1) done
 
 pub decisions-spec : {M : Type 1} → statement M
 decisions-spec =

@@ -43,7 +43,7 @@ returns c =
     let two = c .before .before .before .before .before .before .before .before .before .before .before .before .before .before in
     let s = two .before .before .before in
     let a = s .args in (
-      states-read (a .config) (a .count) (a .lost) (d .difference .result) (a .w) (a .numbers .now) (a .sets .now) (a .bases .now) (a .views .now) (a .missed .now) (two .before .votes .result) (two .votes2 .result) (c .decisions .result)
+      states-read (a .config) (a .count) (a .voting) (a .lost) (d .difference .result) (a .w) (a .numbers .now) (a .sets .now) (a .bases .now) (a .views .now) (a .missed .now) (two .before .votes .result) (two .votes2 .result) (c .decisions .result)
           (s .pre .0 .0) (s .pre .0 .1) (s .pre .1 .1) (two .before .votes .ensures) (two .votes2 .ensures) (d .difference .ensures) (c .decisions .ensures),
       two-put _ _ _ _ _ _ _ 4608 6912 (c .before .before .before .before .before .before .put2 .ensures) (c .before .before .before .before .before .before .before .before .before .before .before .put .ensures) (two .before .votes .ensures) (two .votes2 .ensures),
     )
