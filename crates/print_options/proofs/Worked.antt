@@ -59,7 +59,8 @@ unfolding nameOf answerText usageLine versionLine hintLine ascii
 aside-is-a-line Group Run = refl
 aside-is-a-line Quiet Run = refl
 aside-is-a-line p Help = refl
-aside-is-a-line p Version = refl
+aside-is-a-line Group Version = refl
+aside-is-a-line Quiet Version = refl
 aside-is-a-line Group Wrong = refl
 aside-is-a-line Quiet Wrong = refl
 
