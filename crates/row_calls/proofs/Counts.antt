@@ -77,7 +77,7 @@ table-counted entries s = go (eqb r 0) refl
     go false f e = begun e
 
 -- a run is accepted in a mode that there is
-in-mode : (mode k : ℕ) → cond (wrongMode mode) 2 k ≡ 0 → k ≡ 0
+pub in-mode : (mode k : ℕ) → cond (wrongMode mode) 2 k ≡ 0 → k ≡ 0
 in-mode mode k = go (wrongMode mode)
   where
     go : (b : Bool) → cond b 2 k ≡ 0 → k ≡ 0

@@ -76,7 +76,11 @@ framed-as-plain mode nodes s =
       left = ap₂ (λ (k : ℕ) (x : List Node). unless k x nodes) (framed-status mode nodes s) (framed-to mode (length nodes) s);
     }
 
--- so that one that is not refused leaves what the plain run leaves
+-- so that one that is not refused is a plain run that is not, and leaves what that leaves
+pub framed-plain : (mode : ℕ) (nodes : List Node) (room : ℕ) (s : List ℕ) → framedStatus mode (length nodes) room s ≡ 0 → runStatus mode nodes s ≡ 0
+framed-plain mode nodes room s e =
+    sym (framed-status mode nodes s) ∙ ap (λ (k : ℕ). framedStatus mode (length nodes) k s) (sym (framed-fits mode (length nodes) room s e .0)) ∙ e
+
 pub framed-left : (mode : ℕ) (nodes : List Node) (room : ℕ) (s : List ℕ) → framedStatus mode (length nodes) room s ≡ 0 → framedLeft mode nodes room s ≡ runLeft mode nodes s
 framed-left mode nodes room s e = ap (λ (k : ℕ). framedLeft mode nodes k s) (framed-fits mode (length nodes) room s e .0) ∙ framed-as-plain mode nodes s .left
 

@@ -25,8 +25,8 @@ use Rattle.theorem_formed.proofs.Formed.{length-founding, length-after}
 use Rattle.row_calls.specs.declared.Task.{Task}
 use Rattle.row_calls.specs.declared.Task.the-variants.{Cycle, Run, FramedRun}
 use Rattle.row_calls.specs.Calls.{cycleStatus, cycleLeft, runStatus, ranTo, runLeft, framedStatus, framedLeft, callStatus, callLeft}
-use Rattle.row_calls.proofs.Counts.{cycle-fits, run-fits, framed-fits}
-use Rattle.row_calls.proofs.Framed.{begun-table, framed-as-plain, framed-left}
+use Rattle.row_calls.proofs.Counts.{cycle-fits, run-fits}
+use Rattle.row_calls.proofs.Framed.{begun-table, framed-plain, framed-left}
 use Rattle.row_calls.specs.Histories.{Call, status, left, History, tabled, accepted, historyOf, nodesAfter, historyAfter, AllIn, ruled, Stands, Begun, at-beginning, by-a-run, OverCalls}
 
 -- ---- a row that stands: as many entries as nodes, and the states that the rules give
@@ -84,8 +84,7 @@ module _ (mode n k : ℕ) (own : k ≡ mode) (nodes : List Node) where
   framed-stands : (room : ℕ) (s : List ℕ) → length nodes ≡ n → framedStatus k (length nodes) room s ≡ 0
       → Stands mode n (framedLeft k nodes room s) (tabled (tableOf true (length nodes) s))
   framed-stands room s l e =
-      let plain : runStatus k nodes s ≡ 0 = sym (framed-as-plain k nodes s .status) ∙ ap (λ (x : ℕ). framedStatus k (length nodes) x s) (sym (framed-fits k (length nodes) room s e .0)) ∙ e in
-      subst (λ (x : List Node). Stands mode n x (tabled (tableOf true (length nodes) s))) (sym (framed-left k nodes room s e)) (run-stands s l plain)
+      subst (λ (x : List Node). Stands mode n x (tabled (tableOf true (length nodes) s))) (sym (framed-left k nodes room s e)) (run-stands s l (framed-plain k nodes room s e))
 
   accepted-stands : (t : Task) (m room : ℕ) (h : History) (s : List ℕ) → Stands mode n nodes h → callStatus t m k nodes room s ≡ 0
       → Stands mode n (callLeft t m k nodes room s) (accepted t s nodes h)

@@ -2,12 +2,14 @@
 -- Assumes nothing.
 use mathlib.Core.Path.{_≡_}
 use mathlib.Core.Logic.{_≢_}
-use mathlib.Core.Bool.{Bool, cond}
+use mathlib.Core.Bool.{Bool, true, cond}
 use mathlib.Core.List.{List}
 use Prim.Native.Nat.{ℕ, _≤_}
 use lib.Dec.{leb}
 use lib.ListN.{length}
 use Rattle.state.specs.declared.Node.{Node}
+use Rattle.rules.specs.OneCycle.{wrongMode}
+use Rattle.table.specs.Table.{tableOf}
 use Rattle.cluster_states.specs.declared.States.{States}
 use Rattle.cluster_states.specs.States.{rowOf}
 use Rattle.row.specs.declared.Gathered.{Gathered}
@@ -26,6 +28,10 @@ GatheredFrom n g len nodes = (length nodes ≡ len) × (g ≡ gathered (countByt
 -- the entries of a row that a run takes: a run through frames, as `framedEntries` says
 unfoldable pub lentEntries : Bool → (room entries : ℕ) → ℕ
 lentEntries framed room entries = cond framed (framedEntries room entries) entries
+
+-- what a run answers: 2 for the mode comes before the table's own order
+unfoldable pub ranStatus : Bool → (mode room entries : ℕ) → List ℕ → ℕ
+ranStatus framed mode room entries s = cond (wrongMode mode) 2 (tableOf true (lentEntries framed room entries) s .cycles .refusal)
 
 -- the states s of n nodes are those of a row of so many entries
 abbrev pub Leaves : ℕ → States → ℕ → List Node → Type 0

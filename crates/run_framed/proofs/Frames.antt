@@ -35,7 +35,7 @@ after-next : (C : Config) (k : ℕ) (row : Row) (c : Faults) (cs : List Faults) 
 unfolding framesAfter
 after-next C k row c cs frames = refl
 
-pub showing-begun : (C : Config) (s before : List ℕ) (states : States) → ((q : ℕ) → q < C .nodes → formedState q (C .nodes) (stateAt states q) ≡ true) → from (C .nodes) 1 s 0 .refusal ≡ 0
+pub showing-begun : (C : Config) (s before : List ℕ) (states : States) → ((q : ℕ) → q < C .nodes → formedState (C .quiet) q (C .nodes) (stateAt states q) ≡ true) → from (C .nodes) 1 s 0 .refusal ≡ 0
     → length before ≡ framesLength → Showing C (rowOf (C .nodes) states) s before states 0 1 before
 showing-begun C s before states w z l = record { going = going-begun C s states w z; long = l; shown = refl }
 

@@ -25,7 +25,7 @@ fn cycle_count(k: u64) -> u32
 pub fn run_framed(config: Config, start: States, s: &[u8], frames: &mut [u8]) -> States
     requires { ⌜ (config .nodes ≤ 64) × (cyclesIn (length (now s)) (config .nodes) 1 (now s) .refusal ≡ 0) ⌝ }
     requires { ⌜ length (now frames) ≡ framesLength ⌝ }
-    requires { ⌜ ((q : ℕ) → q < config .nodes → formedState q (config .nodes) (stateAt start q) ≡ true) ⌝ }
+    requires { ⌜ ((q : ℕ) → q < config .nodes → formedState (config .quiet) q (config .nodes) (stateAt start q) ≡ true) ⌝ }
     ensures { λ r. ⌜ rowOf (config .nodes) r ≡ rowAfter config (rowOf (config .nodes) start) (cyclesIn (length (now (s .entry))) (config .nodes) 1 (now (s .entry)) .whole) ⌝ }
     ensures { λ _. ⌜ now (frames .exit) ≡ framesAfter config 1 (rowOf (config .nodes) start) (cyclesIn (length (now (s .entry))) (config .nodes) 1 (now (s .entry)) .whole) (now (frames .entry)) ⌝ }
 {

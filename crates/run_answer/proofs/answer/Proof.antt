@@ -30,7 +30,7 @@ returns : tie.Need-returns
 returns c =
     let a = c .before .before .before .before .before .args in
     let r = c .cycle-answer .result in
-    same-task (a .task) Cycle (a .n) (a .len) (a .g) (now (a .s)) (now (a .frames)) (r .status) (r .nodes) (r .states) _ (c .before .enum-told .given .1)
+    same-task (a .task) Cycle (a .n) (a .mode) (a .len) (a .g) (now (a .s)) (now (a .frames)) (r .status) (r .nodes) (r .states) _ (c .before .enum-told .given .1)
     (c .cycle-answer .ensures .0, (c .cycle-answer .ensures .1 .0, (refl, c .cycle-answer .ensures .1 .1)))
 
 same-length : tie.Need-same-length
@@ -43,8 +43,8 @@ returns-2 c =
     let a = t .before .before .before .before .args in
     let r = k .run-answer .result in
     let e = k .run-answer .ensures in
-    same-task (a .task) Run (a .n) (a .len) (a .g) (now (a .s)) (now (a .frames)) (r .status) (r .nodes) (r .states) _ (t .enum-told2 .given .1)
-    (run-answers false (a .n) (a .len) (a .g) (now (a .s)) (now (a .frames)) (r .status) (r .nodes) (r .states) _ (e .0) (e .1 .0) (e .1 .1 .0) (e .1 .1 .1))
+    same-task (a .task) Run (a .n) (a .mode) (a .len) (a .g) (now (a .s)) (now (a .frames)) (r .status) (r .nodes) (r .states) _ (t .enum-told2 .given .1)
+    (run-answers false (a .n) (a .mode) (a .len) (a .g) (now (a .s)) (now (a .frames)) (r .status) (r .nodes) (r .states) _ (e .0) (e .1 .0) (e .1 .1 .0) (e .1 .1 .1))
 
 same-length-2 : tie.Need-same-length-2
 same-length-2 c = search needs
@@ -56,8 +56,8 @@ returns-3 c =
     let a = t .before .before .before .before .args in
     let r = k .run-answer2 .result in
     let e = k .run-answer2 .ensures in
-    same-task (a .task) FramedRun (a .n) (a .len) (a .g) (now (a .s)) (now (a .frames)) (r .status) (r .nodes) (r .states) _ (t .enum-told3 .given .1)
-    (run-answers true (a .n) (a .len) (a .g) (now (a .s)) (now (a .frames)) (r .status) (r .nodes) (r .states) _ (e .0) (e .1 .0) (e .1 .1 .0) (e .1 .1 .1))
+    same-task (a .task) FramedRun (a .n) (a .mode) (a .len) (a .g) (now (a .s)) (now (a .frames)) (r .status) (r .nodes) (r .states) _ (t .enum-told3 .given .1)
+    (run-answers true (a .n) (a .mode) (a .len) (a .g) (now (a .s)) (now (a .frames)) (r .status) (r .nodes) (r .states) _ (e .0) (e .1 .0) (e .1 .1 .0) (e .1 .1 .1))
 
 pub answer-spec : {M : Type 1} → statement M
 answer-spec =

@@ -54,7 +54,7 @@ cycle-faults-requires c κs =
 cycle-requires : tie.Need-cycle-requires Inv-loop μ-loop
 cycle-requires c κs =
     let a = c .before .before .before .before .before in
-    ((a .before .before .before .pre .0 .0, c .before .before .cycle-count .ensures .1), (a .loop .inv .long, states-formed (press a .nodes) (a .loop .states) (a .loop .inv .going .formed)))
+    ((a .before .before .before .pre .0 .0, c .before .before .cycle-count .ensures .1), (a .loop .inv .long, states-formed (press a) (a .loop .states) (a .loop .inv .going .formed)))
 
 cycle-length-requires : tie.Need-cycle-length-requires Inv-loop μ-loop
 cycle-length-requires c κs =
