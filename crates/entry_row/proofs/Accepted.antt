@@ -26,24 +26,24 @@ length-nodes row = length-tabulate (entriesIn row) (nodeIn row)
 
 -- ---- a call on a row of images
 
-module _ (t : Task) (n count k : ℕ) (d : States) (row : List ℕ) (room : ℕ) (s : List ℕ) where
+module _ (t : Task) (n mode count k : ℕ) (d : States) (row : List ℕ) (room : ℕ) (s : List ℕ) where
   -- its images are all there is
-  pub whole-images : count ≡ entriesIn row → lentStatus t n row room s ≡ 0 → Leaves k d count (callLeft t n (nodesIn row) room s)
+  pub whole-images : count ≡ entriesIn row → lentStatus t n mode row room s ≡ 0 → Leaves k d count (callLeft t n mode (nodesIn row) room s)
       → (k ≤ 64) × (length row ≡ 24 * k)
   unfolding lentStatus
   whole-images c e l =
-      let some : 2 ≤ length (nodesIn row) = counted t n (nodesIn row) room s e .0 in
+      let some : 2 ≤ length (nodesIn row) = counted t n mode (nodesIn row) room s e .0 in
       let same : length (nodesIn row) ≡ entriesIn row = length-nodes row in
       (l .1, entries-all row (omega arith) ∙ ap (λ (j : ℕ). 24 * j) (sym (l .0 ∙ c)))
 
-  pub images-done : (left : List ℕ) → lentStatus t n row room s ≡ 0 → Leaves k d count (callLeft t n (nodesIn row) room s)
-      → left ≡ imagesOf (nodesOf k (rowOf k d)) → left ≡ lentLeft t n row room s
+  pub images-done : (left : List ℕ) → lentStatus t n mode row room s ≡ 0 → Leaves k d count (callLeft t n mode (nodesIn row) room s)
+      → left ≡ imagesOf (nodesOf k (rowOf k d)) → left ≡ lentLeft t n mode row room s
   unfolding lentLeft
-  images-done left e l w = w ∙ ap imagesOf (l .2) ∙ sym (unless-done (lentStatus t n row room s) (imagesOf (callLeft t n (nodesIn row) room s)) row e)
+  images-done left e l w = w ∙ ap imagesOf (l .2) ∙ sym (unless-done (lentStatus t n mode row room s) (imagesOf (callLeft t n mode (nodesIn row) room s)) row e)
 
-pub images-kept : (t : Task) (n : ℕ) (row : List ℕ) (room : ℕ) (s : List ℕ) → (lentStatus t n row room s ≡ 0 → ⊥) → row ≡ lentLeft t n row room s
+pub images-kept : (t : Task) (n mode : ℕ) (row : List ℕ) (room : ℕ) (s : List ℕ) → (lentStatus t n mode row room s ≡ 0 → ⊥) → row ≡ lentLeft t n mode row room s
 unfolding lentLeft
-images-kept t n row room s o = sym (unless-refused (lentStatus t n row room s) (imagesOf (callLeft t n (nodesIn row) room s)) row o)
+images-kept t n mode row room s o = sym (unless-refused (lentStatus t n mode row room s) (imagesOf (callLeft t n mode (nodesIn row) room s)) row o)
 
 -- what was gathered of a row of images
 pub from-images : (n b count : ℕ) (g : Gathered) (row : List ℕ) → b ≡ countByte n → count ≡ entriesIn row → g ≡ gathered b nothingOf 0 (nodesIn row)
@@ -51,14 +51,14 @@ pub from-images : (n b count : ℕ) (g : Gathered) (row : List ℕ) → b ≡ co
 from-images n b count g row e f h = (length-nodes row ∙ sym f, h ∙ ap (λ (k : ℕ). gathered k nothingOf 0 (nodesIn row)) e)
 
 -- the frames, by the number of its entries
-pub frames-left : (t : Task) (count : ℕ) (row s frames left : List ℕ) → count ≡ entriesIn row → left ≡ callFrames t count s frames → left ≡ lentFrames t row s frames
+pub frames-left : (t : Task) (mode count : ℕ) (row s frames left : List ℕ) → count ≡ entriesIn row → left ≡ callFrames t mode count s frames → left ≡ lentFrames t mode row s frames
 unfolding lentFrames
-frames-left t count row s frames left e l = l ∙ ap (λ (k : ℕ). callFrames t k s frames) e
+frames-left t mode count row s frames left e l = l ∙ ap (λ (k : ℕ). callFrames t mode k s frames) e
 
 -- a refused call leaves them too
-pub frames-kept : (t : Task) (n : ℕ) (row s frames : List ℕ) → (lentStatus t n row (length frames) s ≡ 0 → ⊥) → lentFrames t row s frames ≡ frames
+pub frames-kept : (t : Task) (n mode : ℕ) (row s frames : List ℕ) → (lentStatus t n mode row (length frames) s ≡ 0 → ⊥) → lentFrames t mode row s frames ≡ frames
 unfolding lentStatus lentFrames framesLeft
-frames-kept Cycle n row s frames o = refl
-frames-kept Run n row s frames o = refl
-frames-kept FramedRun n row s frames o =
-    unless-refused (framedStatus (entriesIn row) (length frames) s) _ frames (λ z. o (ap (λ (k : ℕ). framedStatus k (length frames) s) (length-nodes row) ∙ z))
+frames-kept Cycle n mode row s frames o = refl
+frames-kept Run n mode row s frames o = refl
+frames-kept FramedRun n mode row s frames o =
+    unless-refused (framedStatus mode (entriesIn row) (length frames) s) _ frames (λ z. o (ap (λ (k : ℕ). framedStatus mode k (length frames) s) (length-nodes row) ∙ z))

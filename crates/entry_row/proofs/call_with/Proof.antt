@@ -24,7 +24,7 @@ lent c =
 -- what is answered is the call's status
 answered : (c : tie.After-answer)
     → let a = asked c .args in
-    c .answer .result .status ≡ lentStatus (a .task) (a .n) (now (a .images)) (length (now (a .frames))) (now (a .bytes))
+    c .answer .result .status ≡ lentStatus (a .task) (a .n) (a .mode) (now (a .images)) (length (now (a .frames))) (now (a .bytes))
 unfolding lentStatus
 answered c = c .answer .ensures .0 _ (lent c)
 
@@ -55,8 +55,8 @@ returns c =
     let l = w .answer .ensures .1 .0 _ (lent w) (t .if1 .taken) in (
       answered w,
       (
-        images-done (a .task) (a .n) _ _ _ (now (a .images)) (length (now (a .frames))) (now (a .bytes)) _ (sym (answered w) ∙ t .if1 .taken) l (d .scatter .ensures),
-        frames-left (a .task) _ (now (a .images)) (now (a .bytes)) (now (a .frames)) _ (counting w .entries .ensures) (w .answer .ensures .1 .1 .0),
+        images-done (a .task) (a .n) (a .mode) _ _ _ (now (a .images)) (length (now (a .frames))) (now (a .bytes)) _ (sym (answered w) ∙ t .if1 .taken) l (d .scatter .ensures),
+        frames-left (a .task) (a .mode) _ (now (a .images)) (now (a .bytes)) (now (a .frames)) _ (counting w .entries .ensures) (w .answer .ensures .1 .1 .0),
       ),
     )
 
@@ -66,7 +66,7 @@ scatter-requires c κs =
     let w = c .before .before .before .before in
     let a = asked w .args in
     let e = c .before .if1 .taken in
-    whole-images (a .task) (a .n) _ _ _ (now (a .images)) (length (now (a .frames))) (now (a .bytes)) (counting w .entries .ensures) (sym (answered w) ∙ e) (w .answer .ensures .1 .0 _ (lent w) e)
+    whole-images (a .task) (a .n) (a .mode) _ _ _ (now (a .images)) (length (now (a .frames))) (now (a .bytes)) (counting w .entries .ensures) (sym (answered w) ∙ e) (w .answer .ensures .1 .0 _ (lent w) e)
 
 same-length-3 : tie.Need-same-length-3
 same-length-3 c = search needs
@@ -80,8 +80,8 @@ returns-2 c =
     let a = asked w .args in (
       answered w,
       (
-        images-kept (a .task) (a .n) (now (a .images)) (length (now (a .frames))) (now (a .bytes)) (λ e. c .if1 .left (answered w ∙ e)),
-        frames-left (a .task) _ (now (a .images)) (now (a .bytes)) (now (a .frames)) _ (counting w .entries .ensures) (w .answer .ensures .1 .1 .0),
+        images-kept (a .task) (a .n) (a .mode) (now (a .images)) (length (now (a .frames))) (now (a .bytes)) (λ e. c .if1 .left (answered w ∙ e)),
+        frames-left (a .task) (a .mode) _ (now (a .images)) (now (a .bytes)) (now (a .frames)) _ (counting w .entries .ensures) (w .answer .ensures .1 .1 .0),
       ),
     )
 
