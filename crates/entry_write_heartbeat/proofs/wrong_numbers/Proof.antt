@@ -4,6 +4,14 @@ use borrow.Author.Needs.{needs}
 use Rattle.entry_write_heartbeat.proofs.wrong_numbers.Statement.{statement}
 use Rattle.entry_write_heartbeat.proofs.wrong_numbers.Tie as tie
 
+-- above the tests that hold: a number that is taken though it is wrong is so here
+returns-5 : tie.Need-returns-5
+returns-5 c =
+    let i = c .before in
+    let r = i .before .before in
+    let j = r .before in
+    simp (sym (j .before .before .wrong-mode .ensures) ∙ j .before .if1 .left, le-ltb _ _ (j .if2 .left), le-ltb _ _ (r .if3 .left), sym (i .before .wrong-indicators .ensures) ∙ i .if4 .left) (c .wrong-slot .ensures)
+
 wrong-mode-requires : tie.Need-wrong-mode-requires
 wrong-mode-requires c κs = search needs
 
@@ -29,13 +37,6 @@ returns-4 c =
 
 wrong-slot-requires : tie.Need-wrong-slot-requires
 wrong-slot-requires c κs = search needs
-
-returns-5 : tie.Need-returns-5
-returns-5 c =
-    let i = c .before in
-    let r = i .before .before in
-    let j = r .before in
-    simp (sym (j .before .before .wrong-mode .ensures) ∙ j .before .if1 .left, le-ltb _ _ (j .if2 .left), le-ltb _ _ (r .if3 .left), sym (i .before .wrong-indicators .ensures) ∙ i .if4 .left) (c .wrong-slot .ensures)
 
 pub wrong-numbers-spec : {M : Type 1} → statement M
 wrong-numbers-spec =
