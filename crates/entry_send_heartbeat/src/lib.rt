@@ -1,11 +1,10 @@
 // A node's heartbeat, from its state.
 ghost use mathlib.Core.Path.{_≡_};
-ghost use mathlib.Core.Bool.{false, _||_};
+ghost use mathlib.Core.Bool.{false};
 ghost use Prim.Native.Nat.{_+_, _≤_, _<_};
 ghost use lib.ListN.{length};
 ghost use Rattle.frames.specs.Written.{wrongDrive};
-ghost use Rattle.entry_lent.specs.Refusals.{wrongIndicators, wrongCycle, wrongChannel};
-ghost use Rattle.entry_send_heartbeat.specs.Beating.{sendHeartbeatStatus, sendsByte, joinBit, heartbeatOf, sendHeartbeatLeft, sendHeartbeatSent};
+ghost use Rattle.entry_send_heartbeat.specs.Beating.{wrongSending, sendHeartbeatStatus, sendsByte, joinBit, requestBit, heartbeatOf, sendHeartbeatLeft, sendHeartbeatSent};
 use entry_lent::Lent;
 use entry_lent::lent_node;
 use entry_lent::wrong_indicators;
@@ -13,14 +12,14 @@ use entry_lent::wrong_slot;
 use state::Node;
 use state::State;
 
-// Who sends, and with which join bit.
+// Who sends, and with which bits.
 fn sends_byte(s: State) -> u32
     ensures { λ r. ⌜ r ≡ sendsByte s ⌝ }
 {
     match s {
         State::Out(_) => 0,
         State::Joining => 1,
-        State::Member(_) => 1,
+        State::Member(_, _) => 1,
     }
 }
 
@@ -31,10 +30,20 @@ fn join_bit(s: State) -> u32
     if rule_steps::sends_join(s) { 1 } else { 0 }
 }
 
-// Refusal 2, of what a node sends with.
-fn wrong_sending(sync: u32, startup: u32, cycle: u32, channel: u32) -> bool
-    ensures { λ r. ⌜ r ≡ (wrongIndicators sync startup || wrongCycle cycle || wrongChannel channel) ⌝ }
+fn request_bit(s: State) -> u32
+    ensures { λ r. ⌜ r ≡ requestBit s ⌝ }
+    ensures { λ r. ⌜ r < 2 ⌝ }
 {
+    if rule_steps::asks(s) { 1 } else { 0 }
+}
+
+// Refusal 2, of what a node sends with.
+fn wrong_sending(mode: u32, sync: u32, startup: u32, cycle: u32, channel: u32) -> bool
+    ensures { λ r. ⌜ r ≡ wrongSending mode sync startup cycle channel ⌝ }
+{
+    if rule_steps::wrong_mode(mode) {
+        return true;
+    }
     if wrong_indicators(sync, startup) {
         return true;
     }
@@ -68,6 +77,7 @@ fn send_of(
         frame_writing::write_heartbeat(
             n.id as u32,
             join_bit(s),
+            request_bit(s),
             sync,
             startup,
             cycle,
@@ -80,6 +90,7 @@ fn send_of(
 
 // Rule 2: the heartbeat that a node sends, if it sends one, with these drive bytes.
 pub fn send(
+    mode: u32,
     state: &[u8],
     sync: u32,
     startup: u32,
@@ -89,17 +100,18 @@ pub fn send(
     frame: &mut [u8],
     sent: &mut u32,
 ) -> u32
-    ensures { λ r. ⌜ r ≡ sendHeartbeatStatus (now (state .entry)) sync startup cycle channel (now (drive .entry)) (now (frame .entry)) ⌝ }
-    ensures { λ _. ⌜ now (frame .exit) ≡ sendHeartbeatLeft (now (state .entry)) sync startup cycle channel (now (drive .entry)) (now (frame .entry)) ⌝ }
-    ensures { λ _. ⌜ now (sent .exit) ≡ sendHeartbeatSent (now (state .entry)) sync startup cycle channel (now (drive .entry)) (now (frame .entry)) (now (sent .entry)) ⌝ }
+    ensures { λ r. ⌜ r ≡ sendHeartbeatStatus mode (now (state .entry)) sync startup cycle channel (now (drive .entry)) (now (frame .entry)) ⌝ }
+    ensures { λ _. ⌜ now (frame .exit) ≡ sendHeartbeatLeft mode (now (state .entry)) sync startup cycle channel (now (drive .entry)) (now (frame .entry)) ⌝ }
+    ensures { λ _. ⌜ now (sent .exit) ≡ sendHeartbeatSent mode (now (state .entry)) sync startup cycle channel (now (drive .entry)) (now (frame .entry)) (now (sent .entry)) ⌝ }
 {
-    if wrong_sending(sync, startup, cycle, channel) {
+    if wrong_sending(mode, sync, startup, cycle, channel) {
         return 2;
     }
     if frame_writing::wrong_drive(drive) {
         return 3;
     }
-    match lent_node(false, state, frame.len(), 10 + drive.len()) {
+    let quiet = rule_steps::is_quiet(mode);
+    match lent_node(quiet, false, state, frame.len(), 10 + drive.len()) {
         Lent::Holds(n) => {
             send_of(n, sync, startup, cycle, channel, drive, frame, sent);
             0

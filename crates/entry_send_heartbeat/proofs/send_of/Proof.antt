@@ -13,10 +13,15 @@ cast-write-heartbeat c = search needs
 join-bit-requires : tie.Need-join-bit-requires
 join-bit-requires c κs = search needs
 
+request-bit-requires : tie.Need-request-bit-requires
+request-bit-requires c κs = search needs
+
 write-heartbeat-requires : tie.Need-write-heartbeat-requires
 write-heartbeat-requires c κs =
-    let s = c .before .before .before .before .before .before .before in
-    (omega arith, (c .before .join-bit .ensures .1, (omega arith, (omega arith, (omega arith, (s .pre .1 .1 .1 .1 .0, s .pre .1 .1 .1 .1 .1))))))
+    let r = c .before in
+    let j = r .before in
+    let s = j .before .before .before .before .before .before in
+    (omega arith, (j .join-bit .ensures .1, (r .request-bit .ensures .1, (omega arith, (omega arith, (omega arith, (s .pre .1 .1 .1 .1 .0, s .pre .1 .1 .1 .1 .1)))))))
 
 same-length : tie.Need-same-length
 same-length c = search needs
@@ -24,11 +29,12 @@ same-length c = search needs
 returns : tie.Need-returns
 returns c =
     let w = c .before .before in
-    let j = w .before .before in
+    let r = w .before .before in
+    let j = r .before in
     let t = j .before .before in
     let b = t .before in
     let a = b .before .before .before .args in (
-      send-frame (a .n) _ _ _ _ _ (a .frame .now) _ _ _ (b .sends-byte .ensures) (t .if1 .taken) (j .join-bit .ensures .0) (w .write-heartbeat .ensures),
+      send-frame (a .n) _ _ _ _ _ (a .frame .now) _ _ _ _ (b .sends-byte .ensures) (t .if1 .taken) (j .join-bit .ensures .0) (r .request-bit .ensures .0) (w .write-heartbeat .ensures),
       b .sends-byte .ensures,
     )
 
@@ -44,6 +50,7 @@ send-of-spec =
     sends-byte-requires
     cast-write-heartbeat
     join-bit-requires
+    request-bit-requires
     write-heartbeat-requires
     same-length
     returns

@@ -9,7 +9,7 @@ use Rattle.entry_write_heartbeat.proofs.write.Tie as tie
 
 -- nothing was refused
 fine : (c : tie.Else1) → let a = c .before .before .before .before .before .args in
-    writeHeartbeatStatus (a .n) (a .node) (a .join) (a .sync) (a .startup) (a .cycle) (a .channel) (now (a .drive)) (now (a .frame)) ≡ 0
+    writeHeartbeatStatus (a .n) (a .mode) (a .node) (a .join) (a .request) (a .sync) (a .startup) (a .cycle) (a .channel) (now (a .drive)) (now (a .frame)) ≡ 0
 fine c = sym (c .before .write-refusal .ensures) ∙ c .if1 .left
 
 write-refusal-requires : tie.Need-write-refusal-requires
@@ -26,10 +26,10 @@ returns c = (c .before .write-refusal .ensures, sym (unless-refused _ _ _ (λ z.
 returns-2 : tie.Need-returns-2
 returns-2 c =
     let w = c .before .before in
-    written _ _ _ _ _ _ _ _ _ (fine (w .before .before)) _ (w .write-heartbeat .ensures)
+    written _ _ _ _ _ _ _ _ _ _ _ (fine (w .before .before)) _ (w .write-heartbeat .ensures)
 
 write-heartbeat-requires : tie.Need-write-heartbeat-requires
-write-heartbeat-requires c κs = write-bounds _ _ _ _ _ _ _ _ _ (fine (c .before))
+write-heartbeat-requires c κs = write-bounds _ _ _ _ _ _ _ _ _ _ _ (fine (c .before))
 
 same-length-2 : tie.Need-same-length-2
 same-length-2 c = search needs
