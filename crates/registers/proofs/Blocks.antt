@@ -153,8 +153,13 @@ block-read quiet m f = go quiet (formedMachine quiet m) refl
         let n = m .node in
         let place = formedPlace (n .id) (n .nodes) in
         let p = and-l place (formedState true (n .id) (n .nodes) (n .state)) f in
-        rw (block-length m, block-reads m, image-part m, no-image (n .state) (n .id) (n .nodes) p (and-r place (formedState true (n .id) (n .nodes) (n .state)) f)
-        (sym (ap (λ (b : Bool). b && formedState false (n .id) (n .nodes) (n .state)) p) ∙ e))
+        rw (
+          block-length m,
+          block-reads m,
+          image-part m,
+          no-image (n .state) (n .id) (n .nodes) p (and-r place (formedState true (n .id) (n .nodes) (n .state)) f)
+              (sym (ap (λ (b : Bool). b && formedState false (n .id) (n .nodes) (n .state)) p) ∙ e),
+        )
 
 -- Accepted is exactly what is the block of a well-formed machine, and it is read as that machine: no accepted block hides a byte that the machine has not.
 pub accepted-is-a-block : (quiet : Bool) (s : List ℕ) (m : Machine) → Bytes s

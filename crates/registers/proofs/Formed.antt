@@ -93,22 +93,24 @@ module _ (quiet : Bool) (n : Node) (f : formed quiet n ≡ true) where
       go false true = ruled false true
       go false false = f
 
-  pub decided-formed : (heard0 heard1 requests : ℕ) (votes : List ℕ) (arrived : ℕ) → formed quiet (decidedNode quiet heard0 heard1 requests votes arrived n) ≡ true
-  decided-formed heard0 heard1 requests votes arrived = with-state _ (go (n .state) (held .1))
+  decision-formed : (heard0 heard1 requests : ℕ) (votes : List ℕ) (arrived : ℕ) (t : State) → formedState quiet (n .id) (n .nodes) t ≡ true
+      → formedState quiet (n .id) (n .nodes) (decision quiet n t heard0 heard1 requests votes arrived) ≡ true
+  decision-formed heard0 heard1 requests votes arrived (Out r) h = refl
+  decision-formed heard0 heard1 requests votes arrived Joining h =
+      joiner-formed (pressOf quiet n) (n .id) (bufferBallots (n .nodes) (n .id) votes arrived) (ballots-fair (n .nodes) (n .id) votes arrived)
+  decision-formed heard0 heard1 requests votes arrived (Member g a) h = go (votesOn quiet n g a heard0 heard1 requests)
     where
       got : Ballots
       got = bufferBallots (n .nodes) (n .id) votes arrived
 
-      go : (t : State) → formedState quiet (n .id) (n .nodes) t ≡ true → formedState quiet (n .id) (n .nodes) (decision quiet n t heard0 heard1 requests votes arrived) ≡ true
-      go (Out r) h = refl
-      go Joining h = joiner-formed (pressOf quiet n) (n .id) got (ballots-fair (n .nodes) (n .id) votes arrived)
-      go (Member g a) h = turn (votesOn quiet n g a heard0 heard1 requests)
-        where
-          turn : (b : Bool)
-              → formedState quiet (n .id) (n .nodes) (cond b (memberDecides (pressOf quiet n) (n .id) (record { group = g; view = ownView n heard0 heard1 g }) got) (silentDecides (pressOf quiet n) (n .id) g got))
-              ≡ true
-          turn true = member-formed (pressOf quiet n) (n .id) heard0 heard1 g a got (place-bounds (n .id) (n .nodes) (held .0) .2) h
-          turn false = silent-formed (pressOf quiet n) (n .id) g a got h
+      go : (b : Bool)
+          → formedState quiet (n .id) (n .nodes) (cond b (memberDecides (pressOf quiet n) (n .id) (record { group = g; view = ownView n heard0 heard1 g }) got) (silentDecides (pressOf quiet n) (n .id) g got))
+          ≡ true
+      go true = member-formed (pressOf quiet n) (n .id) heard0 heard1 g a got (place-bounds (n .id) (n .nodes) (held .0) .2) h
+      go false = silent-formed (pressOf quiet n) (n .id) g a got h
+
+  pub decided-formed : (heard0 heard1 requests : ℕ) (votes : List ℕ) (arrived : ℕ) → formed quiet (decidedNode quiet heard0 heard1 requests votes arrived n) ≡ true
+  decided-formed heard0 heard1 requests votes arrived = with-state _ (decision-formed heard0 heard1 _ votes arrived (n .state) (held .1))
 
 -- ---- a machine
 

@@ -61,6 +61,11 @@ stays-set mode a v heard0 heard1 requests votes arrived m flag each e = each _ _
     or-yes true = refl
     or-yes false = refl
 
+-- a member that keeps its set raises none, whether it requests or not
+pub kept-raises-none : (g h : Group) (a b : Bool) → g .set ≡ h .set → raisedBy (Member g a) (Member h b) ≡ three false false false
+unfolding raisedBy
+kept-raises-none g h a b e = λ i. three (not (eq-eqb (g .set) (h .set) e i)) false false
+
 and-no : (b : Bool) → (b && false) ≡ false
 and-no true = refl
 and-no false = refl
@@ -73,11 +78,6 @@ at-most-one Joining t = (refl, refl, refl)
 at-most-one (Member g a) (Out r) = (refl, refl, and-no (halted (Out r)))
 at-most-one (Member g a) Joining = (refl, refl, refl)
 at-most-one (Member g a) (Member h b) = (and-no (not (eqb (g .set) (h .set))), and-no (not (eqb (g .set) (h .set))), refl)
-
--- a member that keeps its set raises none, whether it requests or not
-pub kept-raises-none : (g h : Group) (a b : Bool) → g .set ≡ h .set → raisedBy (Member g a) (Member h b) ≡ three false false false
-unfolding raisedBy
-kept-raises-none g h a b e = λ i. three (not (eq-eqb (g .set) (h .set) e i)) false false
 
 -- "raising no flag": a stop, also together with a cycle
 pub stop-raises-none : (mode heard0 heard1 requests : ℕ) (votes : List ℕ) (arrived : ℕ) (m : Machine) → stepped (WriteCycle mode 27 1 heard0 heard1 requests votes arrived) m .flags ≡ m .flags
