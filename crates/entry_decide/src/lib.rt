@@ -82,7 +82,18 @@ pub fn next_state(
             present,
         ),
         State::Member(g, a) => member_decides(
-            quiet, n, g, a, heard0, heard1, requests, &numbers, &sets, &bases, &views, present,
+            quiet,
+            n,
+            g,
+            a,
+            heard0,
+            heard1,
+            requests,
+            &numbers,
+            &sets,
+            &bases,
+            &views,
+            present,
         ),
     }
 }
@@ -101,7 +112,13 @@ pub fn decide(
     ensures { λ _. ⌜ now (state .exit) ≡ decideLeft mode (now (state .entry)) heard0 heard1 requests (now (votes .entry)) arrived ⌝ }
 {
     let quiet = rule_steps::is_quiet(mode);
-    match entry_lent::lent_node(quiet, rule_steps::wrong_mode(mode), state, votes.len(), 1792) {
+    match entry_lent::lent_node(
+        quiet,
+        rule_steps::wrong_mode(mode),
+        state,
+        votes.len(),
+        1792,
+    ) {
         Lent::Holds(n) => {
             let next = Node {
                 state: next_state(quiet, n, heard0, heard1, requests, votes, arrived),

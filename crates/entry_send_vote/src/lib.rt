@@ -128,7 +128,15 @@ pub fn send(
     match lent_node(quiet, wrong, state, frame.len(), 36) {
         Lent::Holds(n) => {
             send_of(
-                quiet, n, heard0, heard1, requests, cycle, channel, frame, sent,
+                quiet,
+                n,
+                heard0,
+                heard1,
+                requests,
+                cycle,
+                channel,
+                frame,
+                sent,
             );
             0
         }

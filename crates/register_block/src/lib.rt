@@ -90,14 +90,14 @@ pub fn raised_by(s: State, t: State) -> u8
     match s {
         State::Out(_) => 0,
         State::Joining => if rule_steps::sends_member(t) { 4 } else { 0 },
-        State::Member(g) => match t {
+        State::Member(g, _) => match t {
             State::Out(r) => if state_encoding::reason_code(r) != 0 {
                 2
             } else {
                 0
             },
             State::Joining => 0,
-            State::Member(h) => if g.set != h.set { 1 } else { 0 },
+            State::Member(h, _) => if g.set != h.set { 1 } else { 0 },
         },
     }
 }

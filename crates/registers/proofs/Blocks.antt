@@ -1,6 +1,6 @@
 -- A block is accepted exactly if it is that of a machine, and a read shows its byte. Assumes nothing.
 use mathlib.Core.Path.{_≡_, refl, sym, ap, ap₂, _∙_}
-use mathlib.Core.Bool.{Bool, true, false, _&&_, cond}
+use mathlib.Core.Bool.{Bool, true, false, _&&_, cond, true≢false}
 use mathlib.Core.List.{List, [], _∷_, _++_}
 use Prim.Native.Nat.{ℕ, zero, suc, _+_, _-_, _≤_, _<_}
 use native.Mathlib.Omega.{arith}
@@ -11,10 +11,14 @@ use borrow.Author.Tests.{eq-eqb, ne-eqb, ltb-false}
 use Rattle.sets.specs.Sets.{has}
 use Rattle.sets.proofs.Booleans.{eqb-self, eqb-true, ltb-lt, and-l, and-r, and-i}
 use Rattle.bigendian.proofs.Laws.{Bytes}
+use Rattle.state.specs.declared.State.{State}
+use Rattle.state.specs.declared.State.the-variants.{Out, Joining, Member}
 use Rattle.state.specs.declared.Node.{Node}
 use Rattle.state.specs.declared.Decoded.{Decoded}
 use Rattle.state.specs.declared.Decoded.the-variants.{Good, WrongLength as OfAnotherLength, Malformed as NoImage}
+use Rattle.state.specs.State.{formedPlace, formedState, formed}
 use Rattle.state.specs.Image.{imageOf, decoded}
+use Rattle.state.proofs.Fields.{of-member}
 use Rattle.state.proofs.RoundTrip.{image-length, round-trip, image-back, decoded-formed}
 use Rattle.registers.specs.Block.{Machine, Holds, WrongLength, Malformed, flagsByte, flagsIn, pendingByte, blockOf, shown, formedMachine, allZero, readsSo, machineIn, registersAt}
 use Rattle.registers.proofs.Bits.{three, flags-back, flags-few, byte-back}
@@ -86,24 +90,24 @@ behind-back s l h =
     ∙ ap₂ (λ (x : ℕ) (r : List ℕ). x ∷ r) (sym (byte-back e (and-r (ltb f 8) (ltb e 8) h2)))
     (drop-cons s 26 0 (omega arith) ∙ ap₂ (λ (x : ℕ) (r : List ℕ). x ∷ r) (eqb-true (and-r (ltb f 8 && ltb e 8) p h3)) rest))
 
-pub held-block : (s : List ℕ) (m : Machine) → Bytes s → registersAt s ≡ Holds m → (formedMachine m ≡ true) × (s ≡ blockOf m)
+pub held-block : (quiet : Bool) (s : List ℕ) (m : Machine) → Bytes s → registersAt quiet s ≡ Holds m → (formedMachine quiet m ≡ true) × (s ≡ blockOf m)
 unfolding registersAt blockOf
-held-block s m b = go (eqb (length s) 64) (readsSo s) (decoded (take 24 s)) refl refl refl
+held-block quiet s m b = go (eqb (length s) 64) (readsSo s) (decoded quiet (take 24 s)) refl refl refl
   where
     front : Bytes (take 24 s)
     front = bytes-take 24 s b
 
     -- the machine that was read
-    of : (n : Node) → length s ≡ 64 → readsSo s ≡ true → decoded (take 24 s) ≡ Good n
-        → (x : Machine) → record { node = n; flags = flagsIn (getD s 24 0); enables = flagsIn (getD s 25 0) } ≡ x → (formedMachine x ≡ true) × (s ≡ imageOf (x .node) ++ behind x)
+    of : (n : Node) → length s ≡ 64 → readsSo s ≡ true → decoded quiet (take 24 s) ≡ Good n
+        → (x : Machine) → record { node = n; flags = flagsIn (getD s 24 0); enables = flagsIn (getD s 25 0) } ≡ x → (formedMachine quiet x ≡ true) × (s ≡ imageOf (x .node) ++ behind x)
     of n l r e x k = (
-      ap (λ (y : Machine). formedMachine y) (sym k) ∙ decoded-formed (take 24 s) n front e,
-      sym (take-append-drop 24 s) ∙ ap₂ (λ (p q : List ℕ). p ++ q) (sym (image-back (take 24 s) n front e)) (behind-back s l r)
+      ap (formedMachine quiet) (sym k) ∙ decoded-formed quiet (take 24 s) n front e,
+      sym (take-append-drop 24 s) ∙ ap₂ (λ (p q : List ℕ). p ++ q) (sym (image-back quiet (take 24 s) n front e)) (behind-back s l r)
           ∙ ap (λ (y : Machine). imageOf (y .node) ++ behind y) k,
     )
 
-    go : (sized so : Bool) (d : Decoded) → eqb (length s) 64 ≡ sized → readsSo s ≡ so → decoded (take 24 s) ≡ d
-        → cond sized (cond so (machineIn d s) Malformed) WrongLength ≡ Holds m → (formedMachine m ≡ true) × (s ≡ imageOf (m .node) ++ behind m)
+    go : (sized so : Bool) (d : Decoded) → eqb (length s) 64 ≡ sized → readsSo s ≡ so → decoded quiet (take 24 s) ≡ d
+        → cond sized (cond so (machineIn d s) Malformed) WrongLength ≡ Holds m → (formedMachine quiet m ≡ true) × (s ≡ imageOf (m .node) ++ behind m)
     go true true (Good n) l r e h = of n (eqb-true l) r e m cc
     go true true OfAnotherLength l r e h = let z : _≡_ {A = ℕ} 0 1 = cc in absurd (omega arith)
     go true true NoImage l r e h = let z : _≡_ {A = ℕ} 0 1 = cc in absurd (omega arith)
@@ -122,17 +126,45 @@ block-reads m =
     (ap₂ eqb (pending-at m) (ap₂ (λ (a b : ℕ). pendingByte (flagsIn a) (flagsIn b)) (flags-at m) (enables-at m) ∙ same) ∙ eqb-self (pendingByte f e)))
     (ap allZero (rest-at m))
 
-pub block-back : (m : Machine) → formedMachine m ≡ true → registersAt (blockOf m) ≡ Holds m
+pub block-back : (quiet : Bool) (m : Machine) → formedMachine quiet m ≡ true → registersAt quiet (blockOf m) ≡ Holds m
 unfolding registersAt
-block-back m f =
+block-back quiet m f =
     let machine : ℕ → ℕ → Machine = λ a b. record { node = m .node; flags = flagsIn a; enables = flagsIn b } in
-    rw (block-length m, block-reads m, image-part m, round-trip (m .node) f)
+    rw (block-length m, block-reads m, image-part m, round-trip quiet (m .node) f)
     (ap Holds (ap₂ machine (flags-at m) (enables-at m) ∙ (λ i. record { node = m .node; flags = flags-back (m .flags) i; enables = flags-back (m .enables) i })))
 
+-- in a press that votes in every cycle a block whose node requests is none
+no-image : (t : State) (id n : ℕ) → formedPlace id n ≡ true → formedState true id n t ≡ true → formedState false id n t ≡ false
+    → decoded false (imageOf (record { state = t; id = id; nodes = n })) ≡ NoImage
+unfolding imageOf
+no-image (Out r) id n p f e = absurd (true≢false e)
+no-image Joining id n p f e = absurd (true≢false e)
+no-image (Member g true) id n p f e = of-member false _ (image-length (record { state = Member g true; id = id; nodes = n })) p refl
+no-image (Member g false) id n p f e = absurd (true≢false (sym f ∙ e))
+
+pub block-read : (quiet : Bool) (m : Machine) → formedMachine true m ≡ true → registersAt quiet (blockOf m) ≡ cond (formedMachine quiet m) (Holds m) Malformed
+unfolding registersAt formed
+block-read quiet m f = go quiet (formedMachine quiet m) refl
+  where
+    go : (q b : Bool) → formedMachine q m ≡ b → registersAt q (blockOf m) ≡ cond b (Holds m) Malformed
+    go q true e = block-back q m e
+    go true false e = absurd (true≢false (sym f ∙ e))
+    go false false e =
+        let n = m .node in
+        let place = formedPlace (n .id) (n .nodes) in
+        let p = and-l place (formedState true (n .id) (n .nodes) (n .state)) f in
+        rw (
+          block-length m,
+          block-reads m,
+          image-part m,
+          no-image (n .state) (n .id) (n .nodes) p (and-r place (formedState true (n .id) (n .nodes) (n .state)) f)
+              (sym (ap (λ (b : Bool). b && formedState false (n .id) (n .nodes) (n .state)) p) ∙ e),
+        )
+
 -- Accepted is exactly what is the block of a well-formed machine, and it is read as that machine: no accepted block hides a byte that the machine has not.
-pub accepted-is-a-block : (s : List ℕ) (m : Machine) → Bytes s
-    → (registersAt s ≡ Holds m → (formedMachine m ≡ true) × (s ≡ blockOf m)) × ((formedMachine m ≡ true) × (s ≡ blockOf m) → registersAt s ≡ Holds m)
-accepted-is-a-block s m b = (held-block s m b, λ h. ap registersAt (h .1) ∙ block-back m (h .0))
+pub accepted-is-a-block : (quiet : Bool) (s : List ℕ) (m : Machine) → Bytes s
+    → (registersAt quiet s ≡ Holds m → (formedMachine quiet m ≡ true) × (s ≡ blockOf m)) × ((formedMachine quiet m ≡ true) × (s ≡ blockOf m) → registersAt quiet s ≡ Holds m)
+accepted-is-a-block quiet s m b = (held-block quiet s m b, λ h. ap (registersAt quiet) (h .1) ∙ block-back quiet m (h .0))
 
 -- ---- the beginning, and a read
 
@@ -142,10 +174,10 @@ zeros-show (suc n) zero = refl
 zeros-show (suc n) (suc i) = zeros-show n i
 
 -- 24 bytes that hold a node, and 40 zero bytes, are its block with no flag and no enable set
-pub begins : (s : List ℕ) (n : Node) → length s ≡ 24 → decoded s ≡ Good n
-    → registersAt (s ++ replicate 40 0) ≡ Holds (record { node = n; flags = three false false false; enables = three false false false })
+pub begins : (quiet : Bool) (s : List ℕ) (n : Node) → length s ≡ 24 → decoded quiet s ≡ Good n
+    → registersAt quiet (s ++ replicate 40 0) ≡ Holds (record { node = n; flags = three false false false; enables = three false false false })
 unfolding registersAt readsSo has
-begins s n l e =
+begins quiet s n l e =
     rw (length-append s (replicate 40 0), l, zero-at 0, zero-at 1, zero-at 2, zero-rest, take-at s (replicate 40 0) 24 l, e)
     (ap Holds (λ i. record { node = n; flags = flagsIn (zero-at 0 i); enables = flagsIn (zero-at 1 i) }))
   where

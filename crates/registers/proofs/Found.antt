@@ -2,7 +2,7 @@
 use mathlib.Core.Path.{_≡_, refl, sym, ap, _∙_}
 use mathlib.Core.Bool.{Bool, true, false, not, _||_, cond}
 use mathlib.Core.List.{List}
-use mathlib.Core.Option.{Option, none, some}
+use mathlib.Core.Option.{Option, none}
 use Prim.Native.Nat.{ℕ}
 use native.Mathlib.Omega.{arith}
 use lib.Dec.{eqb}
@@ -12,11 +12,12 @@ use Rattle.refusal.proofs.Laws.{unless-done, unless-refused}
 use Rattle.state.specs.declared.Decoded.{Decoded}
 use Rattle.state.specs.declared.Decoded.the-variants.{Good, WrongLength as OfAnotherLength, Malformed as NoImage}
 use Rattle.state.specs.Image.{decoded}
+use Rattle.rules.specs.OneCycle.{wrongMode, quietIn}
 use Rattle.entry_lent.specs.Refusals.{wrongLength}
 use Rattle.entry_lent.proofs.Bounds.{length-is}
 use Rattle.registers.specs.Block.{Machine, LentBlock, Holds, WrongLength, Malformed, blockOf, shown, readsSo, machineIn, registersAt}
 use Rattle.registers.proofs.Written.{cycle-alone}
-use Rattle.registers.specs.Steps.{Step, Read, Write, Cycle, WriteCycle, stepped, readIn, wrongAddress, wrongVotes, malformedBlock, stepStatus, leftIn, stepLeft, readAt, stepRead, resultOf, stepValue}
+use Rattle.registers.specs.Steps.{Step, Read, Write, Cycle, WriteCycle, modeOf, stepped, readIn, wrongAddress, wrongVotes, malformedBlock, foundBy, stepStatus, leftIn, stepLeft, readAt, stepRead, resultOf, stepValue}
 
 -- a block of another length than 64
 abbrev isWrong : LentBlock → Bool
@@ -24,9 +25,9 @@ isWrong (Holds m) = false
 isWrong WrongLength = true
 isWrong Malformed = false
 
-length-read : (s : List ℕ) → wrongLength 64 s ≡ isWrong (registersAt s)
+length-read : (quiet : Bool) (s : List ℕ) → wrongLength 64 s ≡ isWrong (registersAt quiet s)
 unfolding registersAt
-length-read s = go (eqb (length s) 64) (readsSo s) (decoded (take 24 s))
+length-read quiet s = go (eqb (length s) 64) (readsSo s) (decoded quiet (take 24 s))
   where
     go : (b c : Bool) (d : Decoded) → not b ≡ isWrong (cond b (cond c (machineIn d s) Malformed) WrongLength)
     go true true (Good n) = refl
@@ -35,13 +36,13 @@ length-read s = go (eqb (length s) 64) (readsSo s) (decoded (take 24 s))
     go true false d = refl
     go false c d = refl
 
-pub holds-length : (s : List ℕ) (m : Machine) → registersAt s ≡ Holds m → length s ≡ 64
-holds-length s m e = length-is 64 s (length-read s ∙ ap isWrong e)
+pub holds-length : (quiet : Bool) (s : List ℕ) (m : Machine) → registersAt quiet s ≡ Holds m → length s ≡ 64
+holds-length quiet s m e = length-is 64 s (length-read quiet s ∙ ap isWrong e)
 
 -- the node of a block stands in its first 24 bytes
-pub image-in : (s : List ℕ) (m : Machine) → registersAt s ≡ Holds m → decoded (take 24 s) ≡ Good (m .node)
+pub image-in : (quiet : Bool) (s : List ℕ) (m : Machine) → registersAt quiet s ≡ Holds m → decoded quiet (take 24 s) ≡ Good (m .node)
 unfolding registersAt
-image-in s m = go (eqb (length s) 64) (readsSo s) (decoded (take 24 s))
+image-in quiet s m = go (eqb (length s) 64) (readsSo s) (decoded quiet (take 24 s))
   where
     go : (b c : Bool) (d : Decoded) → cond b (cond c (machineIn d s) Malformed) WrongLength ≡ Holds m → d ≡ Good (m .node)
     go true true (Good n) h = let z : n ≡ m .node = cc in ap Good z
@@ -51,49 +52,57 @@ image-in s m = go (eqb (length s) 64) (readsSo s) (decoded (take 24 s))
     go false c d h = let z : _≡_ {A = ℕ} 0 1 = cc in absurd (omega arith)
 
 -- "an address above 63": the last register is 63
-pub last-register : (v heard0 heard1 : ℕ) (votes : List ℕ) (arrived : ℕ) → let joint : ℕ → Step = λ a. WriteCycle a v heard0 heard1 votes arrived in
-    (wrongAddress (Read 63) ≡ false) × (wrongAddress (Write 63 v) ≡ false) × (wrongAddress (joint 63) ≡ false)
-    × (wrongAddress (Read 64) ≡ true) × (wrongAddress (Write 64 v) ≡ true) × (wrongAddress (joint 64) ≡ true)
-last-register v heard0 heard1 votes arrived = (refl, refl, refl, refl, refl, refl)
+pub last-register : (mode v heard0 heard1 requests : ℕ) (votes : List ℕ) (arrived : ℕ) → let joint : ℕ → Step = λ a. WriteCycle mode a v heard0 heard1 requests votes arrived in
+    (wrongAddress (Read mode 63) ≡ false) × (wrongAddress (Write mode 63 v) ≡ false) × (wrongAddress (joint 63) ≡ false)
+    × (wrongAddress (Read mode 64) ≡ true) × (wrongAddress (Write mode 64 v) ≡ true) × (wrongAddress (joint 64) ≡ true)
+last-register mode v heard0 heard1 requests votes arrived = (refl, refl, refl, refl, refl, refl)
 
--- the status of a step that finds d
+-- the status of a step in a mode that finds d
 abbrev pub statusIn : Step → LentBlock → ℕ
 statusIn t (Holds m) = cond (wrongVotes t) 3 (cond (wrongAddress t) 14 0)
 statusIn t WrongLength = 3
 statusIn t Malformed = cond (wrongVotes t) 3 4
 
 module _ (t : Step) (s : List ℕ) where
-  pub status-found : (d : LentBlock) → registersAt s ≡ d → stepStatus t s ≡ statusIn t d
+  pub status-found : (d : LentBlock) → foundBy t s ≡ d → stepStatus t s ≡ cond (wrongMode (modeOf t)) 2 (statusIn t d)
   unfolding stepStatus first
-  status-found d e = simp (length-read s, e) (go d)
+  status-found d e = simp (length-read (quietIn (modeOf t)) s, e) (ap (cond (wrongMode (modeOf t)) 2) (go d))
     where
       go : (d : LentBlock) → cond (isWrong d || wrongVotes t) 3 (cond (malformedBlock d) 4 (cond (wrongAddress t) 14 0)) ≡ statusIn t d
       go (Holds m) = refl
       go WrongLength = refl
       go Malformed = refl
 
-  -- an accepted step finds a machine, and has votes and an address that are due
-  pub accepted : stepStatus t s ≡ 0 → (m : Machine) × (registersAt s ≡ Holds m) × (wrongVotes t ≡ false) × (wrongAddress t ≡ false)
-  accepted z = go (registersAt s) refl
+  -- an accepted step finds a machine, and has a mode, votes and an address that are due
+  pub accepted : stepStatus t s ≡ 0
+      → (m : Machine) × (foundBy t s ≡ Holds m) × (wrongMode (modeOf t) ≡ false) × (wrongVotes t ≡ false) × (wrongAddress t ≡ false)
+  accepted z = go (foundBy t s) refl
     where
-      passed : (v a : Bool) → _≡_ {A = ℕ} (cond v 3 (cond a 14 0)) 0 → (v ≡ false) × (a ≡ false)
-      passed true a h = let k : _≡_ {A = ℕ} 3 0 = h in absurd (omega arith)
-      passed false true h = let k : _≡_ {A = ℕ} 14 0 = h in absurd (omega arith)
-      passed false false h = (refl, refl)
+      passed : (w v a : Bool) → _≡_ {A = ℕ} (cond w 2 (cond v 3 (cond a 14 0))) 0 → (w ≡ false) × (v ≡ false) × (a ≡ false)
+      passed true v a h = let k : _≡_ {A = ℕ} 2 0 = h in absurd (omega arith)
+      passed false true a h = let k : _≡_ {A = ℕ} 3 0 = h in absurd (omega arith)
+      passed false false true h = let k : _≡_ {A = ℕ} 14 0 = h in absurd (omega arith)
+      passed false false false h = (refl, refl, refl)
 
-      never : (v : Bool) → _≡_ {A = ℕ} (cond v 3 4) 0 → ⊥
-      never true h = let k : _≡_ {A = ℕ} 3 0 = h in omega arith
-      never false h = let k : _≡_ {A = ℕ} 4 0 = h in omega arith
+      never : (w v : Bool) (k : ℕ) → _≡_ {A = ℕ} (cond w 2 (cond v 3 k)) 0 → (k ≡ 0 → ⊥) → ⊥
+      never true v k h n = let e : _≡_ {A = ℕ} 2 0 = h in omega arith
+      never false true k h n = let e : _≡_ {A = ℕ} 3 0 = h in omega arith
+      never false false k h n = n h
 
-      go : (d : LentBlock) → registersAt s ≡ d → (m : Machine) × (registersAt s ≡ Holds m) × (wrongVotes t ≡ false) × (wrongAddress t ≡ false)
-      go (Holds m) e = let p = passed (wrongVotes t) (wrongAddress t) (sym (status-found (Holds m) e) ∙ z) in (m, e, p .0, p .1)
-      go WrongLength e = let k : _≡_ {A = ℕ} 3 0 = sym (status-found WrongLength e) ∙ z in absurd (omega arith)
-      go Malformed e = absurd (never (wrongVotes t) (sym (status-found Malformed e) ∙ z))
+      go : (d : LentBlock) → foundBy t s ≡ d
+          → (m : Machine) × (foundBy t s ≡ Holds m) × (wrongMode (modeOf t) ≡ false) × (wrongVotes t ≡ false) × (wrongAddress t ≡ false)
+      go (Holds m) e = let p = passed (wrongMode (modeOf t)) (wrongVotes t) (wrongAddress t) (sym (status-found (Holds m) e) ∙ z) in (m, e, p .0, p .1, p .2)
+      go WrongLength e = absurd (never (wrongMode (modeOf t)) false 3 (sym (status-found WrongLength e) ∙ z) (λ k. omega arith))
+      go Malformed e = absurd (never (wrongMode (modeOf t)) (wrongVotes t) 4 (sym (status-found Malformed e) ∙ z) (λ k. omega arith))
 
-  -- what it leaves
-  pub done-left : (m : Machine) → registersAt s ≡ Holds m → stepStatus t s ≡ 0 → stepLeft t s ≡ blockOf (stepped t m)
+  -- what it leaves and reads
+  pub done-left : (m : Machine) → foundBy t s ≡ Holds m → stepStatus t s ≡ 0 → stepLeft t s ≡ blockOf (stepped t m)
   unfolding stepLeft
   done-left m e z = unless-done _ _ _ z ∙ ap (λ (d : LentBlock). leftIn t d s) e
+
+  pub done-read : (m : Machine) → foundBy t s ≡ Holds m → stepStatus t s ≡ 0 → stepRead t s ≡ readIn t m
+  unfolding stepRead
+  done-read m e z = unless-done _ _ _ z ∙ ap (readAt t) e
 
   pub refused-left : (stepStatus t s ≡ 0 → ⊥) → stepLeft t s ≡ s
   unfolding stepLeft
@@ -108,26 +117,23 @@ module _ (t : Step) (s : List ℕ) where
   refused-value before h = ap (λ (o : Option ℕ). resultOf o before) (refused-read h)
 
 -- a cycle is one together with a write that does nothing
-pub cycle-as-write : (heard0 heard1 : ℕ) (votes : List ℕ) (arrived : ℕ) (s : List ℕ)
-    → (stepStatus (WriteCycle 28 0 heard0 heard1 votes arrived) s ≡ stepStatus (Cycle heard0 heard1 votes arrived) s)
-    × (stepLeft (WriteCycle 28 0 heard0 heard1 votes arrived) s ≡ stepLeft (Cycle heard0 heard1 votes arrived) s)
+pub cycle-as-write : (mode heard0 heard1 requests : ℕ) (votes : List ℕ) (arrived : ℕ) (s : List ℕ)
+    → (stepStatus (WriteCycle mode 28 0 heard0 heard1 requests votes arrived) s ≡ stepStatus (Cycle mode heard0 heard1 requests votes arrived) s)
+    × (stepLeft (WriteCycle mode 28 0 heard0 heard1 requests votes arrived) s ≡ stepLeft (Cycle mode heard0 heard1 requests votes arrived) s)
 unfolding stepStatus stepLeft
-cycle-as-write heard0 heard1 votes arrived s =
-    (refl, ap (λ (left : List ℕ). unless (stepStatus (Cycle heard0 heard1 votes arrived) s) left s) (go (registersAt s)))
+cycle-as-write mode heard0 heard1 requests votes arrived s =
+    (refl, ap (λ (left : List ℕ). unless (stepStatus (Cycle mode heard0 heard1 requests votes arrived) s) left s) (go (registersAt (quietIn mode) s)))
   where
-    go : (d : LentBlock) → leftIn (WriteCycle 28 0 heard0 heard1 votes arrived) d s ≡ leftIn (Cycle heard0 heard1 votes arrived) d s
-    go (Holds m) = ap blockOf (sym (cycle-alone heard0 heard1 votes arrived m))
+    go : (d : LentBlock) → leftIn (WriteCycle mode 28 0 heard0 heard1 requests votes arrived) d s ≡ leftIn (Cycle mode heard0 heard1 requests votes arrived) d s
+    go (Holds m) = ap blockOf (sym (cycle-alone mode heard0 heard1 requests votes arrived m))
     go WrongLength = refl
     go Malformed = refl
 
--- a read
-pub done-read : (a : ℕ) (s : List ℕ) (m : Machine) → registersAt s ≡ Holds m → stepStatus (Read a) s ≡ 0 → stepRead (Read a) s ≡ some (shown m a)
-unfolding stepRead
-done-read a s m e z = unless-done _ _ _ z ∙ ap (λ (d : LentBlock). readAt (Read a) d) e
-
-pub done-value : (a : ℕ) (s : List ℕ) (before : ℕ) (m : Machine) → registersAt s ≡ Holds m → stepStatus (Read a) s ≡ 0 → stepValue (Read a) s before ≡ shown m a
+-- the byte of a read
+pub done-value : (mode a : ℕ) (s : List ℕ) (before : ℕ) (m : Machine) → registersAt (quietIn mode) s ≡ Holds m → stepStatus (Read mode a) s ≡ 0
+    → stepValue (Read mode a) s before ≡ shown m a
 unfolding stepValue
-done-value a s before m e z = ap (λ (o : Option ℕ). resultOf o before) (done-read a s m e z)
+done-value mode a s before m e z = ap (λ (o : Option ℕ). resultOf o before) (done-read (Read mode a) s m e z)
 
 -- what is no read shows no byte
 pub reads-none : (t : Step) → ((m : Machine) → readIn t m ≡ none) → (s : List ℕ) → stepRead t s ≡ none
@@ -139,6 +145,6 @@ reads-none t h s = go (eqb (stepStatus t s) 0)
     nothing WrongLength = refl
     nothing Malformed = refl
 
-    go : (b : Bool) → cond b (readAt t (registersAt s)) none ≡ none
-    go true = nothing (registersAt s)
+    go : (b : Bool) → cond b (readAt t (foundBy t s)) none ≡ none
+    go true = nothing (foundBy t s)
     go false = refl

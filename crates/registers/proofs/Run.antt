@@ -18,14 +18,14 @@ use Rattle.registers.specs.Steps.{haltedBy, enteredBy, raisedBy}
 halted-by : (s t : State) → haltedBy s t ≡ (sendsMember s && halted t)
 halted-by (Out r) t = refl
 halted-by Joining t = refl
-halted-by (Member g) t = refl
+halted-by (Member g a) t = refl
 
 entered-by : (s t : State) → enteredBy s t ≡ (sendsJoin s && sendsMember t)
 entered-by (Out r) t = refl
 entered-by Joining (Out r) = refl
 entered-by Joining Joining = refl
-entered-by Joining (Member h) = refl
-entered-by (Member g) t = refl
+entered-by Joining (Member h b) = refl
+entered-by (Member g a) t = refl
 
 -- In every cycle of the rules: of the state as the heartbeats go out and the one after the cycle, a node raises halted exactly if it is among the halted of the run, and
 -- entered exactly if it is among the entered.

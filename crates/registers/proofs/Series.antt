@@ -1,52 +1,86 @@
 -- Every series of steps on the block of a machine shows and leaves what the machine does. Assumes nothing.
-use mathlib.Core.Path.{_≡_, refl, ap, ap₂, _∙_}
-use mathlib.Core.Bool.{Bool, true, false, cond}
+use mathlib.Core.Path.{_≡_, refl, sym, ap, ap₂, _∙_}
+use mathlib.Core.Bool.{Bool, true, false, not, cond}
 use mathlib.Core.List.{List, [], _∷_}
 use mathlib.Core.Option.{none}
 use Prim.Native.Nat.{ℕ}
+use native.Mathlib.Omega.{arith}
 use lib.Dec.{eqb}
-use Rattle.refusal.specs.Refusal.{first, unless}
-use Rattle.registers.specs.Block.{Machine, LentBlock, blockOf, formedMachine}
-use Rattle.registers.specs.Steps.{Step, Read, stepped, readIn, stepStatus, leftIn, stepLeft, readAt, stepRead}
+use borrow.Author.Tests.{eqb-true, eqb-false}
+use Rattle.refusal.specs.Refusal.{when, first, unless}
+use Rattle.refusal.proofs.Laws.{unless-done, unless-refused}
+use Rattle.rules.specs.OneCycle.{wrongMode, quietIn}
+use Rattle.registers.specs.Block.{Machine, Holds, Malformed, blockOf, formedMachine, registersAt}
+use Rattle.registers.specs.Steps.{Step, Read, modeOf, stepped, readIn, wrongAddress, wrongVotes, malformedBlock, stepStatus, stepLeft, stepRead}
 use Rattle.registers.specs.Series.{Shown, answer, next, shows, after, blockShows, blockAfter, SameSeries}
-use Rattle.registers.proofs.Blocks.{block-length, block-back}
-use Rattle.registers.proofs.Formed.{stepped-formed}
+use Rattle.registers.proofs.Blocks.{block-length, block-back, block-read}
+use Rattle.registers.proofs.Found.{done-left, done-read, refused-left, refused-read}
+use Rattle.registers.proofs.Formed.{formed-quietly, stepped-formed}
 
--- what is left unless a step is refused, after a function
-unless-after : {A B : Type 0} (f : A → B) (k : ℕ) (result before : A) → unless k (f result) (f before) ≡ f (unless k result before)
-unfolding unless
-unless-after f k result before = go (eqb k 0)
-  where
-    go : (b : Bool) → cond b (f result) (f before) ≡ f (cond b result before)
-    go true = refl
-    go false = refl
-
-module _ (t : Step) (m : Machine) (f : formedMachine m ≡ true) where
-  pub status-of : stepStatus t (blockOf m) ≡ answer t
-  unfolding stepStatus first
-  status-of = rw (block-length m, block-back m f)
-
-  pub left-of : stepLeft t (blockOf m) ≡ blockOf (next t m)
-  unfolding stepLeft
-  left-of =
-      ap₂ (λ (k : ℕ) (d : LentBlock). unless k (leftIn t d (blockOf m)) (blockOf m)) status-of (block-back m f) ∙ unless-after blockOf (answer t) (stepped t m) m
-
-  pub read-of : stepRead t (blockOf m) ≡ unless (answer t) (readIn t m) none
-  unfolding stepRead
-  read-of = ap₂ (λ (k : ℕ) (d : LentBlock). unless k (readAt t d) none) status-of (block-back m f)
-
-  pub next-formed : formedMachine (next t m) ≡ true
-  unfolding unless
-  next-formed = go (eqb (answer t) 0)
+module _ (t : Step) (m : Machine) where
+  -- a step that the machine does finds it well formed in its mode
+  answered : answer t m ≡ 0 → formedMachine (quietIn (modeOf t)) m ≡ true
+  unfolding first
+  answered z = go (wrongMode (modeOf t)) (wrongVotes t) (formedMachine (quietIn (modeOf t)) m) z
     where
-      go : (b : Bool) → formedMachine (cond b (stepped t m) m) ≡ true
+      go : (w v f : Bool) → _≡_ {A = ℕ} (cond w 2 (cond v 3 (cond (not f) 4 (cond (wrongAddress t) 14 0)))) 0 → f ≡ true
+      go true v f e = let k : _≡_ {A = ℕ} 2 0 = e in absurd (omega arith)
+      go false true f e = let k : _≡_ {A = ℕ} 3 0 = e in absurd (omega arith)
+      go false false true e = refl
+      go false false false e = let k : _≡_ {A = ℕ} 4 0 = e in absurd (omega arith)
+
+  -- where it is so, 4 is not given, and it stays so
+  pub in-its-mode : formedMachine (quietIn (modeOf t)) m ≡ true
+      → (answer t m ≡ first (when (wrongMode (modeOf t)) 2 ∷ when (wrongVotes t) 3 ∷ when (wrongAddress t) 14 ∷ [])) × (formedMachine (quietIn (modeOf t)) (next t m) ≡ true)
+  unfolding first unless
+  in-its-mode f = (rw f, go (eqb (answer t m) 0))
+    where
+      go : (b : Bool) → formedMachine (quietIn (modeOf t)) (cond b (stepped t m) m) ≡ true
       go true = stepped-formed t m f
       go false = f
 
+  -- of a machine that is well formed in a quiet press
+  module _ (f : formedMachine true m ≡ true) where
+    pub status-of : stepStatus t (blockOf m) ≡ answer t m
+    unfolding stepStatus first
+    status-of = rw (block-length m, block-read (quietIn (modeOf t)) m f, go (formedMachine (quietIn (modeOf t)) m))
+      where
+        go : (b : Bool) → malformedBlock (cond b (Holds m) Malformed) ≡ not b
+        go true = refl
+        go false = refl
+
+    found : answer t m ≡ 0 → registersAt (quietIn (modeOf t)) (blockOf m) ≡ Holds m
+    found z = block-back (quietIn (modeOf t)) m (answered z)
+
+    pub left-of : stepLeft t (blockOf m) ≡ blockOf (next t m)
+    left-of = go (eqb (answer t m) 0) refl
+      where
+        go : (b : Bool) → eqb (answer t m) 0 ≡ b → stepLeft t (blockOf m) ≡ blockOf (next t m)
+        go true e = let z = eqb-true (answer t m) 0 e in done-left t (blockOf m) m (found z) (status-of ∙ z) ∙ sym (ap blockOf (unless-done _ (stepped t m) m z))
+        go false e =
+            let n = eqb-false (answer t m) 0 e in
+            refused-left t (blockOf m) (λ z. n (sym status-of ∙ z)) ∙ sym (ap blockOf (unless-refused _ (stepped t m) m n))
+
+    pub read-of : stepRead t (blockOf m) ≡ unless (answer t m) (readIn t m) none
+    read-of = go (eqb (answer t m) 0) refl
+      where
+        go : (b : Bool) → eqb (answer t m) 0 ≡ b → stepRead t (blockOf m) ≡ unless (answer t m) (readIn t m) none
+        go true e = let z = eqb-true (answer t m) 0 e in done-read t (blockOf m) m (found z) (status-of ∙ z) ∙ sym (unless-done _ (readIn t m) none z)
+        go false e = let n = eqb-false (answer t m) 0 e in refused-read t (blockOf m) (λ z. n (sym status-of ∙ z)) ∙ sym (unless-refused _ (readIn t m) none n)
+
+    pub next-formed : formedMachine true (next t m) ≡ true
+    next-formed = go (eqb (answer t m) 0) refl
+      where
+        go : (b : Bool) → eqb (answer t m) 0 ≡ b → formedMachine true (next t m) ≡ true
+        go true e =
+            let z = eqb-true (answer t m) 0 e in
+            ap (formedMachine true) (unless-done _ (stepped t m) m z) ∙ formed-quietly (quietIn (modeOf t)) (stepped t m .node) (stepped-formed t m (answered z))
+        go false e = ap (formedMachine true) (unless-refused _ (stepped t m) m (eqb-false (answer t m) 0 e)) ∙ f
+
 -- a read leaves the block
-pub read-keeps : (a : ℕ) (m : Machine) → formedMachine m ≡ true → stepLeft (Read a) (blockOf m) ≡ blockOf m
+pub read-keeps : (mode a : ℕ) (m : Machine) → formedMachine true m ≡ true → stepLeft (Read mode a) (blockOf m) ≡ blockOf m
 unfolding unless
-read-keeps a m f = left-of (Read a) m f ∙ ap blockOf (go (eqb (answer (Read a)) 0))
+read-keeps mode a m f = left-of (Read mode a) m f ∙ ap blockOf (go (eqb (answer (Read mode a) m) 0))
   where
     go : (b : Bool) → cond b m m ≡ m
     go true = refl

@@ -7,7 +7,7 @@ use native.Mathlib.Nat.{mod-lt}
 use native.Mathlib.Omega.{arith}
 use lib.Dec.{eqb, lit<}
 use lib.Bits.{and-le-l, or-lt}
-use borrow.Author.Tests.{ne-eqb, lt-ltb, eqb-true, eqb-false}
+use borrow.Author.Tests.{eq-eqb, ne-eqb, lt-ltb, eqb-true, eqb-false}
 use Rattle.sets.specs.Sets.{has, _∪_, _∩_, _∖_, below}
 use Rattle.sets.proofs.Booleans.{ltb-lt}
 use Rattle.sets.proofs.Membership.{has-union, has-inter, has-diff}
@@ -43,23 +43,28 @@ unfolding written
 by-command v m = refl
 
 -- so that a cycle alone is one together with such a write
-pub cycle-alone : (heard0 heard1 : ℕ) (votes : List ℕ) (arrived : ℕ) (m : Machine)
-    → stepped (Cycle heard0 heard1 votes arrived) m ≡ stepped (WriteCycle 28 0 heard0 heard1 votes arrived) m
+pub cycle-alone : (mode heard0 heard1 requests : ℕ) (votes : List ℕ) (arrived : ℕ) (m : Machine)
+    → stepped (Cycle mode heard0 heard1 requests votes arrived) m ≡ stepped (WriteCycle mode 28 0 heard0 heard1 requests votes arrived) m
 unfolding written
-cycle-alone heard0 heard1 votes arrived m = refl
+cycle-alone mode heard0 heard1 requests votes arrived m = refl
 
 -- ---- what a step does to the flags and the node
 
 -- "A flag raised in the same step as it is cleared stays set."
-pub stays-set : (a v heard0 heard1 : ℕ) (votes : List ℕ) (arrived : ℕ) (m : Machine) (flag : Flags → Bool) → ((f g : Flags) → flag (raised f g) ≡ (flag f || flag g))
-    → flag (raisedBy (written a v m .node .state) (stepped (WriteCycle a v heard0 heard1 votes arrived) m .node .state)) ≡ true
-    → flag (stepped (WriteCycle a v heard0 heard1 votes arrived) m .flags) ≡ true
+pub stays-set : (mode a v heard0 heard1 requests : ℕ) (votes : List ℕ) (arrived : ℕ) (m : Machine) (flag : Flags → Bool) → ((f g : Flags) → flag (raised f g) ≡ (flag f || flag g))
+    → flag (raisedBy (written a v m .node .state) (stepped (WriteCycle mode a v heard0 heard1 requests votes arrived) m .node .state)) ≡ true
+    → flag (stepped (WriteCycle mode a v heard0 heard1 requests votes arrived) m .flags) ≡ true
 unfolding cycled
-stays-set a v heard0 heard1 votes arrived m flag each e = each _ _ ∙ ap (λ (b : Bool). flag (written a v m .flags) || b) e ∙ or-yes (flag (written a v m .flags))
+stays-set mode a v heard0 heard1 requests votes arrived m flag each e = each _ _ ∙ ap (λ (b : Bool). flag (written a v m .flags) || b) e ∙ or-yes (flag (written a v m .flags))
   where
     or-yes : (b : Bool) → (b || true) ≡ true
     or-yes true = refl
     or-yes false = refl
+
+-- a member that keeps its set raises none, whether it requests or not
+pub kept-raises-none : (g h : Group) (a b : Bool) → g .set ≡ h .set → raisedBy (Member g a) (Member h b) ≡ three false false false
+unfolding raisedBy
+kept-raises-none g h a b e = λ i. three (not (eq-eqb (g .set) (h .set) e i)) false false
 
 and-no : (b : Bool) → (b && false) ≡ false
 and-no true = refl
@@ -70,23 +75,23 @@ pub at-most-one : (s t : State) → let f = raisedBy s t in ((f .changed && f .h
 unfolding raisedBy
 at-most-one (Out r) t = (refl, refl, refl)
 at-most-one Joining t = (refl, refl, refl)
-at-most-one (Member g) (Out r) = (refl, refl, and-no (halted (Out r)))
-at-most-one (Member g) Joining = (refl, refl, refl)
-at-most-one (Member g) (Member h) = (and-no (not (eqb (g .set) (h .set))), and-no (not (eqb (g .set) (h .set))), refl)
+at-most-one (Member g a) (Out r) = (refl, refl, and-no (halted (Out r)))
+at-most-one (Member g a) Joining = (refl, refl, refl)
+at-most-one (Member g a) (Member h b) = (and-no (not (eqb (g .set) (h .set))), and-no (not (eqb (g .set) (h .set))), refl)
 
 -- "raising no flag": a stop, also together with a cycle
-pub stop-raises-none : (heard0 heard1 : ℕ) (votes : List ℕ) (arrived : ℕ) (m : Machine) → stepped (WriteCycle 27 1 heard0 heard1 votes arrived) m .flags ≡ m .flags
+pub stop-raises-none : (mode heard0 heard1 requests : ℕ) (votes : List ℕ) (arrived : ℕ) (m : Machine) → stepped (WriteCycle mode 27 1 heard0 heard1 requests votes arrived) m .flags ≡ m .flags
 unfolding written cycled raisedBy stopAndStart
-stop-raises-none heard0 heard1 votes arrived m = λ i. three (or-none (m .flags .changed) i) (or-none (m .flags .halted) i) (or-none (m .flags .entered) i)
+stop-raises-none mode heard0 heard1 requests votes arrived m = λ i. three (or-none (m .flags .changed) i) (or-none (m .flags .halted) i) (or-none (m .flags .entered) i)
   where
     or-none : (b : Bool) → (b || false) ≡ b
     or-none true = refl
     or-none false = refl
 
 -- "as rule 1 says": a start leaves a member
-pub start-leaves-member : (m : Machine) (g : Group) → m .node .state ≡ Member g → written 27 2 m ≡ m
+pub start-leaves-member : (m : Machine) (g : Group) (a : Bool) → m .node .state ≡ Member g a → written 27 2 m ≡ m
 unfolding written stopAndStart
-start-leaves-member m g e =
+start-leaves-member m g a e =
     let of : State → Machine = λ s. record { node = record { state = s; id = m .node .id; nodes = m .node .nodes }; flags = m .flags; enables = m .enables } in
     ap (λ (s : State). of (startIf true s)) e ∙ sym (ap of e)
 

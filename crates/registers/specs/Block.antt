@@ -53,9 +53,9 @@ shown m a =
     cond (ltb a 24) (getD (imageOf (m .node)) a 0)
     (cond (eqb a 24) (flagsByte (m .flags)) (cond (eqb a 25) (flagsByte (m .enables)) (cond (eqb a 26) (pendingByte (m .flags) (m .enables)) 0)))
 
--- a machine whose node is one that an image can hold
-abbrev pub formedMachine : Machine → Bool
-formedMachine m = formed (m .node)
+-- a machine whose node is one that an image can hold, in a quiet press or in one that votes in every cycle
+abbrev pub formedMachine : Bool → Machine → Bool
+formedMachine quiet m = formed quiet (m .node)
 
 abbrev pub allZero : List ℕ → Bool
 allZero [] = true
@@ -73,5 +73,5 @@ machineIn OfAnotherLength s = Malformed
 machineIn NoImage s = Malformed
 
 -- What reading a lent block finds. "3: a lent buffer of another length than named here"; "4: a state image not well formed", and bytes that could not read so.
-unfoldable pub registersAt : List ℕ → LentBlock
-registersAt s = cond (eqb (length s) 64) (cond (readsSo s) (machineIn (decoded (take 24 s)) s) Malformed) WrongLength
+unfoldable pub registersAt : Bool → List ℕ → LentBlock
+registersAt quiet s = cond (eqb (length s) 64) (cond (readsSo s) (machineIn (decoded quiet (take 24 s)) s) Malformed) WrongLength

@@ -12,17 +12,24 @@ use Rattle.state.specs.declared.State.the-variants.{Out, Joining, Member}
 use Rattle.state.specs.declared.Node.{Node}
 use Rattle.state.specs.State.{halted}
 use Rattle.refusal.specs.Refusal.{when, first, unless}
+use Rattle.rules.specs.OneCycle.{wrongMode, quietIn}
 use Rattle.entry_lent.specs.Refusals.{wrongLength}
 use Rattle.entry_stop_start.specs.StopStart.{stoppedAndStarted}
 use Rattle.entry_decide.specs.Decide.{decision}
 use Rattle.registers.specs.Block.{Flags, Machine, LentBlock, Holds, WrongLength, Malformed, flagsIn, blockOf, shown, registersAt}
 
--- A cycle takes what `gm_decide` takes: what was heard with join 0 and 1, the vote buffer, and whose votes arrived.
+-- Each in a mode. A cycle takes what `gm_decide` takes: what was heard with join 0 and 1, and with a request, the vote buffer, and whose votes arrived.
 pub data Step : Type 0 where
-  Read : (address : ℕ) → Step
-  Write : (address value : ℕ) → Step
-  Cycle : (heard0 heard1 : ℕ) (votes : List ℕ) (arrived : ℕ) → Step
-  WriteCycle : (address value heard0 heard1 : ℕ) (votes : List ℕ) (arrived : ℕ) → Step
+  Read : (mode address : ℕ) → Step
+  Write : (mode address value : ℕ) → Step
+  Cycle : (mode heard0 heard1 requests : ℕ) (votes : List ℕ) (arrived : ℕ) → Step
+  WriteCycle : (mode address value heard0 heard1 requests : ℕ) (votes : List ℕ) (arrived : ℕ) → Step
+
+abbrev pub modeOf : Step → ℕ
+modeOf (Read mode a) = mode
+modeOf (Write mode a v) = mode
+modeOf (Cycle mode heard0 heard1 requests votes arrived) = mode
+modeOf (WriteCycle mode a v heard0 heard1 requests votes arrived) = mode
 
 -- ---- what a step does to the machine
 
@@ -45,23 +52,23 @@ written a v m =
 abbrev pub changedBy : State → State → Bool
 changedBy (Out r) t = false
 changedBy Joining t = false
-changedBy (Member g) (Out r) = false
-changedBy (Member g) Joining = false
-changedBy (Member g) (Member h) = not (eqb (g .set) (h .set))
+changedBy (Member g a) (Out r) = false
+changedBy (Member g a) Joining = false
+changedBy (Member g a) (Member h b) = not (eqb (g .set) (h .set))
 
--- "bit 1 halted": by rule 5, of which a stop is none
+-- "bit 1 halted": by rule 5, or because others decided without it; a stop is neither
 abbrev pub haltedBy : State → State → Bool
 haltedBy (Out r) t = false
 haltedBy Joining t = false
-haltedBy (Member g) t = halted t
+haltedBy (Member g a) t = halted t
 
 -- "bit 2 entered": by rule 6
 abbrev pub enteredBy : State → State → Bool
 enteredBy (Out r) t = false
 enteredBy Joining (Out r) = false
 enteredBy Joining Joining = false
-enteredBy Joining (Member h) = true
-enteredBy (Member g) t = false
+enteredBy Joining (Member h b) = true
+enteredBy (Member g a) t = false
 
 -- what a cycle raises that finds a node in state s and leaves it in state t
 unfoldable pub raisedBy : State → State → Flags
@@ -72,42 +79,43 @@ abbrev pub raised : Flags → Flags → Flags
 raised f g = record { changed = f .changed || g .changed; halted = f .halted || g .halted; entered = f .entered || g .entered }
 
 -- the rest of a cycle, as `gm_decide` has it
-abbrev pub decidedNode : ℕ → ℕ → List ℕ → ℕ → Node → Node
-decidedNode heard0 heard1 votes arrived n = record { state = decision n (n .state) heard0 heard1 votes arrived; id = n .id; nodes = n .nodes }
+abbrev pub decidedNode : Bool → ℕ → ℕ → ℕ → List ℕ → ℕ → Node → Node
+decidedNode quiet heard0 heard1 requests votes arrived n =
+    record { state = decision quiet n (n .state) heard0 heard1 requests votes arrived; id = n .id; nodes = n .nodes }
 
-unfoldable pub cycled : ℕ → ℕ → List ℕ → ℕ → Machine → Machine
-cycled heard0 heard1 votes arrived m =
-    let n = decidedNode heard0 heard1 votes arrived (m .node) in
+unfoldable pub cycled : Bool → ℕ → ℕ → ℕ → List ℕ → ℕ → Machine → Machine
+cycled quiet heard0 heard1 requests votes arrived m =
+    let n = decidedNode quiet heard0 heard1 requests votes arrived (m .node) in
     record { node = n; flags = raised (m .flags) (raisedBy (m .node .state) (n .state)); enables = m .enables }
 
 -- "A flag raised in the same step as it is cleared stays set."
 abbrev pub stepped : Step → Machine → Machine
-stepped (Read a) m = m
-stepped (Write a v) m = written a v m
-stepped (Cycle heard0 heard1 votes arrived) m = cycled heard0 heard1 votes arrived m
-stepped (WriteCycle a v heard0 heard1 votes arrived) m = cycled heard0 heard1 votes arrived (written a v m)
+stepped (Read mode a) m = m
+stepped (Write mode a v) m = written a v m
+stepped (Cycle mode heard0 heard1 requests votes arrived) m = cycled (quietIn mode) heard0 heard1 requests votes arrived m
+stepped (WriteCycle mode a v heard0 heard1 requests votes arrived) m = cycled (quietIn mode) heard0 heard1 requests votes arrived (written a v m)
 
 abbrev pub readIn : Step → Machine → Option ℕ
-readIn (Read a) m = some (shown m a)
-readIn (Write a v) m = none
-readIn (Cycle heard0 heard1 votes arrived) m = none
-readIn (WriteCycle a v heard0 heard1 votes arrived) m = none
+readIn (Read mode a) m = some (shown m a)
+readIn (Write mode a v) m = none
+readIn (Cycle mode heard0 heard1 requests votes arrived) m = none
+readIn (WriteCycle mode a v heard0 heard1 requests votes arrived) m = none
 
 -- ---- what is refused
 
 -- "14 when an address above 63 is read or written, looked at after 4."
 abbrev pub wrongAddress : Step → Bool
-wrongAddress (Read a) = ltb 63 a
-wrongAddress (Write a v) = ltb 63 a
-wrongAddress (Cycle heard0 heard1 votes arrived) = false
-wrongAddress (WriteCycle a v heard0 heard1 votes arrived) = ltb 63 a
+wrongAddress (Read mode a) = ltb 63 a
+wrongAddress (Write mode a v) = ltb 63 a
+wrongAddress (Cycle mode heard0 heard1 requests votes arrived) = false
+wrongAddress (WriteCycle mode a v heard0 heard1 requests votes arrived) = ltb 63 a
 
 -- "3: a lent buffer of another length than named here"
 abbrev pub wrongVotes : Step → Bool
-wrongVotes (Read a) = false
-wrongVotes (Write a v) = false
-wrongVotes (Cycle heard0 heard1 votes arrived) = wrongLength 1792 votes
-wrongVotes (WriteCycle a v heard0 heard1 votes arrived) = wrongLength 1792 votes
+wrongVotes (Read mode a) = false
+wrongVotes (Write mode a v) = false
+wrongVotes (Cycle mode heard0 heard1 requests votes arrived) = wrongLength 1792 votes
+wrongVotes (WriteCycle mode a v heard0 heard1 requests votes arrived) = wrongLength 1792 votes
 
 -- a block of 64 bytes that is none
 abbrev pub malformedBlock : LentBlock → Bool
@@ -115,8 +123,18 @@ malformedBlock (Holds m) = false
 malformedBlock WrongLength = false
 malformedBlock Malformed = true
 
+-- what a step finds in a lent block
+abbrev pub foundBy : Step → List ℕ → LentBlock
+foundBy t s = registersAt (quietIn (modeOf t)) s
+
 unfoldable pub stepStatus : Step → List ℕ → ℕ
-stepStatus t s = first (when (wrongLength 64 s || wrongVotes t) 3 ∷ when (malformedBlock (registersAt s)) 4 ∷ when (wrongAddress t) 14 ∷ [])
+stepStatus t s =
+    first
+    (when (wrongMode (modeOf t)) 2
+    ∷ when (wrongLength 64 s || wrongVotes t) 3
+    ∷ when (malformedBlock (foundBy t s)) 4
+    ∷ when (wrongAddress t) 14
+    ∷ [])
 
 -- ---- what is left, and what is read
 
@@ -126,7 +144,7 @@ leftIn t WrongLength s = s
 leftIn t Malformed s = s
 
 unfoldable pub stepLeft : Step → List ℕ → List ℕ
-stepLeft t s = unless (stepStatus t s) (leftIn t (registersAt s) s) s
+stepLeft t s = unless (stepStatus t s) (leftIn t (foundBy t s) s) s
 
 abbrev pub readAt : Step → LentBlock → Option ℕ
 readAt t (Holds m) = readIn t m
@@ -135,7 +153,7 @@ readAt t Malformed = none
 
 -- the byte that a step reads: none if it is refused, or no read
 unfoldable pub stepRead : Step → List ℕ → Option ℕ
-stepRead t s = unless (stepStatus t s) (readAt t (registersAt s)) none
+stepRead t s = unless (stepStatus t s) (readAt t (foundBy t s)) none
 
 -- the lent result, as it came in where nothing is read
 abbrev pub resultOf : Option ℕ → ℕ → ℕ

@@ -44,12 +44,12 @@ joined s t b e h = rw e (go t b h)
     go : (t : State) (b : Bool) → sendsMember t ≡ b → cond b 4 0 ≡ flagsByte (raisedBy Joining t)
     go (Out r) b h = rw (sym h)
     go Joining b h = rw (sym h)
-    go (Member g) b h = rw (sym h)
+    go (Member g a) b h = rw (sym h)
 
 -- a member that stays one raises changed if its set differs
-stayed : (s t : State) (g h : Group) (b : Bool) → s ≡ Member g → t ≡ Member h → not (eqb (g .set) (h .set)) ≡ b → cond b 1 0 ≡ flagsByte (raisedBy s t)
+stayed : (s t : State) (g h : Group) (a k b : Bool) → s ≡ Member g a → t ≡ Member h k → not (eqb (g .set) (h .set)) ≡ b → cond b 1 0 ≡ flagsByte (raisedBy s t)
 unfolding raisedBy
-stayed s t g h b e f k = rw (e, f, k, go b)
+stayed s t g h a k b e f d = rw (e, f, d, go b)
   where
     go : (b : Bool) → flagsByte (record { changed = b; halted = false; entered = false }) ≡ cond b 1 0
     go true = refl
@@ -84,12 +84,12 @@ returns-6 c = rw (c .before .before .before .s .given .1, c .enum-told3 .given .
 returns-7 : tie.Need-returns-7
 returns-7 c =
     let t = c .before .before .before .before in
-    stayed _ _ _ _ true (t .before .before .before .s .given .1) (t .t2 .given .1) (ap not (ne-eqb _ _ (c .if3 .taken)))
+    stayed _ _ _ _ _ _ true (t .before .before .before .s .given .1) (t .t2 .given .1) (ap not (ne-eqb _ _ (c .if3 .taken)))
 
 returns-8 : tie.Need-returns-8
 returns-8 c =
     let t = c .before .before .before .before in
-    stayed _ _ _ _ false (t .before .before .before .s .given .1) (t .t2 .given .1) (ap not (eq-eqb _ _ (c .if3 .left)))
+    stayed _ _ _ _ _ _ false (t .before .before .before .s .given .1) (t .t2 .given .1) (ap not (eq-eqb _ _ (c .if3 .left)))
 
 pub raised-by-spec : {M : Type 1} → statement M
 raised-by-spec =
