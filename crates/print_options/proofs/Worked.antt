@@ -1,21 +1,16 @@
--- What some arguments ask for, by computation; and what holds of every answer. Assumes nothing.
+-- What some arguments ask for, by computation; and where the answers go. Assumes nothing.
 use mathlib.Core.Path.{_≡_, refl}
 use mathlib.Core.Bool.{Bool, true, false, not, _&&_, _||_, cond}
 use mathlib.Core.List.{List, [], _∷_, map}
 use Prim.Native.Nat.{ℕ}
 use native.Mathlib.Omega.{arith}
 use lib.Dec.{eqb, ltb}
-use lib.ListN.{length, take}
 use borrow.Author.Tests.{eq-eqb, ne-eqb, ltb-true, ltb-false}
 use Rattle.print_text.specs.Text.{ascii}
-use Rattle.print_options.specs.declared.Program.{Program}
-use Rattle.print_options.specs.declared.Program.the-variants.{Group, Quiet}
 use Rattle.print_options.specs.declared.Asked.{Asked}
 use Rattle.print_options.specs.declared.Asked.the-variants.{Run, Help, Version, Wrong}
-use Rattle.print_options.specs.declared.Failed.{Failed}
-use Rattle.print_options.specs.declared.Failed.the-variants.{Read, Write}
 use Rattle.parts.specs.Compared.{sameBytes}
-use Rattle.print_options.specs.Options.{nameOf, askedByOne, askedBy, usageLine, versionLine, hintLine, helpText, answerText, goesAside, failureLine}
+use Rattle.print_options.specs.Options.{askedByOne, askedBy, goesAside}
 
 -- so many arguments, the program's name among them, and the one after the name; what they ask for
 pub record Example : Type 0 where
@@ -47,35 +42,6 @@ pub examples-hold : map (λ (e : Example). askedBy (e .count) (e .first)) exampl
 unfolding sameBytes askedByOne askedBy ascii
 examples-hold = refl
 
--- whether the only line end of a text is its last byte
-abbrev isLine : List ℕ → Bool
-isLine [] = false
-isLine (b ∷ []) = eqb b 10
-isLine (b ∷ (a ∷ t)) = not (eqb b 10) && isLine (a ∷ t)
-
--- what goes to standard error is one line
-pub aside-is-a-line : (p : Program) (a : Asked) → not (goesAside a) || isLine (answerText p a) ≡ true
-unfolding nameOf answerText usageLine versionLine hintLine ascii
-aside-is-a-line Group Run = refl
-aside-is-a-line Quiet Run = refl
-aside-is-a-line p Help = refl
-aside-is-a-line Group Version = refl
-aside-is-a-line Quiet Version = refl
-aside-is-a-line Group Wrong = refl
-aside-is-a-line Quiet Wrong = refl
-
-pub version-is-a-line : (p : Program) → isLine (answerText p Version) ≡ true
-unfolding nameOf answerText versionLine ascii
-version-is-a-line Group = refl
-version-is-a-line Quiet = refl
-
-pub failure-is-a-line : (p : Program) (f : Failed) → isLine (failureLine p f) ≡ true
-unfolding nameOf failureLine ascii
-failure-is-a-line Group Read = refl
-failure-is-a-line Group Write = refl
-failure-is-a-line Quiet Read = refl
-failure-is-a-line Quiet Write = refl
-
 -- an option that stands alone is answered on standard output, and all else on standard error
 pub options-on-output : (count : ℕ) (first : List ℕ)
     → goesAside (askedBy count first) ≡ not (eqb count 2 && (sameBytes first (ascii "--help") || sameBytes first (ascii "--version")))
@@ -93,9 +59,3 @@ options-on-output count first = number (ltb count 2) (ltb 2 count) refl refl
     number false true e f = rw (ne-eqb count 2 (λ s. omega (arith, s, ltb-true 2 count f)))
     number false false e f =
         rw (eq-eqb count 2 (omega (arith, ltb-false count 2 e, ltb-false 2 count f))) (text (sameBytes first (ascii "--help")) (sameBytes first (ascii "--version")))
-
--- the help says the usage first
-pub help-begins : (p : Program) → take (length (usageLine p)) (answerText p Help) ≡ answerText p Wrong
-unfolding nameOf answerText usageLine helpText ascii
-help-begins Group = refl
-help-begins Quiet = refl

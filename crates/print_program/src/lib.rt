@@ -2,14 +2,14 @@
 ghost use mathlib.Core.Path.{_≡_};
 ghost use Prim.Native.Nat.{_+_, _*_, _≤_, _<_};
 ghost use lib.ListN.{length, take};
-ghost use Rattle.print_pieces.specs.Pieces.{held};
 ghost use Rattle.print_options.specs.Options.{isQuiet};
+ghost use Rattle.print_pieces.specs.Pieces.{held};
 ghost use Rattle.print_program.specs.Run.{Ready, Goes, hasEnded, Ended, Prints, Does};
 use libc::STDERR_FILENO;
 use libc::STDIN_FILENO;
 use libc::STDOUT_FILENO;
+use print_answers::Failed;
 use print_options::Asked;
-use print_options::Failed;
 use print_options::Program;
 use print_stream::Taken;
 
@@ -137,7 +137,7 @@ fn print(
 // Says on standard error what failed: a program has no exit status.
 fn tell(p: Program, f: Failed) {
     let mut text = [0u8; 64];
-    let end = print_options::put_failure(&mut text, 0, p, f);
+    let end = print_answers::put_failure(&mut text, 0, p, f);
     io::write_all(STDERR_FILENO, &text[..end]);
 }
 
@@ -178,7 +178,7 @@ fn read_arguments() -> Asked {
 // Writes the answer, and says whether all of it was written.
 fn answer(p: Program, asked: Asked) -> bool {
     let mut text = [0u8; 1024];
-    let end = print_options::put_answer(&mut text, 0, p, asked);
+    let end = print_answers::put_answer(&mut text, 0, p, asked);
     if print_options::goes_aside(asked) {
         io::write_all(STDERR_FILENO, &text[..end])
     } else {

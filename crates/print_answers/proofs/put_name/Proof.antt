@@ -1,11 +1,11 @@
--- `print_options::put_name` meets its contract. Assumes nothing.
+-- `print_answers::put_name` meets its contract. Assumes nothing.
 use mathlib.Core.Path.{sym, ap}
 use borrow.Author.Needs.{needs}
 use Rattle.print_text.specs.Text.{ascii}
 use Rattle.print_text.proofs.Appending.{same}
-use Rattle.print_options.specs.Options.{nameOf}
-use Rattle.print_options.proofs.put_name.Statement.{statement}
-use Rattle.print_options.proofs.put_name.Tie as tie
+use Rattle.print_answers.specs.Answers.{nameOf}
+use Rattle.print_answers.proofs.put_name.Statement.{statement}
+use Rattle.print_answers.proofs.put_name.Tie as tie
 
 enum-told : tie.Need-enum-told
 enum-told c = search needs

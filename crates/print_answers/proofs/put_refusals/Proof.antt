@@ -1,9 +1,9 @@
--- `print_options::put_refusals` meets its contract. Assumes nothing.
+-- `print_answers::put_refusals` meets its contract. Assumes nothing.
 use borrow.Author.Needs.{needs}
 use Rattle.print_text.specs.Text.{ascii}
-use Rattle.print_options.specs.Options.{refusalsText}
-use Rattle.print_options.proofs.put_refusals.Statement.{statement}
-use Rattle.print_options.proofs.put_refusals.Tie as tie
+use Rattle.print_answers.specs.Answers.{refusalsText}
+use Rattle.print_answers.proofs.put_refusals.Statement.{statement}
+use Rattle.print_answers.proofs.put_refusals.Tie as tie
 
 slice-aggregate-put-named : tie.Need-slice-aggregate-put-named
 slice-aggregate-put-named c = search needs

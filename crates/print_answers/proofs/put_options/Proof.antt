@@ -1,9 +1,9 @@
--- `print_options::put_usage` meets its contract. Assumes nothing.
+-- `print_answers::put_options` meets its contract. Assumes nothing.
 use borrow.Author.Needs.{needs}
 use Rattle.print_text.specs.Text.{ascii}
-use Rattle.print_options.specs.Options.{usageLine}
-use Rattle.print_options.proofs.put_usage.Statement.{statement}
-use Rattle.print_options.proofs.put_usage.Tie as tie
+use Rattle.print_answers.specs.Answers.{optionsText}
+use Rattle.print_answers.proofs.put_options.Statement.{statement}
+use Rattle.print_answers.proofs.put_options.Tie as tie
 
 slice-aggregate-put-named : tie.Need-slice-aggregate-put-named
 slice-aggregate-put-named c = search needs
@@ -18,11 +18,11 @@ same-length : tie.Need-same-length
 same-length c = search needs
 
 returns : tie.Need-returns
-unfolding usageLine ascii
+unfolding optionsText ascii
 returns c = c .before .before .put-named .ensures
 
-pub put-usage-spec : {M : Type 1} → statement M
-put-usage-spec =
+pub put-options-spec : {M : Type 1} → statement M
+put-options-spec =
     tie.close
     (tie.spec
     slice-aggregate-put-named

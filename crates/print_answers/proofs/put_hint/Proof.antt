@@ -1,12 +1,12 @@
--- `print_options::put_hint` meets its contract: the name, and then the rest at once. Assumes nothing.
+-- `print_answers::put_hint` meets its contract: the name, and then the rest at once. Assumes nothing.
 use native.Mathlib.Omega.{arith}
 use borrow.Author.Needs.{needs}
 use Rattle.print_text.specs.Text.{ascii}
 use Rattle.print_text.proofs.Appending.{then, leaves}
-use Rattle.print_options.proofs.Lengths.{name-length}
-use Rattle.print_options.specs.Options.{hintLine}
-use Rattle.print_options.proofs.put_hint.Statement.{statement}
-use Rattle.print_options.proofs.put_hint.Tie as tie
+use Rattle.print_answers.proofs.Lengths.{name-length}
+use Rattle.print_answers.specs.Answers.{hintLine}
+use Rattle.print_answers.proofs.put_hint.Statement.{statement}
+use Rattle.print_answers.proofs.put_hint.Tie as tie
 
 put-name-requires : tie.Need-put-name-requires
 put-name-requires c κs = search needs

@@ -1,10 +1,10 @@
--- `print_options::put_named` meets its contract. Assumes nothing.
+-- `print_answers::put_named` meets its contract. Assumes nothing.
 use native.Mathlib.Omega.{arith}
 use borrow.Author.Needs.{needs}
 use Rattle.print_text.proofs.Appending.{then, room}
-use Rattle.print_options.proofs.Lengths.{name-length}
-use Rattle.print_options.proofs.put_named.Statement.{statement}
-use Rattle.print_options.proofs.put_named.Tie as tie
+use Rattle.print_answers.proofs.Lengths.{name-length}
+use Rattle.print_answers.proofs.put_named.Statement.{statement}
+use Rattle.print_answers.proofs.put_named.Tie as tie
 
 put-requires : tie.Need-put-requires
 put-requires c κs = search needs

@@ -1,12 +1,12 @@
--- `print_options::put_mode` meets its contract. Assumes nothing.
+-- `print_answers::put_mode` meets its contract. Assumes nothing.
 use mathlib.Core.Path.{refl, sym, ap}
 use native.Mathlib.Omega.{arith}
 use borrow.Author.Needs.{needs}
 use Rattle.print_text.specs.Text.{ascii}
 use Rattle.print_text.proofs.Appending.{none, same}
-use Rattle.print_options.specs.Options.{modeText}
-use Rattle.print_options.proofs.put_mode.Statement.{statement}
-use Rattle.print_options.proofs.put_mode.Tie as tie
+use Rattle.print_answers.specs.Answers.{modeText}
+use Rattle.print_answers.proofs.put_mode.Statement.{statement}
+use Rattle.print_answers.proofs.put_mode.Tie as tie
 
 enum-told : tie.Need-enum-told
 enum-told c = search needs

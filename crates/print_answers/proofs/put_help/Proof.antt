@@ -1,11 +1,11 @@
--- `print_options::put_help` meets its contract. Assumes nothing.
+-- `print_answers::put_help` meets its contract. Assumes nothing.
 use native.Mathlib.Omega.{arith}
 use borrow.Author.Needs.{needs}
 use Rattle.print_text.proofs.Appending.{then, leaves}
-use Rattle.print_options.proofs.Lengths.{usage-length, about-length, options-length}
-use Rattle.print_options.specs.Options.{helpText}
-use Rattle.print_options.proofs.put_help.Statement.{statement}
-use Rattle.print_options.proofs.put_help.Tie as tie
+use Rattle.print_answers.proofs.Lengths.{usage-length, about-length, options-length}
+use Rattle.print_answers.specs.Answers.{helpText}
+use Rattle.print_answers.proofs.put_help.Statement.{statement}
+use Rattle.print_answers.proofs.put_help.Tie as tie
 
 put-usage-requires : tie.Need-put-usage-requires
 put-usage-requires c κs = search needs

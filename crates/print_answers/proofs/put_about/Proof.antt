@@ -1,10 +1,10 @@
--- `print_options::put_about` meets its contract. Assumes nothing.
+-- `print_answers::put_about` meets its contract. Assumes nothing.
 use borrow.Author.Needs.{needs}
 use Rattle.print_text.specs.Text.{ascii}
 use Rattle.print_text.proofs.Appending.{then}
-use Rattle.print_options.specs.Options.{aboutText}
-use Rattle.print_options.proofs.put_about.Statement.{statement}
-use Rattle.print_options.proofs.put_about.Tie as tie
+use Rattle.print_answers.specs.Answers.{aboutText}
+use Rattle.print_answers.proofs.put_about.Statement.{statement}
+use Rattle.print_answers.proofs.put_about.Tie as tie
 
 slice-aggregate-put : tie.Need-slice-aggregate-put
 slice-aggregate-put c = search needs

@@ -3,9 +3,9 @@ use Prim.Native.Nat.{_≤_}
 use native.Mathlib.Omega.{arith}
 use lib.ListN.{length}
 use Rattle.print_text.specs.Text.{ascii}
 use Rattle.print_options.specs.declared.Program.{Program}
 use Rattle.print_options.specs.declared.Program.the-variants.{Group, Quiet}
-use Rattle.print_options.specs.Options.{nameOf, usageLine, modeText, aboutText, optionsText}
+use Rattle.print_answers.specs.Answers.{nameOf, usageLine, modeText, aboutText, optionsText}
 
 pub name-length : (p : Program) → length (nameOf p) ≤ 8
 unfolding nameOf ascii
