@@ -1,19 +1,27 @@
--- What a node that sends a heartbeat leaves, and one that sends none; and what a call answers that is refused before the lent state is looked at. Assumes nothing.
-use mathlib.Core.Path.{_≡_, sym, ap, ap₂, _∙_}
-use mathlib.Core.Bool.{true, false}
+-- What a node that sends a heartbeat leaves, and one that sends none; and what a call answers and leaves, by what it finds in the lent state. Assumes nothing.
+use mathlib.Core.Path.{_≡_, refl, sym, ap, ap₂, _∙_}
+use mathlib.Core.Bool.{Bool, true, false, _||_}
 use mathlib.Core.List.{List}
-use Prim.Native.Nat.{ℕ, _+_}
+use Prim.Native.Nat.{ℕ, _+_, _≤_, _<_}
 use native.Mathlib.Omega.{arith}
 use lib.ListN.{length}
 use borrow.Author.Tests.{eq-eqb, ne-eqb}
+use Rattle.sets.proofs.Booleans.{or-f-r}
+use Rattle.bigendian.proofs.Laws.{Bytes}
 use Rattle.state.specs.declared.Node.{Node}
 use Rattle.state.specs.declared.Decoded.{Decoded}
 use Rattle.state.specs.Image.{decoded}
-use Rattle.rules.specs.OneCycle.{quietIn}
+use Rattle.rules.specs.OneCycle.{wrongMode, quietIn}
 use Rattle.frames.specs.Written.{heartbeatFrame, wrongDrive}
 use Rattle.refusal.specs.Refusal.{first, unless}
 use Rattle.refusal.proofs.Laws.{unless-refused}
-use Rattle.entry_lent.proofs.Sending.{sendStatus, Sends}
+use Rattle.entry_lent.specs.declared.Lent.{Lent}
+use Rattle.entry_lent.specs.declared.Lent.the-variants.{Holds, Refused}
+use Rattle.entry_lent.specs.Refusals.{wrongCycle, wrongChannel, wrongIndicators}
+use Rattle.entry_lent.specs.Found.{lentNode}
+use Rattle.entry_lent.proofs.Bounds.{sending-bounds}
+use Rattle.entry_lent.proofs.Images.{good-place}
+use Rattle.entry_lent.proofs.Sending.{sendStatus, Sends, seen, found, sends, sends-none}
 use Rattle.entry_send_heartbeat.specs.Beating.{wrongSending, sendsByte, joinBit, requestBit, sentOf, heartbeatOf, heartbeatFrom, sendHeartbeatStatus, sendHeartbeatLeft, sendHeartbeatSent}
 
 -- a node that sends, and one that does not
@@ -46,12 +54,37 @@ module _ (mode : ℕ) (s : List ℕ) (sync startup cycle channel : ℕ) (d f : L
     unfolding sendHeartbeatStatus first
     drive-refused o = refused 3 (λ z. omega (arith, z)) (rw (w, o))
 
-    -- then the lent state and the frame decide
-    pub by-state : wrongDrive d ≡ false → (r : ℕ) (left : List ℕ) (mark : ℕ)
-        → Sends (quietIn mode) false s (10 + length d) f (λ (x : Decoded). heartbeatFrom x sync startup cycle channel d f) sentOf sent r left mark → Answers r left mark
-    unfolding sendHeartbeatStatus sendHeartbeatLeft sendHeartbeatSent first
-    by-state o r left mark h =
-        let e : sendHeartbeatStatus mode s sync startup cycle channel d f ≡ sendStatus (quietIn mode) false s (10 + length d) f = rw (w, o) in (
-          h .0 ∙ sym e,
-          (h .1 .0 ∙ ap (λ (k : ℕ). unless k (heartbeatFrom (decoded (quietIn mode) s) sync startup cycle channel d f) f) (sym e), h .1 .1 ∙ ap (λ (k : ℕ). unless k (sentOf (decoded (quietIn mode) s)) sent) (sym e)),
-        )
+    -- then the lent state and the frame decide: l was found in that mode
+    module _ (o : wrongDrive d ≡ false) (p : Bool) (m : p ≡ quietIn mode) (l : Lent) (g : l ≡ lentNode p false s (length f) (10 + length d)) where
+      looked : (r : Lent) → l ≡ r → lentNode (quietIn mode) false s (length f) (10 + length d) ≡ r
+      looked r e = seen (quietIn mode) false s (10 + length d) f p false l r m refl g e
+
+      by-state : (r : ℕ) (left : List ℕ) (mark : ℕ)
+          → Sends (quietIn mode) false s (10 + length d) f (λ (x : Decoded). heartbeatFrom x sync startup cycle channel d f) sentOf sent r left mark → Answers r left mark
+      unfolding sendHeartbeatStatus sendHeartbeatLeft sendHeartbeatSent first
+      by-state r left mark h =
+          let e : sendHeartbeatStatus mode s sync startup cycle channel d f ≡ sendStatus (quietIn mode) false s (10 + length d) f = rw (w, o) in (
+            h .0 ∙ sym e,
+            (
+              h .1 .0 ∙ ap (λ (k : ℕ). unless k (heartbeatFrom (decoded (quietIn mode) s) sync startup cycle channel d f) f) (sym e),
+              h .1 .1 ∙ ap (λ (k : ℕ). unless k (sentOf (decoded (quietIn mode) s)) sent) (sym e),
+            ),
+          )
+
+      pub state-found : (n : Node) (left : List ℕ) (mark : ℕ) → l ≡ Holds n → left ≡ heartbeatOf n sync startup cycle channel d f → mark ≡ sendsByte (n .state) → Answers 0 left mark
+      state-found n left mark e a b =
+          by-state 0 left mark
+          (sends (quietIn mode) false s (10 + length d) f (λ (x : Decoded). heartbeatFrom x sync startup cycle channel d f) sentOf sent n left mark (looked (Holds n) e) a b)
+
+      pub state-refused : (r : ℕ) → l ≡ Refused r → Answers r f sent
+      state-refused r e =
+          by-state r f sent (sends-none (quietIn mode) false s (10 + length d) f (λ (x : Decoded). heartbeatFrom x sync startup cycle channel d f) sentOf sent r (looked (Refused r) e))
+
+      -- what sending from a node that was found requires
+      pub send-bounds : (n : Node) → Bytes s → l ≡ Holds n
+          → (n .id < 64) × ((sync < 2) × ((startup ≤ sync) × ((cycle < 64) × ((wrongDrive d ≡ false) × (length f ≡ 10 + length d)))))
+      send-bounds n b e =
+          let z = found (quietIn mode) false s (10 + length d) f n (looked (Holds n) e) in
+          let place = good-place (quietIn mode) s n b (z .2) in
+          let bits = sending-bounds sync startup cycle channel (or-f-r (wrongMode mode) (wrongIndicators sync startup || wrongCycle cycle || wrongChannel channel) w) in
+          (omega arith, (omega arith, (omega arith, (omega arith, (o, z .1)))))

@@ -8,8 +8,11 @@ use Rattle.entry_receive_heartbeat.proofs.receive.Statement.{statement}
 use Rattle.entry_receive_heartbeat.proofs.receive.Tie as tie
 
 -- nothing was refused
-fine : (c : tie.Else1) → let a = c .before .before .before .before .before .before .args in readStatus (a .n) (a .node) (a .cycle) 0 (now (a .drive)) ≡ 0
+fine : (c : tie.Else1) → let a = c .before .before .before .before .before .before .args in readStatus (a .n) (a .mode) (a .node) (a .cycle) 0 (now (a .drive)) ≡ 0
 fine c = sym (c .before .read-refusal .ensures) ∙ c .if1 .left
+
+abbrev start : tie.After-receive-heartbeat → tie.Start
+start c = c .before .before .before .before .before .before .before .before
 
 read-refusal-requires : tie.Need-read-refusal-requires
 read-refusal-requires c κs = search needs
@@ -20,10 +23,13 @@ same-length c = search needs
 returns : tie.Need-returns
 returns c =
     let a = c .before .before .before .before .before .before .args in
-    receive-refused (a .n) (a .node) (a .cycle) (now (a .a)) (now (a .b)) (now (a .drive)) (now (a .heard)) (now (a .drive-bytes)) _ (c .before .read-refusal .ensures) (c .if1 .taken)
+    receive-refused (a .n) (a .mode) (a .node) (a .cycle) (now (a .a)) (now (a .b)) (now (a .drive)) (now (a .heard)) (now (a .drive-bytes)) _ (c .before .read-refusal .ensures) (c .if1 .taken)
+
+is-quiet-requires : tie.Need-is-quiet-requires
+is-quiet-requires c κs = search needs
 
 receive-heartbeat-requires : tie.Need-receive-heartbeat-requires
-receive-heartbeat-requires c κs = read-bounds _ _ _ _ _ (fine c) .0
+receive-heartbeat-requires c κs = read-bounds _ _ _ _ _ _ (fine (c .before)) .0
 
 heard-code-requires : tie.Need-heard-code-requires
 heard-code-requires c κs = search needs
@@ -39,8 +45,8 @@ returns-2 : tie.Need-returns-2
 returns-2 c =
     let h = c .before .before in
     let r = h .before in
-    let a = r .before .before .before .before .before .before .before .args in
-    receive-copies (a .n) (a .node) (a .cycle) (now (a .a)) (now (a .b)) (now (a .drive)) (now (a .heard)) (now (a .drive-bytes)) _ Neither _ _ _ (fine (r .before)) (r .receive-heartbeat .ensures) (h .heard-code .ensures) (c .enum-told .given .1) refl refl
+    let a = start r .args in
+    receive-copies (a .n) (a .mode) (a .node) (a .cycle) (now (a .a)) (now (a .b)) (now (a .drive)) (now (a .heard)) (now (a .drive-bytes)) (fine (r .before .before)) _ (r .before .is-quiet .ensures) _ (r .receive-heartbeat .ensures) Neither _ _ _ (h .heard-code .ensures) (c .enum-told .given .1) refl refl
 
 returns-3 : tie.Need-returns-3
 returns-3 c =
@@ -48,8 +54,8 @@ returns-3 c =
     let t = p .before .before in
     let h = t .before .before in
     let r = h .before in
-    let a = r .before .before .before .before .before .before .before .args in
-    receive-copies (a .n) (a .node) (a .cycle) (now (a .a)) (now (a .b)) (now (a .drive)) (now (a .heard)) (now (a .drive-bytes)) _ OnA _ _ _ (fine (r .before)) (r .receive-heartbeat .ensures) (h .heard-code .ensures) (t .enum-told2 .given .1)
+    let a = start r .args in
+    receive-copies (a .n) (a .mode) (a .node) (a .cycle) (now (a .a)) (now (a .b)) (now (a .drive)) (now (a .heard)) (now (a .drive-bytes)) (fine (r .before .before)) _ (r .before .is-quiet .ensures) _ (r .receive-heartbeat .ensures) OnA _ _ _ (h .heard-code .ensures) (t .enum-told2 .given .1)
     (p .put-drive .ensures .1) (p .put-drive .ensures .0)
 
 returns-4 : tie.Need-returns-4
@@ -58,15 +64,15 @@ returns-4 c =
     let t = p .before .before in
     let h = t .before .before in
     let r = h .before in
-    let a = r .before .before .before .before .before .before .before .args in
-    receive-copies (a .n) (a .node) (a .cycle) (now (a .a)) (now (a .b)) (now (a .drive)) (now (a .heard)) (now (a .drive-bytes)) _ OnB _ _ _ (fine (r .before)) (r .receive-heartbeat .ensures) (h .heard-code .ensures) (t .enum-told3 .given .1)
+    let a = start r .args in
+    receive-copies (a .n) (a .mode) (a .node) (a .cycle) (now (a .a)) (now (a .b)) (now (a .drive)) (now (a .heard)) (now (a .drive-bytes)) (fine (r .before .before)) _ (r .before .is-quiet .ensures) _ (r .receive-heartbeat .ensures) OnB _ _ _ (h .heard-code .ensures) (t .enum-told3 .given .1)
     (p .put-drive2 .ensures .1) (p .put-drive2 .ensures .0)
 
 put-drive-requires : tie.Need-put-drive-requires
 put-drive-requires c κs =
     let t = c .before in
     let r = t .before .before .before in
-    room-of-a _ _ _ _ _ _ 0 0 _ (fine (r .before)) (r .receive-heartbeat .ensures) (t .enum-told2 .given .1)
+    room-of-a _ _ _ _ _ _ _ 0 0 (fine (r .before .before)) _ (r .before .is-quiet .ensures) _ (r .receive-heartbeat .ensures) (t .enum-told2 .given .1)
 
 enum-told-3 : tie.Need-enum-told-3
 enum-told-3 c = search needs
@@ -75,7 +81,7 @@ put-drive-requires-2 : tie.Need-put-drive-requires-2
 put-drive-requires-2 c κs =
     let t = c .before in
     let r = t .before .before .before in
-    room-of-b _ _ _ _ _ _ 0 0 _ (fine (r .before)) (r .receive-heartbeat .ensures) (t .enum-told3 .given .1)
+    room-of-b _ _ _ _ _ _ _ 0 0 (fine (r .before .before)) _ (r .before .is-quiet .ensures) _ (r .receive-heartbeat .ensures) (t .enum-told3 .given .1)
 
 same-length-2 : tie.Need-same-length-2
 same-length-2 c = search needs
@@ -93,6 +99,7 @@ receive-spec =
     read-refusal-requires
     same-length
     returns
+    is-quiet-requires
     receive-heartbeat-requires
     heard-code-requires
     enum-told
