@@ -1,6 +1,6 @@
 # The commands of this repository; `make help` lists them. They need the Rattle kit's `rt` on the path, and gcc and g++ for the C side.
 # The version of the delivery; include/gm.h and what `grouprun --version` prints say it again, and tests/archive.sh and arguments-test hold them equal.
-VERSION = 0.3.0
+VERSION = 0.4.0
 PREFIX = /usr/local
 ARCHIVE = target/staticlib/libgm.a
 GROUPRUN = target/bin/grouprun
