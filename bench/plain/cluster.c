@@ -21,10 +21,10 @@ static uint64_t view(const struct cluster *c, const struct faults *f, unsigned q
 }
 
 /* whether a member with this view votes: always, or because of its view, a request that it heard or its own */
-static int votes_now(const struct cluster *c, const struct faults *f, unsigned q, uint64_t v)
+static int votes_now(const struct cluster *c, const struct faults *f, unsigned q, uint64_t v, int quiet)
 {
     uint64_t set = c->groups[q].set;
-    return !c->quiet || v != set || (c->asking & set & (only(q) | ~unheard(f, q))) != 0;
+    return !quiet || v != set || (c->asking & set & (only(q) | ~unheard(f, q))) != 0;
 }
 
 static int same_group(const struct group *g, const struct group *h)
@@ -50,18 +50,19 @@ static unsigned place_of(struct poll *p, const struct group *g, uint64_t v)
 }
 
 /* groups equal votes of those who vote. The place of the voter before is tried first, since most votes are equal */
-static void vote(const struct cluster *c, const struct faults *f, struct poll *p)
+static inline __attribute__((always_inline)) void vote(const struct cluster *c, const struct faults *f, struct poll *p, int quiet)
 {
     unsigned k = 0;
     p->count = 0;
-    p->voters = 0;
+    p->voters = quiet ? 0 : c->members;
     for (uint64_t left = c->members; left != 0; left &= left - 1) {
         unsigned q = lowest(left);
         const struct group *g = &c->groups[q];
         uint64_t v = view(c, f, q);
-        if (!votes_now(c, f, q, v))
+        if (!votes_now(c, f, q, v, quiet))
             continue;
-        p->voters |= only(q);
+        if (quiet)
+            p->voters |= only(q);
         if (k == p->count || !same_vote(&p->ballots[k], g, v))
             k = place_of(p, g, v);
         p->ballots[k].senders |= only(q);
@@ -82,7 +83,8 @@ static struct group successor(const struct ballot *b, uint64_t voters)
  * Rule 5. Two views cannot both have a quorum, so that a member stays exactly if its own has one. Members that count the same votes as the one before
  * decide the same. In a quiet press whoever had another view or has another set will request.
  */
-static uint64_t decide_voters(struct cluster *c, const struct faults *f, const struct poll *p, uint64_t *asking)
+static inline __attribute__((always_inline)) uint64_t decide_voters(struct cluster *c, const struct faults *f, const struct poll *p,
+                                                                    uint64_t *asking, int quiet)
 {
     uint64_t halted = 0, counted = 0;
     const struct ballot *last = 0;
@@ -97,7 +99,7 @@ static uint64_t decide_voters(struct cluster *c, const struct faults *f, const s
             counted = voters;
             stays = 2 * size_of(voters) > b->size;
             next = successor(b, voters);
-            asks = c->quiet && (b->view != b->group.set || next.set != b->group.set);
+            asks = quiet && (b->view != b->group.set || next.set != b->group.set);
         }
         if (stays)
             c->groups[q] = next;
@@ -162,19 +164,31 @@ static int join(struct cluster *c, const struct faults *f, const struct poll *p,
     return fitting == 1;
 }
 
-void cycle(struct cluster *c, const struct faults *f, struct poll *p, uint64_t *halted, uint64_t *entered)
+/* compiled once for each mode, so that neither pays for the other */
+static inline __attribute__((always_inline)) void cycle_in(struct cluster *c, const struct faults *f, struct poll *p, uint64_t *halted,
+                                                           uint64_t *entered, int quiet)
 {
     uint64_t asking = 0;
     c->members &= ~f->stop;
     c->asking &= ~f->stop;
     c->joining = (c->joining & ~f->stop) | (f->start & ~c->members);
-    vote(c, f, p);
-    *halted = decide_voters(c, f, p, &asking) | decide_silent(c, f, p);
+    vote(c, f, p, quiet);
+    *halted = decide_voters(c, f, p, &asking, quiet);
+    if (quiet)
+        *halted |= decide_silent(c, f, p);
     *entered = 0;
     for (uint64_t left = c->joining; left != 0; left &= left - 1)
         if (join(c, f, p, lowest(left)))
             *entered |= left & -left;
     c->members = (c->members & ~*halted) | *entered;
     c->joining &= ~*entered;
-    c->asking = c->quiet ? asking | *entered : 0;
+    c->asking = quiet ? asking | *entered : 0;
+}
+
+void cycle(struct cluster *c, const struct faults *f, struct poll *p, uint64_t *halted, uint64_t *entered)
+{
+    if (c->quiet)
+        cycle_in(c, f, p, halted, entered, 1);
+    else
+        cycle_in(c, f, p, halted, entered, 0);
 }
