@@ -286,7 +286,9 @@ macro_rules! linked {
                 frame: &mut [u8],
                 sent: &mut u32,
             ) -> u32 {
-                unsafe { $send_vote(mode, state.as_ptr(), state.len(), heard0, heard1, requests, cycle, channel, frame.as_mut_ptr(), frame.len(), sent) }
+                unsafe {
+                    $send_vote(mode, state.as_ptr(), state.len(), heard0, heard1, requests, cycle, channel, frame.as_mut_ptr(), frame.len(), sent)
+                }
             }
 
             fn read_vote(&self, n: u32, node: u32, cycle: u32, channel: u32, frame: &[u8], vote: &mut [u8]) -> u32 {

@@ -90,7 +90,9 @@ impl Standing {
         let halted = those(n, |q| has(silent, q) && matches!(passed.after[q], State::Out(_)));
         // whoever would not have voted without its own request
         let own = |q: usize| passed.votes[q].is_some() && rule4(n, q, without_request(passed.stood[q]), passed.heard[q], rules).is_none();
-        Resting { silent: size(silent).into(), halted: size(halted).into(), own_request: those(n, |q| has(self.strays(), q) && own(q)).count_ones().into() }
+        let strays = self.strays();
+        let woken = those(n, |q| has(strays, q) && own(q));
+        Resting { silent: size(silent).into(), halted: size(halted).into(), own_request: size(woken).into() }
     }
 }
 
@@ -343,7 +345,10 @@ fn quiet_examples(rules: Rules) -> Vec<(&'static str, bool)> {
         ("a silent member halts", voters(&silent_halts[0]) == 5 && silent_halts[0].after == [requesting(1, 5, 7), OUTVOTED, requesting(1, 5, 7)]),
         (
             "who entered requests, votes, and rests",
-            entering[0].after == [requesting(1, 3, 3); 2] && voters(&entering[1]) == 3 && voters(&entering[2]) == 0 && entering[2].after == [member(1, 3, 3); 2],
+            entering[0].after == [requesting(1, 3, 3); 2]
+                && voters(&entering[1]) == 3
+                && voters(&entering[2]) == 0
+                && entering[2].after == [member(1, 3, 3); 2],
         ),
         (
             "a request that is heard makes a stray vote",

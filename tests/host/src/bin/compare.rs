@@ -279,14 +279,7 @@ impl Compare {
     }
 
     /// what it answers of `sent`, and the frame
-    fn send_heartbeat(
-        &mut self,
-        state: &[u8],
-        [sync, startup, cycle, channel]: [u32; 4],
-        drive: &[u8],
-        frame: &[u8],
-        sent: u32,
-    ) -> (u64, Vec<u8>) {
+    fn send_heartbeat(&mut self, state: &[u8], [sync, startup, cycle, channel]: [u32; 4], drive: &[u8], frame: &[u8], sent: u32) -> (u64, Vec<u8>) {
         let mode = self.mode;
         let numbers = [sync, startup, cycle, channel].map(u64::from);
         let (_, results, frame) = self.both("send_heartbeat", &numbers, &[sent.into()], &[state, drive, frame], |by, r, b| {

@@ -311,10 +311,8 @@ fn main() {
     }
     for mistake in Mistake::OF_PAPER.into_iter().chain(Mistake::OF_QUIET) {
         let found = finders(mistake);
-        match &found {
-            Ok(by) => println!("demand3: mistake {mistake:?} is found by {by}"),
-            Err(what) => println!("demand3: mistake {mistake:?} is found by {what}"),
-        }
+        let (Ok(by) | Err(by)) = &found;
+        println!("demand3: mistake {mistake:?} is found by {by}");
         failed |= found.is_err();
     }
     if failed {

@@ -85,7 +85,8 @@ fn lines(name: &str, agrees: fn(&[&str]) -> bool) -> usize {
 }
 
 fn main() {
-    let [decisions, cycles, heartbeats] =
-        [lines("decide.txt", decision), lines("cycle.txt", cycle), lines("heartbeat.txt", heartbeat)];
-    println!("stored: {decisions} votes and decisions, {cycles} cycles and {heartbeats} heartbeats of other code come out of the paper's implementation");
+    let [decisions, cycles, heartbeats] = [lines("decide.txt", decision), lines("cycle.txt", cycle), lines("heartbeat.txt", heartbeat)];
+    println!(
+        "stored: {decisions} votes and decisions, {cycles} cycles and {heartbeats} heartbeats of other code come out of the paper's implementation"
+    );
 }

@@ -51,8 +51,7 @@ pub enum Mistake {
 
 impl Mistake {
     /// those of the paper, and those of request 3
-    pub const OF_PAPER: [Mistake; 4] =
-        [Mistake::QuorumOverSet, Mistake::SetFromHeartbeats, Mistake::JoinIsSignOfLife, Mistake::JoinerBelievesFirst];
+    pub const OF_PAPER: [Mistake; 4] = [Mistake::QuorumOverSet, Mistake::SetFromHeartbeats, Mistake::JoinIsSignOfLife, Mistake::JoinerBelievesFirst];
     pub const OF_QUIET: [Mistake; 13] = [
         Mistake::OwnRequestIgnored,
         Mistake::AnyRequestWakes,
@@ -82,7 +81,6 @@ impl Rules {
         Rules { mode, mistake: None }
     }
 
-    #[inline]
     fn have(self, mistake: Mistake) -> bool {
         self.mistake == Some(mistake)
     }

@@ -63,8 +63,9 @@ fn frames_cycle(mode: Mode, row: &[State], faults: &Faults, cycle_number: usize)
     let heartbeats: Vec<Sent> =
         (0..n).map(|q| rule2(row[q]).map(|sign| [0, 1].map(|channel| heartbeat(q, sign, false, false, count, channel, &[])))).collect();
     let heard: Vec<Heard> = (0..n).map(|to| hear(mode, &heartbeats, faults, to, count)).collect();
-    let votes: Vec<Sent> =
-        (0..n).map(|q| rule4(n, q, row[q], heard[q], Rules::of(mode)).map(|vote| [0, 1].map(|channel| vote_frame(q, &vote, count, channel)))).collect();
+    let votes: Vec<Sent> = (0..n)
+        .map(|q| rule4(n, q, row[q], heard[q], Rules::of(mode)).map(|vote| [0, 1].map(|channel| vote_frame(q, &vote, count, channel))))
+        .collect();
     let decided = |to: usize| {
         let (slots, mask) = collect(n, &votes, faults, to, count);
         decide_on_slots(mode, &Unit { n, node: to, state: row[to] }, heard[to], &slots, mask)
