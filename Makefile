@@ -1,9 +1,10 @@
 # The commands of this repository; `make help` lists them. They need the Rattle kit's `rt` on the path, and gcc and g++ for the C side.
-# The version of the delivery; include/gm.h and what `grouprun --version` prints say it again, and tests/archive.sh and arguments-test hold them equal.
-VERSION = 0.3.0
+# The version of the delivery; include/gm.h and what the programs print for `--version` say it again, and tests/archive.sh and arguments-test hold them equal.
+VERSION = 0.4.0
 PREFIX = /usr/local
 ARCHIVE = target/staticlib/libgm.a
 GROUPRUN = target/bin/grouprun
+QUIETRUN = target/bin/quietrun
 BUILD = target/c
 TABLETEXT = $(BUILD)/tabletext
 TABLEGEN = $(BUILD)/table
@@ -23,14 +24,14 @@ ENTRIES = $(notdir $(wildcard crates/entry_*))
 export RT_JOBS ?= 6
 
 # what `make install` places, and where below PREFIX; of the documents those that the header and the manual pages send a reader to, and what these link to
-PROGRAMS = $(GROUPRUN) $(TABLETEXT)
+PROGRAMS = $(GROUPRUN) $(QUIETRUN) $(TABLETEXT)
 HEADERS = $(wildcard include/*.h)
-MANUALS = man/grouprun.1 man/tabletext.1
+MANUALS = man/grouprun.1 man/quietrun.1 man/tabletext.1
 LIBRARY_MANUALS = man/gm.3
 PACKAGES = lib/pkgconfig/gm.pc lib/cmake/gm/gm-config.cmake lib/cmake/gm/gm-config-version.cmake
 DOCUMENTS = CHANGELOG.md $(addprefix docs/,CLAIMS.md DECISIONS.md DEMANDS.md LIMITS.md SAFETY.md)
 HOSTS = host card
-EXAMPLES = $(foreach host,$(HOSTS),examples/$(host).c examples/$(host).out) $(wildcard examples/p*)
+EXAMPLES = $(foreach host,$(HOSTS),examples/$(host).c examples/$(host).out) $(wildcard examples/p* examples/quiet.*)
 below = $(addprefix $(1)/,$(notdir $(2)))
 INSTALLED = $(call below,bin,$(PROGRAMS)) lib/libgm.a $(HEADERS) $(PACKAGES) $(call below,share/man/man1,$(MANUALS)) \
     $(call below,share/man/man3,$(LIBRARY_MANUALS)) $(call below,share/doc/gm,$(DOCUMENTS)) $(call below,share/doc/gm/examples,$(EXAMPLES))
@@ -38,7 +39,7 @@ TO = $(DESTDIR)$(PREFIX)
 
 # in the order of `make help`: first the commands, then the parts of `test` and of `load`; the line above a target is what `make help` says of it
 .PHONY: help run archive host test evidence trace edits install uninstall compare bench stack load load-full
-.PHONY: format trace-test commands-test archive-test series-test heartbeats-test vectors-test badinput-test examples-test text-test arguments-test install-test compare-test load-test load-program load-archive
+.PHONY: format trace-test commands-test archive-test series-test heartbeats-test quiet-test vectors-test badinput-test examples-test text-test arguments-test install-test compare-test load-test load-program load-archive
 
 # a command that is needed and not there is named in one sentence, before anything is done
 called_rt = the Rattle kit
@@ -47,7 +48,7 @@ needs = $(foreach command,$(1),$(if $(shell command -v $(command) || true),,\
     $(error this needs $(or $(called_$(command)),$(command)): there is no command $(command) on the path$(without_$(command)))))
 # what these use only after minutes, when the archive or the program is made
 asked = $(if $(filter $(1),$(MAKECMDGOALS)),$(2))
-$(call needs,$(call asked,run host stack archive-test series-test heartbeats-test bench install,gcc) $(call asked,archive-test,g++) $(call asked,compare compare-test bench,cargo))
+$(call needs,$(call asked,run host stack archive-test series-test heartbeats-test quiet-test bench install,gcc) $(call asked,archive-test,g++) $(call asked,compare compare-test bench,cargo))
 
 # this list
 help:
@@ -67,7 +68,7 @@ run: $(GROUPRUN) $(TABLETEXT)
 
 # what `make test` runs before the gate: first what needs no archive, then the archive and the programs, last what takes longest
 FIRST_TESTS = format trace-test commands-test
-BUILT_TESTS = archive-test series-test heartbeats-test host run examples-test vectors-test badinput-test text-test arguments-test install-test
+BUILT_TESTS = archive-test series-test heartbeats-test quiet-test host run examples-test vectors-test badinput-test text-test arguments-test install-test
 LONG_TESTS = compare-test load-test
 # whether make was given an option of one letter
 option = $(findstring $1,$(filter-out -%,$(firstword $(MAKEFLAGS))))
@@ -92,13 +93,15 @@ host: archive
 	@mkdir -p $(BUILD)
 	@for host in $(HOSTS); do $(C99) examples/$$host.c $(ARCHIVE) -o $(BUILD)/$$host && $(BUILD)/$$host | tee $(BUILD)/$$host.out && \
 	    diff examples/$$host.out $(BUILD)/$$host.out || exit 1; done
+	@for host in $(HOSTS); do $(C99) -DMODE=GM_MODE_QUIET examples/$$host.c $(ARCHIVE) -o $(BUILD)/$$host.quiet && \
+	    diff <(grep -v damaged examples/$$host.out) <($(BUILD)/$$host.quiet | grep -v damaged) || exit 1; done
 
 # prove the library, and build the archive that a host links with include/gm.h
 archive: $(ARCHIVE)
 
 # what gm rests on is proved side by side first: `rt staticlib` alone takes one crate after the other
 $(ARCHIVE): $(SOURCES)
-	@$(call needs,rt)tools/kit.sh archive "up to 5 minutes on two cores" check $(ENTRIES) grouprun
+	@$(call needs,rt)tools/kit.sh archive "up to 5 minutes on two cores" check $(ENTRIES) grouprun quietrun
 	@tools/kit.sh staticlib "less than a minute" staticlib gm
 
 # header and archive agree
@@ -117,9 +120,15 @@ heartbeats-test: archive
 	@$(C99) tests/heartbeats.c $(ARCHIVE) -o $(BUILD)/heartbeats
 	@$(BUILD)/heartbeats tests/vectors/t02/heartbeats.txt
 
-# the program that prints the run of a table
-$(GROUPRUN): $(SOURCES)
-	@$(call needs,rt)tools/kit.sh run "up to 3 minutes on two cores" check grouprun
+# the stored votes, decisions, cycles of a row and heartbeats in both modes give their stored statuses, results and bytes
+quiet-test: archive
+	@mkdir -p $(BUILD)
+	@$(C99) tests/quiet.c $(ARCHIVE) -o $(BUILD)/quiet
+	@$(BUILD)/quiet $(addprefix tests/vectors/t03/,decide.txt cycle.txt heartbeat.txt)
+
+# the programs that print the run of a table, of a press that votes in every cycle and of a quiet one
+$(GROUPRUN) $(QUIETRUN): $(SOURCES)
+	@$(call needs,rt)tools/kit.sh run "up to 3 minutes on two cores" check $(notdir $@)
 
 # tables as readable text, and back
 $(TABLETEXT): tools/tabletext.c include/gm.h
@@ -145,25 +154,26 @@ $(PLAINLIB): $(wildcard bench/plain/*)
 	@rm -f $@ && ar rcs $@ $(addprefix $(BUILD)/plain/,frames.o node.o registers.o cluster.o records.o rows.o)
 
 # the stored tables give their stored runs
-vectors-test: $(GROUPRUN)
-	@tests/vectors.sh $(GROUPRUN)
+vectors-test: $(GROUPRUN) $(QUIETRUN)
+	@tests/vectors.sh $(GROUPRUN) $(QUIETRUN)
 
 # cut, changed and random input is answered as by plain C
 badinput-test: $(GROUPRUN) $(PLAIN) $(TABLEGEN) $(TABLETEXT)
 	@tests/badinput.sh $(GROUPRUN) $(PLAIN) $(TABLEGEN) $(BUILD)
 
-# the examples of the product paper print their runs
-examples-test: $(GROUPRUN) $(TABLETEXT)
-	@tests/examples.sh $(GROUPRUN) $(TABLETEXT)
+# the examples of the product paper and of a quiet press print their runs
+examples-test: $(GROUPRUN) $(QUIETRUN) $(TABLETEXT)
+	@tests/examples.sh $(GROUPRUN) $(QUIETRUN) $(TABLETEXT)
 
 # texts and tables turn into each other and back
 text-test: $(TABLETEXT)
 	@tests/text.sh $(TABLETEXT) $(BUILD)
 
 # arguments are answered, and read no table; on a terminal there is a hint; the manual pages' examples print what stands there
-arguments-test: $(GROUPRUN) $(TABLETEXT)
+arguments-test: $(GROUPRUN) $(QUIETRUN) $(TABLETEXT)
 	@tests/arguments.sh $(GROUPRUN) $(TABLETEXT) $(VERSION) $(BUILD)
-	@tests/pages.sh $(GROUPRUN) $(TABLETEXT) $(BUILD)
+	@tests/arguments.sh $(QUIETRUN) $(TABLETEXT) $(VERSION) $(BUILD)
+	@tests/pages.sh $(GROUPRUN) $(QUIETRUN) $(TABLETEXT) $(BUILD)
 
 # the program with slow, closed, full and failing ends and a table of BYTES bytes; the archive in threads and under memory checkers
 load: load-program load-archive
@@ -186,8 +196,8 @@ load-program: $(GROUPRUN) $(PLAIN) $(TABLEGEN) $(TABLETEXT) $(MEASURE)
 load-archive: archive $(TABLEGEN)
 	@tests/memory.sh $(ARCHIVE) $(TABLEGEN) $(BUILD)
 
-# every entry, the printed run, demand 3 and presses of the node entries, beside an implementation of the paper in plain Rust (needs cargo)
-compare: archive $(GROUPRUN)
+# every entry, the printed runs, demand 3 and presses of the node entries, in both modes, beside an implementation of the paper in plain Rust (needs cargo)
+compare: archive $(GROUPRUN) $(QUIETRUN)
 	@tests/host.sh
 
 # a share of compare, in less time
@@ -196,9 +206,9 @@ compare-test: export PRESSES = 500
 compare-test: export TABLES = 500
 compare-test: compare
 
-# one table of times: archive and grouprun beside that implementation in Rust and beside plain C at -O3 (needs cargo)
-bench: archive $(GROUPRUN) $(PLAIN) $(PLAINLIB) $(TABLEGEN) $(MEASURE)
-	@bench/speed.sh $(GROUPRUN) $(PLAIN) $(TABLEGEN) $(MEASURE) $(BUILD)
+# one table of times: archive and programs beside that implementation in Rust and beside plain C at -O3 (needs cargo)
+bench: archive $(GROUPRUN) $(QUIETRUN) $(PLAIN) $(PLAINLIB) $(TABLEGEN) $(MEASURE)
+	@bench/speed.sh $(GROUPRUN) $(QUIETRUN) $(PLAIN) $(TABLEGEN) $(MEASURE) $(BUILD)
 
 # the deepest stack of an entry, in bytes: as a walk of the archive's code finds it, with the functions that go so deep, and as sampled
 stack: archive

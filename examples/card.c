@@ -16,13 +16,18 @@
 
 enum { UNITS = 5, FOUNDING = 0x1f, MOST_CYCLES = 5 };
 
+/* all units of a press have one mode. Built with -DMODE=GM_MODE_QUIET they hold the same groups, and vote less often */
+#ifndef MODE
+#define MODE GM_MODE_ALWAYS
+#endif
+
 /* these heartbeats carry no drive bytes: a pointer that is not null, lent with length 0 */
 static const uint8_t no_drive[1] = {0};
 
 /* what one unit keeps; `seen` are the flags that its card has read and not yet acknowledged, `acknowledged` those written back with the last cycle */
 struct unit {
     uint8_t block[GM_REGISTERS_BYTES];
-    uint64_t heard0, heard1, arrived;
+    uint64_t heard0, heard1, requests, arrived;
     uint8_t votes[GM_VOTES_BYTES];
     uint8_t seen, acknowledged;
 };
@@ -72,13 +77,13 @@ static int in(uint64_t set, unsigned unit)
 static uint8_t read_register(const struct unit *u, uint32_t address)
 {
     uint32_t value = 0;
-    must(gm_register_read(u->block, sizeof u->block, address, &value), "gm_register_read");
+    must(gm_register_read(MODE, u->block, sizeof u->block, address, &value), "gm_register_read");
     return (uint8_t)value;
 }
 
 static void write_register(struct unit *u, uint32_t address, uint8_t value)
 {
-    must(gm_register_write(u->block, sizeof u->block, address, value), "gm_register_write");
+    must(gm_register_write(MODE, u->block, sizeof u->block, address, value), "gm_register_write");
 }
 
 /* of several registers: highest byte first */
@@ -109,9 +114,11 @@ static void command(struct unit *u, int stop, int start)
 static void decide(struct unit *u)
 {
     if (u->seen == 0)
-        must(gm_register_cycle(u->block, sizeof u->block, u->heard0, u->heard1, u->votes, sizeof u->votes, u->arrived), "gm_register_cycle");
+        must(gm_register_cycle(MODE, u->block, sizeof u->block, u->heard0, u->heard1, u->requests, u->votes, sizeof u->votes, u->arrived),
+             "gm_register_cycle");
     else
-        must(gm_register_write_cycle(u->block, sizeof u->block, GM_REGISTER_FLAGS, u->seen, u->heard0, u->heard1, u->votes, sizeof u->votes, u->arrived),
+        must(gm_register_write_cycle(MODE, u->block, sizeof u->block, GM_REGISTER_FLAGS, u->seen, u->heard0, u->heard1, u->requests, u->votes,
+                                     sizeof u->votes, u->arrived),
              "gm_register_write_cycle");
     u->acknowledged = u->seen;
     u->seen = read_register(u, GM_REGISTER_PENDING) == 1 ? read_register(u, GM_REGISTER_FLAGS) : 0;
@@ -125,7 +132,7 @@ static void send_heartbeats(struct press *p, uint32_t count, uint64_t lost)
         for (uint32_t ch = 0; ch < GM_CHANNELS; ch++) {
             struct slot *slot = &p->heartbeats[q];
             uint32_t sent = 0;
-            must(gm_send_heartbeat(p->units[q].block, GM_STATE_BYTES, 0, 0, count, ch, no_drive, 0, slot->bytes[ch], GM_HEARTBEAT_BYTES, &sent),
+            must(gm_send_heartbeat(MODE, p->units[q].block, GM_STATE_BYTES, 0, 0, count, ch, no_drive, 0, slot->bytes[ch], GM_HEARTBEAT_BYTES, &sent),
                  "gm_send_heartbeat");
             slot->len[ch] = sent && !in(lost, q) ? GM_HEARTBEAT_BYTES : 0;
         }
@@ -135,19 +142,21 @@ static void hear(struct press *p, unsigned self, uint32_t count)
 {
     struct unit *u = &p->units[self];
     uint8_t drive[GM_DRIVE_BYTES];
-    u->heard0 = u->heard1 = 0;
+    u->heard0 = u->heard1 = u->requests = 0;
     for (unsigned q = 0; q < UNITS; q++) {
         const struct slot *slot = &p->heartbeats[q];
         uint32_t heard = GM_MISSED, drive_bytes = 0;
         if (q == self)
             continue;
-        must(gm_receive_heartbeat(UNITS, q, count, slot->bytes[GM_CHANNEL_A], slot->len[GM_CHANNEL_A], slot->bytes[GM_CHANNEL_B],
+        must(gm_receive_heartbeat(UNITS, MODE, q, count, slot->bytes[GM_CHANNEL_A], slot->len[GM_CHANNEL_A], slot->bytes[GM_CHANNEL_B],
                                   slot->len[GM_CHANNEL_B], drive, sizeof drive, &heard, &drive_bytes),
              "gm_receive_heartbeat");
-        if (heard == GM_HEARD_MEMBER)
+        if (heard == GM_HEARD_MEMBER || heard == GM_HEARD_REQUEST)
             u->heard0 |= only(q);
-        else if (heard == GM_HEARD_JOINING)
+        if (heard == GM_HEARD_JOINING)
             u->heard1 |= only(q);
+        if (heard == GM_HEARD_REQUEST)
+            u->requests |= only(q);
     }
 }
 
@@ -158,7 +167,8 @@ static void send_votes(struct press *p, uint32_t count, uint64_t lost)
             const struct unit *u = &p->units[q];
             struct slot *slot = &p->votes[q];
             uint32_t sent = 0;
-            must(gm_send_vote(u->block, GM_STATE_BYTES, u->heard0, u->heard1, count, ch, slot->bytes[ch], GM_VOTE_FRAME_BYTES, &sent), "gm_send_vote");
+            must(gm_send_vote(MODE, u->block, GM_STATE_BYTES, u->heard0, u->heard1, u->requests, count, ch, slot->bytes[ch], GM_VOTE_FRAME_BYTES, &sent),
+                 "gm_send_vote");
             slot->len[ch] = sent && !in(lost, q) ? GM_VOTE_FRAME_BYTES : 0;
         }
 }

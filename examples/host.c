@@ -17,6 +17,11 @@
 
 enum { UNITS = 5, CYCLES = 5, FOUNDING = 0x1f };
 
+/* all units of a press have one mode. Built with -DMODE=GM_MODE_QUIET they hold the same groups, and vote less often */
+#ifndef MODE
+#define MODE GM_MODE_ALWAYS
+#endif
+
 /* the drive bytes of a heartbeat are a speed; all heartbeats of this press have one length, that of its static slots */
 enum { SPEED_BYTES = 4, HEARTBEAT_BYTES = GM_HEARTBEAT_BYTES + SPEED_BYTES };
 
@@ -26,7 +31,7 @@ enum { LOST, FLIPPED, LATE, DAMAGES };
 /* what one unit keeps; `drive` are the drive bytes that it sends, and `speeds` those received in this cycle, from the units in `told` */
 struct unit {
     uint8_t state[GM_STATE_BYTES];
-    uint64_t heard0, heard1, arrived, told;
+    uint64_t heard0, heard1, requests, arrived, told;
     uint8_t votes[GM_VOTES_BYTES];
     uint8_t drive[SPEED_BYTES];
     uint64_t speeds[UNITS];
@@ -88,7 +93,7 @@ static int in(uint64_t set, unsigned unit)
 static struct parts parts_of(const struct unit *u)
 {
     struct parts p = {0, 0, 0, 0, 0, 0, 0};
-    must(gm_state(u->state, sizeof u->state, &p.kind, &p.reason, &p.node, &p.n, &p.number, &p.set, &p.base), "gm_state");
+    must(gm_state(MODE, u->state, sizeof u->state, &p.kind, &p.reason, &p.node, &p.n, &p.number, &p.set, &p.base), "gm_state");
     return p;
 }
 
@@ -152,7 +157,7 @@ static void send_heartbeats(struct press *p, uint32_t count, uint64_t lost)
             const struct unit *u = &p->units[q];
             struct slot *slot = &p->heartbeats.sent[q];
             uint32_t sent = 0;
-            must(gm_send_heartbeat(u->state, GM_STATE_BYTES, 0, 0, count, ch, u->drive, SPEED_BYTES, slot->bytes[ch], HEARTBEAT_BYTES, &sent),
+            must(gm_send_heartbeat(MODE, u->state, GM_STATE_BYTES, 0, 0, count, ch, u->drive, SPEED_BYTES, slot->bytes[ch], HEARTBEAT_BYTES, &sent),
                  "gm_send_heartbeat");
             slot->len[ch] = sent && !in(lost, q) ? HEARTBEAT_BYTES : 0;
         }
@@ -172,20 +177,22 @@ static void hear(struct press *p, unsigned self, uint32_t count)
 {
     struct unit *u = &p->units[self];
     uint8_t drive[GM_DRIVE_BYTES];
-    u->heard0 = u->heard1 = u->told = 0;
+    u->heard0 = u->heard1 = u->requests = u->told = 0;
     for (unsigned q = 0; q < UNITS; q++) {
         const struct slot *slot = &p->heartbeats.come[q];
         uint32_t heard = GM_MISSED, drive_bytes = 0;
         if (q == self)
             continue;
-        must(gm_receive_heartbeat(UNITS, q, count, slot->bytes[GM_CHANNEL_A], slot->len[GM_CHANNEL_A], slot->bytes[GM_CHANNEL_B],
+        must(gm_receive_heartbeat(UNITS, MODE, q, count, slot->bytes[GM_CHANNEL_A], slot->len[GM_CHANNEL_A], slot->bytes[GM_CHANNEL_B],
                                   slot->len[GM_CHANNEL_B], drive, sizeof drive, &heard, &drive_bytes),
              "gm_receive_heartbeat");
         note_speed(p, u, q, drive, drive_bytes);
-        if (heard == GM_HEARD_MEMBER)
+        if (heard == GM_HEARD_MEMBER || heard == GM_HEARD_REQUEST)
             u->heard0 |= only(q);
-        else if (heard == GM_HEARD_JOINING)
+        if (heard == GM_HEARD_JOINING)
             u->heard1 |= only(q);
+        if (heard == GM_HEARD_REQUEST)
+            u->requests |= only(q);
         p->saved += slot->damaged && heard != GM_MISSED;
     }
 }
@@ -197,7 +204,7 @@ static void send_votes(struct press *p, uint32_t count, uint64_t lost)
             const struct unit *u = &p->units[q];
             struct slot *slot = &p->votes.sent[q];
             uint32_t sent = 0;
-            must(gm_send_vote(u->state, GM_STATE_BYTES, u->heard0, u->heard1, count, ch, slot->bytes[ch], GM_VOTE_FRAME_BYTES, &sent),
+            must(gm_send_vote(MODE, u->state, GM_STATE_BYTES, u->heard0, u->heard1, u->requests, count, ch, slot->bytes[ch], GM_VOTE_FRAME_BYTES, &sent),
                  "gm_send_vote");
             slot->len[ch] = sent && !in(lost, q) ? GM_VOTE_FRAME_BYTES : 0;
         }
@@ -222,7 +229,7 @@ static void decide(struct press *p, unsigned self)
 {
     struct unit *u = &p->units[self];
     uint32_t before = parts_of(u).kind, after;
-    must(gm_decide(u->state, GM_STATE_BYTES, u->heard0, u->heard1, u->votes, GM_VOTES_BYTES, u->arrived), "gm_decide");
+    must(gm_decide(MODE, u->state, GM_STATE_BYTES, u->heard0, u->heard1, u->requests, u->votes, GM_VOTES_BYTES, u->arrived), "gm_decide");
     after = parts_of(u).kind;
     if (before == GM_KIND_MEMBER && after == GM_KIND_OUT)
         p->halted |= only(self);
@@ -235,7 +242,7 @@ static void cycle(struct press *p, const struct faults *f, uint32_t count)
     p->halted = p->entered = 0;
     for (unsigned q = 0; q < UNITS; q++)
         if (in(f->start, q))
-            must(gm_start(p->units[q].state, GM_STATE_BYTES), "gm_start");
+            must(gm_start(MODE, p->units[q].state, GM_STATE_BYTES), "gm_start");
     for (unsigned q = 0; q < UNITS; q++)
         measure(&p->units[q], q, count);
     send_heartbeats(p, count, f->heartbeat_lost);
@@ -267,7 +274,7 @@ static void must_agree(struct press *p, const struct faults *f, uint32_t number)
     put_number(record + GM_CYCLE_AT_START, GM_SET_BYTES, f->start);
     put_number(record + GM_CYCLE_AT_HEARTBEAT_LOST, GM_SET_BYTES, f->heartbeat_lost);
     put_number(record + GM_CYCLE_AT_VOTE_LOST, GM_SET_BYTES, f->vote_lost);
-    must(gm_cycle(UNITS, p->row, sizeof p->row, record, sizeof record), "gm_cycle");
+    must(gm_cycle(UNITS, MODE, p->row, sizeof p->row, record, sizeof record), "gm_cycle");
     for (unsigned q = 0; q < UNITS; q++)
         if (memcmp(p->row + q * GM_STATE_BYTES, p->units[q].state, GM_STATE_BYTES) != 0) {
             fprintf(stderr, "cycle %" PRIu32 ": unit %u holds another state than gm_cycle gives it\n", number, q);

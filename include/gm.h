@@ -6,12 +6,25 @@
  * CALLS. Every entry answers GM_OK, or the number of its refusal (GM_REFUSED_..; gm_refusal.h has a
  * sentence for each). A refusal changes nothing: every buffer and every result is as it came in. Of several
  * refusals the lowest is given, but a table or a record in its order. Of a table (gm_run, gm_run_frames)
- * that is record by record, and of one record CUT if fewer than 3 bytes are left, KIND, CUT if it is not
- * whole, COUNT, LENGTH of the row or of the frames, LIMIT. gm_cycle gives COUNT, LENGTH (the row is not n
- * states, or a record of 36 bytes or more is longer than 36 + 9 times its byte 35, whatever its mark and
- * kind), STATE, and then its record's CUT, KIND, CUT, LIMIT. No entry allocates, blocks, keeps anything
- * between calls, or reads or writes outside the buffers that it is lent; any number and any bytes may be
- * passed. What is promised of each entry is proved for all inputs; CLAIMS.md says by which theorem.
+ * that is NUMBER for the mode, before a byte of the table is looked at, and then record by record, of one
+ * record CUT if fewer than 3 bytes are left, KIND, CUT if it is not whole, COUNT, LENGTH of the row or of
+ * the frames, LIMIT. gm_cycle gives COUNT, NUMBER, LENGTH (the row is not n states, or a record of 36 bytes
+ * or more is longer than 36 + 9 times its byte 35, whatever its mark and kind), STATE, and then its
+ * record's CUT, KIND, CUT, LIMIT. No entry allocates, blocks, keeps anything between calls, or reads or
+ * writes outside the buffers that it is lent; any number and any bytes may be passed. What is promised of
+ * each entry is proved for all inputs; CLAIMS.md says by which theorem.
+ *
+ * MODES. A press votes in every cycle, GM_MODE_ALWAYS, or it is quiet, GM_MODE_QUIET: votes then rest while
+ * nothing happens, and the dynamic slots are free. Every entry that is lent a state, a row or a register
+ * block, and every one that reads or writes a heartbeat, takes the mode; any other number is refused. All
+ * units of a press have one mode from their beginning on. gm_begin takes none, since a founder begins alike
+ * in both, nor do gm_write_vote, gm_read_vote and gm_receive_vote, since a vote has one form.
+ * In a quiet press a member votes in a cycle exactly if its view is another than its set, or if a node of
+ * its set that it heard, or it itself, requests votes by a bit of the heartbeat. It requests in the cycle
+ * after one in which its view was another than its set, its set changed, or it became a member. A member
+ * that did not vote halts, outvoted, if a quorum of equal votes with its own number, set and base arrived,
+ * whatever their view; otherwise it keeps number and set, and its base becomes its set. A press that is
+ * quiet and in which no unit was touched or started since its beginning sends no vote at all.
  *
  * BUFFERS. A buffer is a pointer and its length in bytes; it may stand at any address. A result is a
  * pointer to an object of its type, and every result is asked for, also those that the host does not need.
@@ -31,7 +44,8 @@
  * A STATE is 24 bytes, which the host keeps from cycle to cycle and never changes itself. gm_state takes it
  * apart; GM_STATE_AT_.. are the places:
  *     byte 0: kind, GM_KIND_OUT, GM_KIND_JOINING or GM_KIND_MEMBER
- *     byte 1: reason of a node that is out, GM_REASON_..; else 0
+ *     byte 1: reason of a node that is out, GM_REASON_..; of a member of a quiet press 1 if it will request
+ *     votes in the next cycle; else 0
  *     byte 2: the node's number, below n
  *     byte 3: n, 2 to 64
  *     bytes 4-7: group number of a member, which grows by one with every change of its set, 0 following
@@ -51,9 +65,9 @@
  *     bytes 28-63: 0; writes do nothing
  * It begins as the 24 bytes of gm_begin, called on the block with length GM_STATE_BYTES, and 40 zero bytes
  * behind them. The entries of the node end take its first 24 bytes as the state, as in
- * gm_send_heartbeat(block, GM_STATE_BYTES, ..); but gm_stop, gm_start and gm_decide called so raise no
- * flag. The cycle of a block, gm_register_cycle, decides as gm_decide does and raises at most one flag, by
- * the state right before the decision and the one after it:
+ * gm_send_heartbeat(mode, block, GM_STATE_BYTES, ..); but gm_stop, gm_start and gm_decide called so raise
+ * no flag. The cycle of a block, gm_register_cycle, decides as gm_decide does and raises at most one flag,
+ * by the state right before the decision and the one after it:
  *   - GM_FLAG_CHANGED: a member before and after, and the set is another; a base or a number that changes
  *     alone raises nothing
  *   - GM_FLAG_HALTED: a member before, out after, with reason 1 or 2
@@ -78,17 +92,18 @@
  * that its sender heard. The vote buffer has one for each of 64 nodes, that of node q at byte 28 q, and a
  * mask `arrived` beside it.
  *
- * FRAMES are as ISO 17458-2 lays them out: 5 header bytes, the payload, 3 check bytes, which differ between
- * the channels; the entries write and read them whole. The heartbeat of node q goes in slot q + 1
+ * FRAMES are as ISO 17458-2 lays them out: 5 header bytes, the payload, 3 check bytes, which differ
+ * between the channels; the entries write and read them whole. The heartbeat of node q goes in slot q + 1
  * (GM_HEARTBEAT_SLOT) and has a payload of 1 to 127 words of two bytes. The first word is the library's:
- * bit 7 of its first byte is 1 for a node that is joining, and all else in it is 0. The other words are the
- * drive's: DRIVE BYTES, an even number of them up to 252 (GM_DRIVE_BYTES), of any values, from byte 7 of
- * the frame on. A heartbeat with k drive bytes has 10 + k bytes. The vote of node q goes in slot q + 65
- * (GM_VOTE_SLOT) and has 36 bytes, the payload a vote. Heartbeats are for static slots, all of which have
- * one length, and votes for dynamic slots, which may have another: the static segment has n to 64 slots.
- * The slot is the frame number of the header. The cycle count is that of the bus, 0 to 63. A host may set
- * sync and startup in heartbeats (startup only with sync); in votes both are 0. A controller that hands
- * over payloads alone is not provided for (SAFETY.md, "What is not covered").
+ * bit 7 of its first byte is 1 for a node that is joining, bit 6 is 1 for a member of a quiet press that
+ * requests votes, and all else in it is 0. The other words are the drive's: DRIVE BYTES, an even number of
+ * them up to 252 (GM_DRIVE_BYTES), of any values, from byte 7 of the frame on. A heartbeat with k drive
+ * bytes has 10 + k bytes. The vote of node q goes in slot q + 65 (GM_VOTE_SLOT) and has 36 bytes, the
+ * payload a vote. Heartbeats are for static slots, all of which have one length, and votes for dynamic
+ * slots, which may have another: the static segment has n to 64 slots. The slot is the frame number of the
+ * header. The cycle count is that of the bus, 0 to 63. A host may set sync and startup in heartbeats
+ * (startup only with sync); in votes both are 0. A controller that hands over payloads alone is not
+ * provided for (SAFETY.md, "What is not covered").
  *
  * A TABLE is records, one behind the other, each beginning with GM_MARK_0, GM_MARK_1 and its kind:
  *   - GM_RECORD_START, first and only once, 12 bytes (GM_START_AT_..): byte 3 n, bytes 4-11 founding set
@@ -98,25 +113,29 @@
  *     bits 0-5 are the receiver; then the senders that it misses, not empty and without the receiver. First
  *     bytes ascend, and no two are equal.
  *
- * ONE CYCLE of a node, heard0, heard1 and arrived being 0 before it:
+ * ONE CYCLE of a node, heard0, heard1, requests and arrived being 0 before it:
  *   1. gm_stop, gm_start where the host wants it, or writes of these commands to a register block
  *   2. gm_send_heartbeat for each channel, with the same drive bytes; the host sends the frame if there is
  *      one
- *   3. gm_receive_heartbeat for every other node; the sender's bit is set in heard0 after GM_HEARD_MEMBER
- *      and in heard1 after GM_HEARD_JOINING. After either the host takes the sender's drive bytes from the
- *      front of the buffer, as many as *drive_bytes says; the buffer may then be lent for the next node
- *   4. gm_send_vote for each channel, with these masks; the host sends the frame if there is one
- *   5. gm_receive_vote for every other node, into the vote buffer, whatever stands in it, and `arrived`
- *   6. gm_decide, with the same heard0 and heard1; of a register block gm_register_cycle in its place, or
- *      gm_register_write_cycle with a write that is no command
- * A member sends both frames, a joining node its heartbeat alone, one that is out none. In 3 and 5 the
- * nodes may come in any order, and the call for a node of which nothing came on either channel may be left
- * out: its bit is then 0, which is why the masks are 0 before the cycle. After 6 gm_state tells what the
- * node holds. A node that halted is out, reason 1 or 2: it sends nothing and stays so until gm_start, from
- * which it is joining. A unit that is joining as the heartbeats go out, and untouched in that cycle and the
- * next, is a member after the second, if not after the first (in the sense of AGREEMENT below, and under
- * its premise); one that did not come in stays joining. Where no member is left nobody comes in any more:
- * all units have to begin anew together, and how they agree on that is the host's to say.
+ *   3. gm_receive_heartbeat for every other node; the sender's bit is set in heard0 after GM_HEARD_MEMBER,
+ *      in heard1 after GM_HEARD_JOINING, and both in heard0 and in `requests` after GM_HEARD_REQUEST, which
+ *      only a quiet press has. After each of these the host takes the sender's drive bytes from the front
+ *      of the buffer, as many as *drive_bytes says; the buffer may then be lent for the next node
+ *   4. gm_send_vote for each channel, with these masks; the host sends the frame if there is one. In a
+ *      quiet press a member that rests has none: *sent is 0
+ *   5. gm_receive_vote for every other node, into the vote buffer, whatever stands in it, and `arrived`;
+ *      also by a member that sent no vote
+ *   6. gm_decide, with the same heard0, heard1 and requests; of a register block gm_register_cycle in its
+ *      place, or gm_register_write_cycle with a write that is no command
+ * A member sends its heartbeat, and its vote where it votes; a joining node its heartbeat alone, one that
+ * is out none. In 3 and 5 the nodes may come in any order, and the call for a node of which nothing came
+ * on either channel may be left out: its bit is then 0, which is why the masks are 0 before the cycle.
+ * After 6 gm_state tells what the node holds. A node that halted is out, reason 1 or 2: it sends nothing
+ * and stays so until gm_start, from which it is joining. A unit that is joining as the heartbeats go out,
+ * and untouched in that cycle and the next, is a member after the second, if not after the first (in the
+ * sense of AGREEMENT below, and under its premise); one that did not come in stays joining. Where no
+ * member is left nobody comes in any more: all units have to begin anew together, and how they agree on
+ * that is the host's to say.
  *
  * AGREEMENT. A node receives a frame if gm_receive_heartbeat or gm_receive_vote makes something of its
  * copies: not GM_MISSED, or the bit of `arrived` set. A node is touched in a cycle if it is stopped in it,
@@ -137,11 +156,12 @@
  * DUTIES OF THE HOST. No call can see these, and agreement is promised only where they are kept (SAFETY.md
  * has them with their reasons):
  *   - All units begin with the same n and the same founding set, each with a number of its own, and n of a
- *     receiving entry is the n of the state.
+ *     receiving entry is the n of the state. All calls of a press have the same mode: units with different
+ *     modes are outside the promise, and no entry can see it.
  *   - Every call of a cycle is made, in the order above, and each answered GM_OK. If one is refused, the
  *     unit sends nothing more in that cycle and counts as having lost its state.
- *   - gm_send_vote, on both channels, and gm_decide, or the cycle of a block, get the same heard0 and
- *     heard1: the decision makes the node's own vote from them again.
+ *   - gm_send_vote, on both channels, and gm_decide, or the cycle of a block, get the same heard0, heard1
+ *     and requests: the decision makes the node's own vote, or that it has none, from them again.
  *   - gm_send_heartbeat gets the same drive bytes on both channels of a cycle. Two good copies whose drive
  *     bytes differ are a missed frame for every unit that both reach.
  *   - The static slots of the press are configured for the heartbeats that are sent: 1 + k / 2 words for k
@@ -186,9 +206,9 @@ extern "C" {
 
 /* the version of header and archive */
 #define GM_VERSION_MAJOR 0U
-#define GM_VERSION_MINOR 3U
+#define GM_VERSION_MINOR 4U
 #define GM_VERSION_PATCH 0U
-#define GM_VERSION "0.3.0"
+#define GM_VERSION "0.4.0"
 
 /* how many nodes, channels and cycle counts there can be */
 #define GM_NODES_MIN 2U
@@ -208,6 +228,10 @@ extern "C" {
 #define GM_VOTES_BYTES 1792U
 #define GM_FRAMES_BYTES 9216U
 
+/* modes of a press */
+#define GM_MODE_ALWAYS 0U /* votes in every cycle */
+#define GM_MODE_QUIET 1U  /* votes where something happens */
+
 /* where the numbers of a state stand, and the values of the first two */
 #define GM_STATE_AT_KIND 0U
 #define GM_STATE_AT_REASON 1U
@@ -219,9 +243,9 @@ extern "C" {
 #define GM_KIND_OUT 0U
 #define GM_KIND_JOINING 1U
 #define GM_KIND_MEMBER 2U
-#define GM_REASON_STOPPED 0U   /* stopped or never started; also of a node that is not out */
+#define GM_REASON_STOPPED 0U   /* stopped or never started; also of who is not out and does not request */
 #define GM_REASON_NO_QUORUM 1U /* halted: no view had a quorum */
-#define GM_REASON_OUTVOTED 2U  /* halted: another view than its own had one */
+#define GM_REASON_OUTVOTED 2U  /* halted: another view than its own had one, or any, and it did not vote */
 
 /* addresses in a register block behind its state, then flags, which are the enables too, and commands */
 #define GM_REGISTER_FLAGS 24U
@@ -252,6 +276,7 @@ extern "C" {
 #define GM_MISSED 0U
 #define GM_HEARD_MEMBER 1U
 #define GM_HEARD_JOINING 2U
+#define GM_HEARD_REQUEST 3U /* a member that requests votes */
 
 /* records of a table: mark and kind, then where the parts of each stand */
 #define GM_RECORD_AT_MARK 0U
@@ -290,8 +315,8 @@ extern "C" {
 /* refusals, of the caller's numbers and buffers: n outside 2 to 64 */
 #define GM_REFUSED_COUNT 1U
 /*
- * a node not below n, a cycle count above 63, a channel above 1; to be written: join, sync or startup above
- * 1, startup without sync
+ * a mode above 1, a node not below n, a cycle count above 63, a channel above 1; to be written: join,
+ * request, sync or startup above 1, startup without sync
  */
 #define GM_REFUSED_NUMBER 2U
 /*
@@ -316,8 +341,9 @@ extern "C" {
  */
 #define GM_REFUSED_NOT_DUE 9U
 /*
- * bits of a heartbeat's first word that must be 0; a vote whose set or view lacks the sender, whose base
- * lacks part of the set, or with a bit at n or above
+ * bits of a heartbeat's first word that must be 0; read or to be written, a request together with join, or
+ * where the press is not quiet; a vote whose set or view lacks the sender, whose base lacks part of the
+ * set, or with a bit at n or above
  */
 #define GM_REFUSED_CONTENT 10U
 /* of a table or a record of it: it ends inside a record, or is empty */
@@ -351,75 +377,81 @@ uint32_t gm_begin(uint32_t n, uint32_t node, uint64_t founding, uint8_t *state, 
 
 /*
  * Stops the node: out, reason 0.
- * state: GM_STATE_BYTES. Refusals: LENGTH, STATE.
+ * state: GM_STATE_BYTES. Refusals: NUMBER, LENGTH, STATE.
  */
-uint32_t gm_stop(uint8_t *state, size_t state_len);
+uint32_t gm_stop(uint32_t mode, uint8_t *state, size_t state_len);
 
 /*
  * Starts the node: a node that is out becomes joining, others do not change.
- * state: GM_STATE_BYTES. Refusals: LENGTH, STATE.
+ * state: GM_STATE_BYTES. Refusals: NUMBER, LENGTH, STATE.
  */
-uint32_t gm_start(uint8_t *state, size_t state_len);
+uint32_t gm_start(uint32_t mode, uint8_t *state, size_t state_len);
 
 /*
- * Takes a state apart: *kind is GM_KIND_.., *reason GM_REASON_.. (of a node that is out, else 0), *node and
- * *n the node's number and how many there are, *number, *set and *base those of a member, else 0.
- * state: GM_STATE_BYTES. Refusals: LENGTH, STATE.
+ * Takes a state apart: *kind is GM_KIND_.., *reason GM_REASON_.. of a node that is out, 1 of a member of a
+ * quiet press that will request votes, else 0, *node and *n the node's number and how many there are,
+ * *number, *set and *base those of a member, else 0.
+ * state: GM_STATE_BYTES. Refusals: NUMBER, LENGTH, STATE.
  */
-uint32_t gm_state(const uint8_t *state, size_t state_len, uint32_t *kind, uint32_t *reason, uint32_t *node,
-                  uint32_t *n, uint32_t *number, uint64_t *set, uint64_t *base);
+uint32_t gm_state(uint32_t mode, const uint8_t *state, size_t state_len, uint32_t *kind, uint32_t *reason,
+                  uint32_t *node, uint32_t *n, uint32_t *number, uint64_t *set, uint64_t *base);
 
 /*
  * Writes the heartbeat of a node from numbers, with the drive bytes behind its first word. Where there are
- * none, `drive` is any pointer that is not null, and drive_len 0.
+ * none, `drive` is any pointer that is not null, and drive_len 0. A request goes without join and in a
+ * quiet press.
  * drive: an even number of bytes, at most GM_DRIVE_BYTES; frame: GM_HEARTBEAT_BYTES + drive_len. Refusals:
- * COUNT, NUMBER, LENGTH.
+ * COUNT, NUMBER, LENGTH, CONTENT.
  */
-uint32_t gm_write_heartbeat(uint32_t n, uint32_t node, uint32_t join, uint32_t sync, uint32_t startup,
-                            uint32_t cycle, uint32_t channel, const uint8_t *drive, size_t drive_len,
-                            uint8_t *frame, size_t frame_len);
+uint32_t gm_write_heartbeat(uint32_t n, uint32_t mode, uint32_t node, uint32_t join, uint32_t request,
+                            uint32_t sync, uint32_t startup, uint32_t cycle, uint32_t channel,
+                            const uint8_t *drive, size_t drive_len, uint8_t *frame, size_t frame_len);
 
 /*
  * Writes the heartbeat that a node sends in its state, with the drive bytes behind its first word: *sent is
- * 1, or 0 if it sends none, and frame is then as it came in. The lengths are looked at also of a node that
- * sends none. Where there are no drive bytes, `drive` is any pointer that is not null, and drive_len 0.
+ * 1, or 0 if it sends none, and frame is then as it came in. Join and request are those of the state. The
+ * lengths are looked at also of a node that sends none. Where there are no drive bytes, `drive` is any
+ * pointer that is not null, and drive_len 0.
  * state: GM_STATE_BYTES; drive: an even number of bytes, at most GM_DRIVE_BYTES; frame: GM_HEARTBEAT_BYTES
  * + drive_len. Refusals: NUMBER, LENGTH, STATE.
  */
-uint32_t gm_send_heartbeat(const uint8_t *state, size_t state_len, uint32_t sync, uint32_t startup,
-                           uint32_t cycle, uint32_t channel, const uint8_t *drive, size_t drive_len,
-                           uint8_t *frame, size_t frame_len, uint32_t *sent);
+uint32_t gm_send_heartbeat(uint32_t mode, const uint8_t *state, size_t state_len, uint32_t sync,
+                           uint32_t startup, uint32_t cycle, uint32_t channel, const uint8_t *drive,
+                           size_t drive_len, uint8_t *frame, size_t frame_len, uint32_t *sent);
 
 /*
- * Reads one copy of the heartbeat of `node`, due in cycle count `cycle` on `channel`: *join is 0 or 1,
- * *drive_bytes is the number of its drive bytes, even and at most GM_DRIVE_BYTES, and these stand at the
- * front of `drive`. From that number on `drive` is as it came in.
+ * Reads one copy of the heartbeat of `node`, due in cycle count `cycle` on `channel`: *join and *request
+ * are 0 or 1, at most one of them 1, and *request only in a quiet press; *drive_bytes is the number of its
+ * drive bytes, even and at most GM_DRIVE_BYTES, and these stand at the front of `drive`. From that number
+ * on `drive` is as it came in.
  * frame: of any length, drive: GM_DRIVE_BYTES, however many come. Refusals: COUNT, NUMBER, LENGTH,
  * FRAME_LENGTH, HEADER_CHECK, FRAME_CHECK, NULL_FRAME, NOT_DUE, CONTENT.
  */
-uint32_t gm_read_heartbeat(uint32_t n, uint32_t node, uint32_t cycle, uint32_t channel,
+uint32_t gm_read_heartbeat(uint32_t n, uint32_t mode, uint32_t node, uint32_t cycle, uint32_t channel,
                            const uint8_t *frame, size_t frame_len, uint8_t *drive, size_t drive_len,
-                           uint32_t *join, uint32_t *drive_bytes);
+                           uint32_t *join, uint32_t *request, uint32_t *drive_bytes);
 
 /*
  * Receives the heartbeat of `node` from its copies on channels A and B (length 0 where none came): *heard
- * is GM_MISSED, GM_HEARD_MEMBER or GM_HEARD_JOINING. One good copy counts; two count if their payloads are
- * equal, first word and drive bytes, else the heartbeat is missed; sync and startup are not compared. Of a
- * copy that counts *drive_bytes and `drive` are as gm_read_heartbeat gives them. A missed heartbeat is no
- * refusal: *drive_bytes is 0, and all of `drive` is as it came in.
+ * is GM_MISSED, GM_HEARD_MEMBER, GM_HEARD_JOINING or, in a quiet press, GM_HEARD_REQUEST. One good copy
+ * counts; two count if their payloads are equal, first word and drive bytes, else the heartbeat is missed;
+ * sync and startup are not compared. Of a copy that counts *drive_bytes and `drive` are as
+ * gm_read_heartbeat gives them. A missed heartbeat is no refusal: *drive_bytes is 0, and all of `drive` is
+ * as it came in.
  * a, b: of any length, drive: GM_DRIVE_BYTES, however many come. Refusals: COUNT, NUMBER, LENGTH.
  */
-uint32_t gm_receive_heartbeat(uint32_t n, uint32_t node, uint32_t cycle, const uint8_t *a, size_t a_len,
-                              const uint8_t *b, size_t b_len, uint8_t *drive, size_t drive_len,
-                              uint32_t *heard, uint32_t *drive_bytes);
+uint32_t gm_receive_heartbeat(uint32_t n, uint32_t mode, uint32_t node, uint32_t cycle, const uint8_t *a,
+                              size_t a_len, const uint8_t *b, size_t b_len, uint8_t *drive,
+                              size_t drive_len, uint32_t *heard, uint32_t *drive_bytes);
 
 /*
  * The view of a member from what it heard: the members of its set in heard0, the nodes outside its set in
  * heard1, and itself; no other bit is looked at, so that a member of the set that restarts, and is joining,
  * is not heard. *view is 0 if the node is no member.
- * state: GM_STATE_BYTES. Refusals: LENGTH, STATE.
+ * state: GM_STATE_BYTES. Refusals: NUMBER, LENGTH, STATE.
  */
-uint32_t gm_view(const uint8_t *state, size_t state_len, uint64_t heard0, uint64_t heard1, uint64_t *view);
+uint32_t gm_view(uint32_t mode, const uint8_t *state, size_t state_len, uint64_t heard0, uint64_t heard1,
+                 uint64_t *view);
 
 /*
  * Writes the vote of a node from numbers.
@@ -430,11 +462,14 @@ uint32_t gm_write_vote(uint32_t n, uint32_t node, uint32_t number, uint64_t set,
 
 /*
  * Writes the vote that a node sends in its state, from what it heard: *sent is 1, or 0 if it sends none,
- * and frame is then as it came in.
+ * and frame is then as it came in. heard0 and heard1 are looked at as for gm_view. In a quiet press a
+ * member that rests sends none; of `requests` the bits of other nodes of its set are looked at that are in
+ * heard0 too, and no other bit. Where votes are sent in every cycle `requests` is not looked at.
  * state: GM_STATE_BYTES, frame: GM_VOTE_FRAME_BYTES. Refusals: NUMBER, LENGTH, STATE.
  */
-uint32_t gm_send_vote(const uint8_t *state, size_t state_len, uint64_t heard0, uint64_t heard1,
-                      uint32_t cycle, uint32_t channel, uint8_t *frame, size_t frame_len, uint32_t *sent);
+uint32_t gm_send_vote(uint32_t mode, const uint8_t *state, size_t state_len, uint64_t heard0,
+                      uint64_t heard1, uint64_t requests, uint32_t cycle, uint32_t channel, uint8_t *frame,
+                      size_t frame_len, uint32_t *sent);
 
 /*
  * Reads one copy of the vote of `node`, due in cycle count `cycle` on `channel`, to its payload: number (4
@@ -456,60 +491,65 @@ uint32_t gm_receive_vote(uint32_t n, uint32_t node, uint32_t cycle, const uint8_
                          uint64_t *arrived);
 
 /*
- * Decides: the node's next state, from what it heard and the votes that arrived. heard0 and heard1 are
- * looked at as for gm_view. A slot whose vote gm_read_vote would refuse for its content counts as not
- * arrived, and so does a bit at n or above; the node's own bit is not looked at.
- * state: GM_STATE_BYTES, votes: GM_VOTES_BYTES. Refusals: LENGTH, STATE.
+ * Decides: the node's next state, from what it heard and the votes that arrived. heard0, heard1 and
+ * requests are looked at as for gm_send_vote: whether the node voted is worked out from them again. A slot
+ * whose vote gm_read_vote would refuse for its content counts as not arrived, and so does a bit at n or
+ * above; the node's own bit is not looked at.
+ * state: GM_STATE_BYTES, votes: GM_VOTES_BYTES. Refusals: NUMBER, LENGTH, STATE.
  */
-uint32_t gm_decide(uint8_t *state, size_t state_len, uint64_t heard0, uint64_t heard1, const uint8_t *votes,
-                   size_t votes_len, uint64_t arrived);
+uint32_t gm_decide(uint32_t mode, uint8_t *state, size_t state_len, uint64_t heard0, uint64_t heard1,
+                   uint64_t requests, const uint8_t *votes, size_t votes_len, uint64_t arrived);
 
 /*
  * Reads a register: *value is the byte at `address`, 0 to 255.
- * block: GM_REGISTERS_BYTES. Refusals: LENGTH, STATE, ADDRESS.
+ * block: GM_REGISTERS_BYTES. Refusals: NUMBER, LENGTH, STATE, ADDRESS.
  */
-uint32_t gm_register_read(const uint8_t *block, size_t block_len, uint32_t address, uint32_t *value);
+uint32_t gm_register_read(uint32_t mode, const uint8_t *block, size_t block_len, uint32_t address,
+                          uint32_t *value);
 
 /*
  * Writes a register: what a write to `address` does stands at A REGISTER BLOCK above.
- * block: GM_REGISTERS_BYTES. Refusals: LENGTH, STATE, ADDRESS.
+ * block: GM_REGISTERS_BYTES. Refusals: NUMBER, LENGTH, STATE, ADDRESS.
  */
-uint32_t gm_register_write(uint8_t *block, size_t block_len, uint32_t address, uint8_t value);
+uint32_t gm_register_write(uint32_t mode, uint8_t *block, size_t block_len, uint32_t address,
+                           uint8_t value);
 
 /*
  * The cycle of a register block: decides as gm_decide does of the same arguments, and raises the flag of
  * what became of the node.
- * block: GM_REGISTERS_BYTES, votes: GM_VOTES_BYTES. Refusals: LENGTH, STATE.
+ * block: GM_REGISTERS_BYTES, votes: GM_VOTES_BYTES. Refusals: NUMBER, LENGTH, STATE.
  */
-uint32_t gm_register_cycle(uint8_t *block, size_t block_len, uint64_t heard0, uint64_t heard1,
-                           const uint8_t *votes, size_t votes_len, uint64_t arrived);
+uint32_t gm_register_cycle(uint32_t mode, uint8_t *block, size_t block_len, uint64_t heard0,
+                           uint64_t heard1, uint64_t requests, const uint8_t *votes, size_t votes_len,
+                           uint64_t arrived);
 
 /*
  * What gm_register_write does and then gm_register_cycle, in one step; refused, neither is done.
- * block: GM_REGISTERS_BYTES, votes: GM_VOTES_BYTES. Refusals: LENGTH, STATE, ADDRESS.
+ * block: GM_REGISTERS_BYTES, votes: GM_VOTES_BYTES. Refusals: NUMBER, LENGTH, STATE, ADDRESS.
  */
-uint32_t gm_register_write_cycle(uint8_t *block, size_t block_len, uint32_t address, uint8_t value,
-                                 uint64_t heard0, uint64_t heard1, const uint8_t *votes, size_t votes_len,
-                                 uint64_t arrived);
+uint32_t gm_register_write_cycle(uint32_t mode, uint8_t *block, size_t block_len, uint32_t address,
+                                 uint8_t value, uint64_t heard0, uint64_t heard1, uint64_t requests,
+                                 const uint8_t *votes, size_t votes_len, uint64_t arrived);
 
 /*
  * One cycle of all n nodes under the faults of one record of kind 2, on the row as it is lent.
- * row: n times GM_STATE_BYTES, record: exactly one record. Refusals: COUNT, LENGTH, STATE, CUT, KIND,
- * LIMIT.
+ * row: n times GM_STATE_BYTES, record: exactly one record. Refusals: COUNT, NUMBER, LENGTH, STATE, CUT,
+ * KIND, LIMIT.
  */
-uint32_t gm_cycle(uint32_t n, uint8_t *row, size_t row_len, const uint8_t *record, size_t record_len);
+uint32_t gm_cycle(uint32_t n, uint32_t mode, uint8_t *row, size_t row_len, const uint8_t *record,
+                  size_t record_len);
 
 /*
  * A table's run: sets the row to the beginning of the table and runs its cycles. The whole table is looked
  * at before the row changes.
  * row: as many times GM_STATE_BYTES as the table has nodes, in any state, but written once, since they are
- * read; table: of any length. Refusals: CUT, KIND, COUNT, LENGTH, LIMIT, record by record.
+ * read; table: of any length. Refusals: NUMBER, then CUT, KIND, COUNT, LENGTH, LIMIT, record by record.
  */
-uint32_t gm_run(uint8_t *row, size_t row_len, const uint8_t *table, size_t table_len);
+uint32_t gm_run(uint32_t mode, uint8_t *row, size_t row_len, const uint8_t *table, size_t table_len);
 
 /*
- * The same run through frames: in every cycle each node writes its frames for both channels, and reads
- * those of the others. It leaves what gm_run leaves, and in `frames` what an analyser at the senders would
+ * The same run through frames: in every cycle each node writes what it sends for both channels, and reads
+ * what the others sent. It leaves what gm_run leaves, and in `frames` what an analyser at the senders would
  * show of the last cycle: heartbeats on A, heartbeats on B, votes on A, votes on B, each of these four
  * parts 64 slots of GM_VOTE_FRAME_BYTES. The frame that node q sent stands at the front of slot q, whether
  * or not it reached anybody; zeros stand behind it, and where nothing was sent. Cycle k of the run has
@@ -518,7 +558,7 @@ uint32_t gm_run(uint8_t *row, size_t row_len, const uint8_t *table, size_t table
  * row, table: as for gm_run; frames: GM_FRAMES_BYTES, another length being refused where the row's is.
  * Refusals: those of gm_run.
  */
-uint32_t gm_run_frames(uint8_t *row, size_t row_len, const uint8_t *table, size_t table_len,
+uint32_t gm_run_frames(uint32_t mode, uint8_t *row, size_t row_len, const uint8_t *table, size_t table_len,
                        uint8_t *frames, size_t frames_len);
 
 #ifdef __cplusplus

@@ -15,7 +15,7 @@ static inline const char *gm_refusal_text(uint32_t status)
     case GM_OK: text = "The call was accepted."; break;
     case GM_REFUSED_COUNT: text = "The number of nodes is not 2 to 64."; break;
     case GM_REFUSED_NUMBER:
-        text = "A node is not below the number of nodes, a cycle count is above 63, a channel is not A or B, "
+        text = "The mode is not 0 or 1, a node is not below the number of nodes, a cycle count is above 63, a channel is not A or B, "
                "or an indicator to be written is wrong.";
         break;
     case GM_REFUSED_LENGTH:
@@ -32,7 +32,7 @@ static inline const char *gm_refusal_text(uint32_t status)
                "or with an indicator or reserved bit that it may not have.";
         break;
     case GM_REFUSED_CONTENT:
-        text = "The content is not allowed: bits of a heartbeat's first word that must be 0, "
+        text = "The content is not allowed: bits of a heartbeat's first word that must be 0, a request with join or in a press that is not quiet, "
                "or a vote whose set, base and view do not fit its sender and each other.";
         break;
     case GM_REFUSED_CUT: text = "The table is empty, or it or the record ends before the record is whole."; break;

@@ -49,17 +49,35 @@ called=$("$build/entries")
 "${cc[@]}" -Wconversion tests/layout.c "$archive" -o "$build/layout"
 statuses=$("$build/layout")
 [ "$statuses" = $((1 + $(grep -cE '^#define GM_REFUSED_' include/gm.h))) ] || fail "$statuses statuses have a sentence"
-printf '#include "gm_refusal.h"\nint main() { uint8_t s[1] = {0}; return gm_refusal_text(gm_stop(s, sizeof s)) == gm_refusal_text(GM_REFUSED_LENGTH) ? 0 : 1; }\n' >"$build/cpp.cc"
+printf '#include "gm_refusal.h"\nint main() { uint8_t s[1] = {0}; return gm_refusal_text(gm_stop(GM_MODE_ALWAYS, s, sizeof s)) == gm_refusal_text(GM_REFUSED_LENGTH) ? 0 : 1; }\n' >"$build/cpp.cc"
 g++ -Wall -Wextra -Werror -pedantic -Iinclude "$build/cpp.cc" "$archive" -o "$build/cpp"
 "$build/cpp" || fail "the C++ caller got another answer"
 
-# a call as it was before heartbeats carried drive bytes does not compile, whatever warnings a host has off: the archive alone could not tell
-old=("gm_write_heartbeat(5, 2, 1, 0, 0, 9, GM_CHANNEL_B, frame, GM_HEARTBEAT_BYTES)"
+# a call as it was before presses could be quiet, and one from before heartbeats carried drive bytes, does not compile, whatever warnings a host has off: the
+# archive alone could not tell
+old=("gm_stop(frame, GM_STATE_BYTES)"
+    "gm_start(frame, GM_STATE_BYTES)"
+    "gm_state(lent, GM_STATE_BYTES, result, result, result, result, result, mask, mask)"
+    "gm_write_heartbeat(5, 2, 1, 0, 0, 9, GM_CHANNEL_B, lent, 0, frame, GM_HEARTBEAT_BYTES)"
+    "gm_write_heartbeat(5, 2, 1, 0, 0, 9, GM_CHANNEL_B, frame, GM_HEARTBEAT_BYTES)"
+    "gm_send_heartbeat(lent, GM_STATE_BYTES, 0, 0, 9, GM_CHANNEL_A, lent, 0, frame, GM_HEARTBEAT_BYTES, result)"
     "gm_send_heartbeat(lent, GM_STATE_BYTES, 0, 0, 9, GM_CHANNEL_A, frame, GM_HEARTBEAT_BYTES, result)"
+    "gm_read_heartbeat(5, 2, 9, GM_CHANNEL_B, lent, GM_HEARTBEAT_BYTES, frame, GM_DRIVE_BYTES, result, result)"
     "gm_read_heartbeat(5, 2, 9, GM_CHANNEL_B, lent, GM_HEARTBEAT_BYTES, result)"
-    "gm_receive_heartbeat(5, 2, 9, lent, 0, lent, GM_HEARTBEAT_BYTES, result)")
+    "gm_receive_heartbeat(5, 2, 9, lent, 0, lent, GM_HEARTBEAT_BYTES, frame, GM_DRIVE_BYTES, result, result)"
+    "gm_receive_heartbeat(5, 2, 9, lent, 0, lent, GM_HEARTBEAT_BYTES, result)"
+    "gm_view(lent, GM_STATE_BYTES, 0, 0, mask)"
+    "gm_send_vote(lent, GM_STATE_BYTES, 0, 0, 9, GM_CHANNEL_A, frame, GM_VOTE_FRAME_BYTES, result)"
+    "gm_decide(frame, GM_STATE_BYTES, 0, 0, lent, GM_VOTES_BYTES, 0)"
+    "gm_register_read(lent, GM_REGISTERS_BYTES, 0, result)"
+    "gm_register_write(frame, GM_REGISTERS_BYTES, 0, 0)"
+    "gm_register_cycle(frame, GM_REGISTERS_BYTES, 0, 0, lent, GM_VOTES_BYTES, 0)"
+    "gm_register_write_cycle(frame, GM_REGISTERS_BYTES, 0, 0, 0, 0, lent, GM_VOTES_BYTES, 0)"
+    "gm_cycle(5, frame, 120, lent, 36)"
+    "gm_run(frame, 120, lent, 12)"
+    "gm_run_frames(frame, 120, lent, 12, frame, GM_FRAMES_BYTES)")
 for call in "${old[@]}"; do
-    printf '#include "gm.h"\nuint32_t call(const uint8_t *lent, uint8_t *frame, uint32_t *result)\n{\n    return %s;\n}\n' "$call" >"$build/old.c"
+    printf '#include "gm.h"\nuint32_t call(const uint8_t *lent, uint8_t *frame, uint32_t *result, uint64_t *mask)\n{\n    return %s;\n}\n' "$call" >"$build/old.c"
     ! LC_ALL=C gcc -std=c99 -w -Iinclude -fsyntax-only "$build/old.c" 2>"$build/old.message" || fail "an old host still compiles: $call"
     [[ $(grep 'error: ' "$build/old.message") == *"too few arguments to function '${call%%(*}'"* ]] || fail "an old host is refused otherwise: $(<"$build/old.message")"
 done

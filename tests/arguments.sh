@@ -1,19 +1,19 @@
 #!/usr/bin/env bash
-# What grouprun does with arguments and on a terminal, and the shell of its manual page that tells a whole run from others.
-# Usage: arguments.sh GROUPRUN TABLETEXT VERSION BUILD-FOLDER
+# What grouprun or quietrun does with arguments and on a terminal, and the shell of grouprun's manual page that tells a whole run from others.
+# Usage: arguments.sh PROGRAM TABLETEXT VERSION BUILD-FOLDER
 set -euo pipefail
-grouprun=$(realpath "$1") tabletext=$(realpath "$2") version=$3 here=$(realpath "$(dirname "$0")")
+program=$(realpath "$1") called=$(basename "$1") tabletext=$(realpath "$2") version=$3 here=$(realpath "$(dirname "$0")")
 work=$(mktemp -d -p "$4")
 trap 'rm -rf "$work"' EXIT
-manual=$here/../man/grouprun.1 table=$work/p1.tab out=$work/out message=$work/message rest=$work/rest
-unwritten="grouprun: the output could not be written" count=0
+manual=$here/../man/$called.1 table=$work/p1.tab out=$work/out message=$work/message rest=$work/rest
+unwritten="$called: the output could not be written" count=0
 fail() { echo "tests/arguments: $*" >&2; exit 1; }
 "$tabletext" table <"$here/../examples/p1.txt" >"$table"
 
 # runs a case with the table as standard input: status 0, and nothing of the table is read
 answers() { # ARGUMENT..
     name="'$*'" name=${name:0:80}
-    { timeout 20 "$grouprun" "$@" >"$out" 2>"$message" && cat >"$rest"; } <"$table" || fail "$name: status $?"
+    { timeout 20 "$program" "$@" >"$out" 2>"$message" && cat >"$rest"; } <"$table" || fail "$name: status $?"
     cmp -s "$rest" "$table" || fail "$name reads the table"
     count=$((count + 1))
 }
@@ -23,13 +23,13 @@ says() { [ "$(<"$message")" = "$1" ] || fail "$2: '$(<"$message")' on standard e
 # ---- what can be asked for
 answers --version
 silent "$message" --version
-echo "grouprun $version" | cmp -s - "$out" || fail "--version prints '$(<"$out")', and the Makefile's version is $version"
+echo "$called $version" | cmp -s - "$out" || fail "--version prints '$(<"$out")', and the Makefile's version is $version"
 answers --help
 silent "$message" --help
 cp "$out" "$work/help"
 usage=$(head -n 1 "$work/help")
-[[ $usage == "usage: grouprun "* ]] || fail "the help begins with '$usage'"
-for word in --help --version table refused tabletext 'grouprun(1)'; do
+[[ $usage == "usage: $called "* ]] || fail "the help begins with '$usage'"
+for word in --help --version table refused tabletext "$called(1)"; do
     grep -qF -e "$word" "$work/help" || fail "the help does not name $word"
 done
 expand "$work/help" | awk 'length > 80 { exit 1 }' || fail "a line of the help has more than 80 columns"
@@ -56,32 +56,39 @@ wrong a b c
 
 # ---- what is asked for, and cannot be written
 for option in --help --version; do
-    "$grouprun" "$option" >/dev/full 2>"$message" || fail "$option, full output: status $?"
+    "$program" "$option" >/dev/full 2>"$message" || fail "$option, full output: status $?"
     says "$unwritten" "$option, full output"
-    "$grouprun" "$option" >&- 2>"$message" || fail "$option, closed output: status $?"
+    "$program" "$option" >&- 2>"$message" || fail "$option, closed output: status $?"
     says "$unwritten" "$option, closed output"
     count=$((count + 2))
 done
-"$grouprun" x >"$out" 2>&- || fail "a wrong argument, closed standard error: status $?"
+"$program" x >"$out" 2>&- || fail "a wrong argument, closed standard error: status $?"
 silent "$out" "a wrong argument, closed standard error"
 
 # ---- no argument: the run, with a hint before it where the table would have to be typed
-"$grouprun" <"$table" >"$out" 2>"$message"
+"$program" <"$table" >"$out" 2>"$message"
 silent "$message" "a run"
 cmp -s "$out" "$here/../examples/p1.out" || fail "without an argument another run is printed"
-: | "$grouprun" >"$out" 2>"$message"
+: | "$program" >"$out" 2>"$message"
 silent "$message" "an empty pipe"
-script -qec "'$grouprun' >'$work/typed' 2>'$message'" /dev/null </dev/null
+script -qec "'$program' >'$work/typed' 2>'$message'" /dev/null </dev/null
 cmp -s "$out" "$work/typed" || fail "a terminal without input prints another run than an empty pipe"
-[[ $(<"$message") == "grouprun: a table is expected "*"grouprun --help" && $(wc -l <"$message") -eq 1 ]] || fail "a terminal: '$(<"$message")' on standard error"
-script -qec "'$grouprun' --version 2>&1 >'$out' | cmp - /dev/null" /dev/null </dev/null || fail "--version on a terminal is answered with a hint"
+[[ $(<"$message") == "$called: a table is expected "*"$called --help" && $(wc -l <"$message") -eq 1 ]] || fail "a terminal: '$(<"$message")' on standard error"
+script -qec "'$program' --version 2>&1 >'$out' | cmp - /dev/null" /dev/null </dev/null || fail "--version on a terminal is answered with a hint"
 count=$((count + 6))
+
+# ---- the page of quietrun sends its reader to that of grouprun for all else
+if [ "$called" != grouprun ]; then
+    grep -q '^\.BR grouprun (1)' "$manual" || fail "the manual page of $called does not name grouprun(1)"
+    echo "tests/arguments: $called: $count cases as named; the version is $version"
+    exit
+fi
 
 # ---- the shell of the manual page, as a script that ends at a failure would have it: it goes on, and says whole of a whole run alone
 judge=$(sed -n '/^\$ \\fBif err=/,/\\fP$/p' "$manual" | sed -e 's/^\$ \\fB//' -e 's/\\fP$//' -e 's/\\-/-/g' -e "s/\\\\(aq/'/g")
 [ -n "$judge" ] || fail "the manual page has no shell that begins with 'if err='"
 press=$work/press.tab run=$work/run.txt
-said() { cd "$work" && PATH=$(dirname "$grouprun"):$PATH "$1" -ec "$2$judge"$'\necho on' 2>/dev/null; } # SHELL BEFORE
+said() { cd "$work" && PATH=$(dirname "$program"):$PATH "$1" -ec "$2$judge"$'\necho on' 2>/dev/null; } # SHELL BEFORE
 judged() { # NAME EXPECTED [BEFORE]
     local shell given
     for shell in sh bash; do
@@ -111,4 +118,4 @@ judged "no table" 'not whole: *press.tab*'
 silent "$run" "the run of no table"
 mkdir "$press"
 judged "a table that cannot be read" 'not whole: grouprun: the input could not be read'
-echo "tests/arguments: $count cases as named; the version is $version"
+echo "tests/arguments: $called: $count cases as named; the version is $version"

@@ -50,7 +50,7 @@ check_missing() {
     ln -s "$work/kit/rt" "$work/bare/rt"
     one_sentence cargo cargo "" test compare compare-test bench
     rm "$work/bare/gcc"
-    one_sentence gcc gcc "" run host stack archive-test series-test heartbeats-test install
+    one_sentence gcc gcc "" run host stack archive-test series-test heartbeats-test quiet-test install
 }
 
 # with programs that print what they are told to: the paper's lines, or others

@@ -39,11 +39,11 @@ static void states(void)
     expect("gm_begin", gm_begin(65, 70, 0, state, 3), GM_REFUSED_COUNT);
     unchanged("gm_begin", before, state, sizeof state);
     memcpy(other, state, sizeof other);
-    expect("gm_stop", gm_stop(other, sizeof other), 0);
-    expect("gm_stop", gm_stop(other, sizeof other - 1), GM_REFUSED_LENGTH);
-    expect("gm_start", gm_start(other, sizeof other), 0);
+    expect("gm_stop", gm_stop(GM_MODE_ALWAYS, other, sizeof other), 0);
+    expect("gm_stop", gm_stop(GM_MODE_ALWAYS, other, sizeof other - 1), GM_REFUSED_LENGTH);
+    expect("gm_start", gm_start(GM_MODE_ALWAYS, other, sizeof other), 0);
     other[0] = 3;
-    expect("gm_start", gm_start(other, sizeof other), GM_REFUSED_STATE);
+    expect("gm_start", gm_start(GM_MODE_ALWAYS, other, sizeof other), GM_REFUSED_STATE);
 }
 
 /* the seven numbers of a state, in the order of its image */
@@ -54,7 +54,7 @@ struct numbers {
 
 static uint32_t take_apart(const uint8_t *bytes, size_t len, struct numbers *x)
 {
-    return gm_state(bytes, len, &x->kind, &x->reason, &x->node, &x->n, &x->number, &x->set, &x->base);
+    return gm_state(GM_MODE_ALWAYS, bytes, len, &x->kind, &x->reason, &x->node, &x->n, &x->number, &x->set, &x->base);
 }
 
 static void holds(const struct numbers *x, const struct numbers *y)
@@ -100,16 +100,17 @@ static void states_apart(void)
 static const uint8_t carried[4] = {0x80, 0, 0xFF, 7};
 struct received {
     uint8_t drive[GM_DRIVE_BYTES];
-    uint32_t answer, number;
+    uint32_t answer, request, number;
 };
 
 /* what `got` holds after a call: the results, the drive bytes at the front, and behind them what stood there */
-static void holds_drive(const char *entry, const struct received *got, uint32_t answer)
+static void holds_drive(const char *entry, const struct received *got, uint32_t answer, uint32_t request)
 {
     struct received due;
     memset(&due, 0xA5, sizeof due);
     memcpy(due.drive, carried, sizeof carried);
     due.answer = answer;
+    due.request = request;
     due.number = sizeof carried;
     if (memcmp(got, &due, sizeof due) != 0) {
         fprintf(stderr, "%s left other numbers or drive bytes\n", entry);
@@ -117,18 +118,22 @@ static void holds_drive(const char *entry, const struct received *got, uint32_t 
     }
 }
 
+static uint32_t read_beat(uint32_t mode, uint32_t channel, size_t len, struct received *got, size_t drive_len)
+{
+    return gm_read_heartbeat(5, mode, 2, 9, channel, beat, len, got->drive, drive_len, &got->answer, &got->request, &got->number);
+}
+
 static void read_heartbeats(void)
 {
     struct received got, kept;
     memset(&got, 0xA5, sizeof got);
     kept = got;
-    expect("gm_read_heartbeat", gm_read_heartbeat(5, 2, 9, GM_CHANNEL_A, beat, sizeof beat, got.drive, sizeof got.drive, &got.answer, &got.number),
-           GM_REFUSED_FRAME_CHECK);
-    expect("gm_read_heartbeat", gm_read_heartbeat(5, 2, 9, GM_CHANNEL_A, beat, 0, got.drive, sizeof got.drive - 1, &got.answer, &got.number),
-           GM_REFUSED_LENGTH);
+    expect("gm_read_heartbeat", read_beat(GM_MODE_ALWAYS, GM_CHANNEL_A, sizeof beat, &got, sizeof got.drive), GM_REFUSED_FRAME_CHECK);
+    expect("gm_read_heartbeat", read_beat(GM_MODE_ALWAYS, GM_CHANNEL_A, 0, &got, sizeof got.drive - 1), GM_REFUSED_LENGTH);
+    expect("gm_read_heartbeat", read_beat(2, GM_CHANNEL_A, 0, &got, sizeof got.drive - 1), GM_REFUSED_NUMBER);
     unchanged("gm_read_heartbeat", &got, &kept, sizeof got);
-    expect("gm_read_heartbeat", gm_read_heartbeat(5, 2, 9, GM_CHANNEL_B, beat, sizeof beat, got.drive, sizeof got.drive, &got.answer, &got.number), 0);
-    holds_drive("gm_read_heartbeat", &got, 1);
+    expect("gm_read_heartbeat", read_beat(GM_MODE_ALWAYS, GM_CHANNEL_B, sizeof beat, &got, sizeof got.drive), 0);
+    holds_drive("gm_read_heartbeat", &got, 1, 0);
 }
 
 static void receive_heartbeats(void)
@@ -136,28 +141,56 @@ static void receive_heartbeats(void)
     struct received got, kept;
     memset(&got, 0xA5, sizeof got);
     kept = got;
-    expect("gm_receive_heartbeat", gm_receive_heartbeat(5, 2, 64, beat, 0, beat, sizeof beat, got.drive, sizeof got.drive, &got.answer, &got.number),
+    expect("gm_receive_heartbeat", gm_receive_heartbeat(5, GM_MODE_ALWAYS, 2, 64, beat, 0, beat, sizeof beat, got.drive, sizeof got.drive, &got.answer,
+                                                        &got.number),
            GM_REFUSED_NUMBER);
-    expect("gm_receive_heartbeat", gm_receive_heartbeat(5, 2, 9, beat, 0, beat, sizeof beat, got.drive, 0, &got.answer, &got.number), GM_REFUSED_LENGTH);
+    expect("gm_receive_heartbeat", gm_receive_heartbeat(5, GM_MODE_ALWAYS, 2, 9, beat, 0, beat, sizeof beat, got.drive, 0, &got.answer, &got.number),
+           GM_REFUSED_LENGTH);
     unchanged("gm_receive_heartbeat", &got, &kept, sizeof got);
-    expect("gm_receive_heartbeat", gm_receive_heartbeat(5, 2, 9, beat, 0, beat, sizeof beat, got.drive, sizeof got.drive, &got.answer, &got.number), 0);
-    holds_drive("gm_receive_heartbeat", &got, GM_HEARD_JOINING);
+    expect("gm_receive_heartbeat", gm_receive_heartbeat(5, GM_MODE_ALWAYS, 2, 9, beat, 0, beat, sizeof beat, got.drive, sizeof got.drive, &got.answer,
+                                                        &got.number), 0);
+    holds_drive("gm_receive_heartbeat", &got, GM_HEARD_JOINING, 0xA5A5A5A5);
+}
+
+/* in a quiet press a heartbeat may request: it is read and received, and refused in any other */
+static void requests(void)
+{
+    struct received got;
+    memset(&got, 0xA5, sizeof got);
+    expect("gm_write_heartbeat", gm_write_heartbeat(5, GM_MODE_ALWAYS, 2, 0, 1, 1, 1, 9, GM_CHANNEL_B, carried, sizeof carried, beat, sizeof beat),
+           GM_REFUSED_CONTENT);
+    expect("gm_write_heartbeat", gm_write_heartbeat(5, GM_MODE_QUIET, 2, 1, 1, 1, 1, 9, GM_CHANNEL_B, carried, sizeof carried, beat, sizeof beat),
+           GM_REFUSED_CONTENT);
+    unchanged("gm_write_heartbeat", before, beat, sizeof beat);
+    expect("gm_write_heartbeat", gm_write_heartbeat(5, GM_MODE_QUIET, 2, 0, 1, 1, 1, 9, GM_CHANNEL_B, carried, sizeof carried, beat, sizeof beat), 0);
+    expect("gm_read_heartbeat", read_beat(GM_MODE_ALWAYS, GM_CHANNEL_B, sizeof beat, &got, sizeof got.drive), GM_REFUSED_CONTENT);
+    expect("gm_read_heartbeat", read_beat(GM_MODE_QUIET, GM_CHANNEL_B, sizeof beat, &got, sizeof got.drive), 0);
+    holds_drive("gm_read_heartbeat", &got, 0, 1);
+    expect("gm_receive_heartbeat", gm_receive_heartbeat(5, GM_MODE_QUIET, 2, 9, beat, 0, beat, sizeof beat, got.drive, sizeof got.drive, &got.answer,
+                                                        &got.number), 0);
+    holds_drive("gm_receive_heartbeat", &got, GM_HEARD_REQUEST, 1);
+    entries -= 3;
 }
 
 static void heartbeats(void)
 {
     uint32_t sent = 7;
-    expect("gm_write_heartbeat", gm_write_heartbeat(5, 2, 1, 1, 1, 9, GM_CHANNEL_B, carried, sizeof carried, beat, sizeof beat), 0);
+    expect("gm_write_heartbeat", gm_write_heartbeat(5, GM_MODE_ALWAYS, 2, 1, 0, 1, 1, 9, GM_CHANNEL_B, carried, sizeof carried, beat, sizeof beat), 0);
     memcpy(before, beat, sizeof beat);
-    expect("gm_write_heartbeat", gm_write_heartbeat(5, 2, 1, 0, 1, 9, GM_CHANNEL_B, carried, 3, beat, sizeof beat), GM_REFUSED_NUMBER);
-    expect("gm_write_heartbeat", gm_write_heartbeat(5, 2, 1, 0, 0, 9, GM_CHANNEL_B, carried, 3, beat, GM_HEARTBEAT_BYTES + 3), GM_REFUSED_LENGTH);
+    expect("gm_write_heartbeat", gm_write_heartbeat(5, GM_MODE_ALWAYS, 2, 1, 0, 0, 1, 9, GM_CHANNEL_B, carried, 3, beat, sizeof beat), GM_REFUSED_NUMBER);
+    expect("gm_write_heartbeat", gm_write_heartbeat(5, GM_MODE_ALWAYS, 2, 1, 0, 0, 0, 9, GM_CHANNEL_B, carried, 3, beat, GM_HEARTBEAT_BYTES + 3),
+           GM_REFUSED_LENGTH);
     unchanged("gm_write_heartbeat", before, beat, sizeof beat);
     read_heartbeats();
     receive_heartbeats();
-    expect("gm_send_heartbeat", gm_send_heartbeat(state, sizeof state, 0, 0, 9, 2, carried, 2, beat, 1, &sent), GM_REFUSED_NUMBER);
-    expect("gm_send_heartbeat", gm_send_heartbeat(state, sizeof state, 0, 0, 9, GM_CHANNEL_A, carried, 2, beat, sizeof beat, &sent), GM_REFUSED_LENGTH);
+    requests();
+    memcpy(before, beat, sizeof beat);
+    expect("gm_send_heartbeat", gm_send_heartbeat(GM_MODE_ALWAYS, state, sizeof state, 0, 0, 9, 2, carried, 2, beat, 1, &sent), GM_REFUSED_NUMBER);
+    expect("gm_send_heartbeat", gm_send_heartbeat(GM_MODE_ALWAYS, state, sizeof state, 0, 0, 9, GM_CHANNEL_A, carried, 2, beat, sizeof beat, &sent),
+           GM_REFUSED_LENGTH);
     unchanged("gm_send_heartbeat", before, beat, sizeof beat);
-    expect("gm_send_heartbeat", gm_send_heartbeat(state, sizeof state, 0, 0, 9, GM_CHANNEL_A, carried, sizeof carried, beat, sizeof beat, &sent), 0);
+    expect("gm_send_heartbeat", gm_send_heartbeat(GM_MODE_ALWAYS, state, sizeof state, 0, 0, 9, GM_CHANNEL_A, carried, sizeof carried, beat, sizeof beat,
+                                                  &sent), 0);
     expect("sent", sent != 1 || memcmp(beat + 7, carried, sizeof carried) != 0, 0);
     entries--;
 }
@@ -166,13 +199,13 @@ static void views_and_votes(void)
 {
     uint64_t view = 0, arrived = 0;
     uint32_t sent = 7;
-    expect("gm_view", gm_view(state, sizeof state, 0x0d, 0, &view), 0);
-    expect("gm_view", gm_view(state, 0, 0x0d, 0, &view), GM_REFUSED_LENGTH);
+    expect("gm_view", gm_view(GM_MODE_ALWAYS, state, sizeof state, 0x0d, 0, &view), 0);
+    expect("gm_view", gm_view(GM_MODE_ALWAYS, state, 0, 0x0d, 0, &view), GM_REFUSED_LENGTH);
     for (uint32_t ch = 0; ch < 2; ch++)
-        if (gm_send_vote(state, sizeof state, 0x0d, 0, 9, ch, frame[ch], sizeof frame[ch], &sent) != 0)
+        if (gm_send_vote(GM_MODE_ALWAYS, state, sizeof state, 0x0d, 0, 0, 9, ch, frame[ch], sizeof frame[ch], &sent) != 0)
             exit(1);
     expect("gm_send_vote", sent != 1 || view != 0x0f, 0);
-    expect("gm_send_vote", gm_send_vote(state, sizeof state, 0x0d, 0, 9, 0, frame[0], 35, &sent), GM_REFUSED_LENGTH);
+    expect("gm_send_vote", gm_send_vote(GM_MODE_ALWAYS, state, sizeof state, 0x0d, 0, 0, 9, 0, frame[0], 35, &sent), GM_REFUSED_LENGTH);
     expect("gm_receive_vote", gm_receive_vote(5, 1, 9, frame[0], 36, frame[1], 36, votes, sizeof votes, &arrived), 0);
     expect("gm_receive_vote", gm_receive_vote(5, 1, 9, frame[0], 36, frame[1], 36, votes, 1, &arrived), GM_REFUSED_LENGTH);
     expect("gm_read_vote", gm_read_vote(5, 1, 9, 0, frame[0], 36, payload, sizeof payload), 0);
@@ -197,7 +230,7 @@ static void stop_node_2(uint8_t group, uint8_t number_after)
         memset(row + q * GM_STATE_BYTES + 4, group, 4);
     }
     cycle[STOP_LOWEST] = 4;
-    expect("gm_cycle", gm_cycle(3, row, sizeof row, cycle, CYCLE), 0);
+    expect("gm_cycle", gm_cycle(3, GM_MODE_ALWAYS, row, sizeof row, cycle, CYCLE), 0);
     cycle[STOP_LOWEST] = 0;
     expect("group number", row[7] != number_after || row[4] != 0 || row[15] != 3 || row[2 * GM_STATE_BYTES] != 0, 0);
     entries -= 2;
@@ -210,9 +243,9 @@ static void shown(const uint8_t *frames, uint32_t part, uint32_t channel, uint32
     uint32_t sent = 0;
     gm_begin(3, node, 7, begun, sizeof begun);
     if (part == 0)
-        gm_send_heartbeat(begun, sizeof begun, 0, 0, 0, channel, begun, 0, slot, GM_HEARTBEAT_BYTES, &sent);
+        gm_send_heartbeat(GM_MODE_ALWAYS, begun, sizeof begun, 0, 0, 0, channel, begun, 0, slot, GM_HEARTBEAT_BYTES, &sent);
     else
-        gm_send_vote(begun, sizeof begun, 7, 0, 0, channel, slot, sizeof slot, &sent);
+        gm_send_vote(GM_MODE_ALWAYS, begun, sizeof begun, 7, 0, 0, 0, channel, slot, sizeof slot, &sent);
     if (sent != 1 || memcmp(frames + GM_VOTE_FRAME_BYTES * (size_t)(64 * (2 * part + channel) + node), slot, sizeof slot) != 0) {
         fprintf(stderr, "gm_run_frames shows another frame of node %u\n", (unsigned)node);
         exit(1);
@@ -235,12 +268,12 @@ static void through_frames(uint8_t *row, size_t row_len)
     static uint8_t frames[GM_FRAMES_BYTES + 1], kept[sizeof frames];
     memset(frames, 0xA5, sizeof frames);
     memcpy(kept, frames, sizeof frames);
-    expect("gm_run_frames", gm_run_frames(row, row_len, table, 1, frames, 0), GM_REFUSED_CUT);
-    expect("gm_run_frames", gm_run_frames(row, row_len, table, sizeof table, frames, GM_FRAMES_BYTES - 1), GM_REFUSED_LENGTH);
-    expect("gm_run_frames", gm_run_frames(row, row_len, table, sizeof table, frames, GM_FRAMES_BYTES + 1), GM_REFUSED_LENGTH);
-    expect("gm_run_frames", gm_run_frames(row, row_len, table, FIRST, frames, GM_FRAMES_BYTES), 0);
+    expect("gm_run_frames", gm_run_frames(GM_MODE_ALWAYS, row, row_len, table, 1, frames, 0), GM_REFUSED_CUT);
+    expect("gm_run_frames", gm_run_frames(GM_MODE_ALWAYS, row, row_len, table, sizeof table, frames, GM_FRAMES_BYTES - 1), GM_REFUSED_LENGTH);
+    expect("gm_run_frames", gm_run_frames(GM_MODE_ALWAYS, row, row_len, table, sizeof table, frames, GM_FRAMES_BYTES + 1), GM_REFUSED_LENGTH);
+    expect("gm_run_frames", gm_run_frames(GM_MODE_ALWAYS, row, row_len, table, FIRST, frames, GM_FRAMES_BYTES), 0);
     unchanged("gm_run_frames", frames, kept, sizeof frames);
-    expect("gm_run_frames", gm_run_frames(row, row_len, table, sizeof table, frames, GM_FRAMES_BYTES), 0);
+    expect("gm_run_frames", gm_run_frames(GM_MODE_ALWAYS, row, row_len, table, sizeof table, frames, GM_FRAMES_BYTES), 0);
     for (uint32_t k = 0; k < 3 * 4; k++)
         shown(frames, k / 6, k / 3 % 2, k % 3);
     others_zero(frames);
@@ -253,16 +286,16 @@ static void rows(void)
     uint8_t row[3 * GM_STATE_BYTES], framed[sizeof row];
     memset(row, 0xA5, sizeof row);
     memcpy(framed, row, sizeof row);
-    expect("gm_run", gm_run(row, sizeof row, table, sizeof table - 1), GM_REFUSED_CUT);
-    expect("gm_run", gm_run(row, sizeof row - GM_STATE_BYTES, table, sizeof table), GM_REFUSED_LENGTH);
-    expect("gm_cycle", gm_cycle(3, row, sizeof row, cycle, CYCLE), GM_REFUSED_STATE);
+    expect("gm_run", gm_run(GM_MODE_ALWAYS, row, sizeof row, table, sizeof table - 1), GM_REFUSED_CUT);
+    expect("gm_run", gm_run(GM_MODE_ALWAYS, row, sizeof row - GM_STATE_BYTES, table, sizeof table), GM_REFUSED_LENGTH);
+    expect("gm_cycle", gm_cycle(3, GM_MODE_ALWAYS, row, sizeof row, cycle, CYCLE), GM_REFUSED_STATE);
     unchanged("gm_run", framed, row, sizeof row);
-    expect("gm_run", gm_run(row, sizeof row, table, sizeof table), 0);
+    expect("gm_run", gm_run(GM_MODE_ALWAYS, row, sizeof row, table, sizeof table), 0);
     through_frames(framed, sizeof framed);
     unchanged("gm_run_frames", framed, row, sizeof row);
-    expect("gm_cycle", gm_cycle(3, row, sizeof row, cycle, CYCLE), 0);
-    expect("gm_cycle", gm_cycle(3, row, sizeof row, table, CYCLE + FIRST), GM_REFUSED_LENGTH);
-    expect("gm_cycle", gm_cycle(3, row, sizeof row, table, CYCLE), GM_REFUSED_KIND);
+    expect("gm_cycle", gm_cycle(3, GM_MODE_ALWAYS, row, sizeof row, cycle, CYCLE), 0);
+    expect("gm_cycle", gm_cycle(3, GM_MODE_ALWAYS, row, sizeof row, table, CYCLE + FIRST), GM_REFUSED_LENGTH);
+    expect("gm_cycle", gm_cycle(3, GM_MODE_ALWAYS, row, sizeof row, table, CYCLE), GM_REFUSED_KIND);
     unchanged("gm_cycle", framed, row, sizeof row);
     stop_node_2(0, 1);
     stop_node_2(0xFF, 0);
@@ -287,18 +320,20 @@ static void left(const char *entry)
 static void registers_refused(void)
 {
     uint8_t *block = lent.block;
-    expect("gm_register_read", gm_register_read(block, sizeof lent.block, 64, lent.value + 1), GM_REFUSED_ADDRESS);
-    expect("gm_register_write", gm_register_write(block, sizeof lent.block, UINT32_MAX, 7), GM_REFUSED_ADDRESS);
-    expect("gm_register_write_cycle", gm_register_write_cycle(block, sizeof lent.block, 64, 7, 0, 0, lent.votes, sizeof lent.votes, 0), GM_REFUSED_ADDRESS);
+    expect("gm_register_read", gm_register_read(GM_MODE_ALWAYS, block, sizeof lent.block, 64, lent.value + 1), GM_REFUSED_ADDRESS);
+    expect("gm_register_write", gm_register_write(GM_MODE_ALWAYS, block, sizeof lent.block, UINT32_MAX, 7), GM_REFUSED_ADDRESS);
+    expect("gm_register_write_cycle", gm_register_write_cycle(GM_MODE_ALWAYS, block, sizeof lent.block, 64, 7, 0, 0, 0, lent.votes, sizeof lent.votes, 0),
+           GM_REFUSED_ADDRESS);
     block[40] = due.block[40] = 1;
-    expect("gm_register_read", gm_register_read(block, sizeof lent.block, 64, lent.value + 1), GM_REFUSED_STATE);
-    expect("gm_register_write", gm_register_write(block, sizeof lent.block, 64, 7), GM_REFUSED_STATE);
-    expect("gm_register_cycle", gm_register_cycle(block, sizeof lent.block, 0, 0, lent.votes, sizeof lent.votes, 0), GM_REFUSED_STATE);
-    expect("gm_register_write_cycle", gm_register_write_cycle(block, sizeof lent.block, 64, 7, 0, 0, lent.votes, sizeof lent.votes, 0), GM_REFUSED_STATE);
-    expect("gm_register_read", gm_register_read(block, sizeof lent.block - 1, 64, lent.value + 1), GM_REFUSED_LENGTH);
-    expect("gm_register_write", gm_register_write(block, GM_STATE_BYTES, 64, 7), GM_REFUSED_LENGTH);
-    expect("gm_register_cycle", gm_register_cycle(block, sizeof lent.block, 0, 0, lent.votes, sizeof lent.votes - 1, 0), GM_REFUSED_LENGTH);
-    expect("gm_register_write_cycle", gm_register_write_cycle(block, 0, 64, 7, 0, 0, lent.votes, 0, 0), GM_REFUSED_LENGTH);
+    expect("gm_register_read", gm_register_read(GM_MODE_ALWAYS, block, sizeof lent.block, 64, lent.value + 1), GM_REFUSED_STATE);
+    expect("gm_register_write", gm_register_write(GM_MODE_ALWAYS, block, sizeof lent.block, 64, 7), GM_REFUSED_STATE);
+    expect("gm_register_cycle", gm_register_cycle(GM_MODE_ALWAYS, block, sizeof lent.block, 0, 0, 0, lent.votes, sizeof lent.votes, 0), GM_REFUSED_STATE);
+    expect("gm_register_write_cycle", gm_register_write_cycle(GM_MODE_ALWAYS, block, sizeof lent.block, 64, 7, 0, 0, 0, lent.votes, sizeof lent.votes, 0),
+           GM_REFUSED_STATE);
+    expect("gm_register_read", gm_register_read(GM_MODE_ALWAYS, block, sizeof lent.block - 1, 64, lent.value + 1), GM_REFUSED_LENGTH);
+    expect("gm_register_write", gm_register_write(GM_MODE_ALWAYS, block, GM_STATE_BYTES, 64, 7), GM_REFUSED_LENGTH);
+    expect("gm_register_cycle", gm_register_cycle(GM_MODE_ALWAYS, block, sizeof lent.block, 0, 0, 0, lent.votes, sizeof lent.votes - 1, 0), GM_REFUSED_LENGTH);
+    expect("gm_register_write_cycle", gm_register_write_cycle(GM_MODE_ALWAYS, block, 0, 64, 7, 0, 0, 0, lent.votes, 0, 0), GM_REFUSED_LENGTH);
     block[40] = due.block[40] = 0;
     left("an entry that refused a block");
 }
@@ -312,17 +347,18 @@ static void registers(void)
     gm_begin(5, 1, 0x1f, lent.block, GM_STATE_BYTES);
     due = lent;
     registers_refused();
-    expect("gm_register_write", gm_register_write(lent.block, sizeof lent.block, GM_REGISTER_ENABLES, 0xFF), 0);
+    expect("gm_register_write", gm_register_write(GM_MODE_ALWAYS, lent.block, sizeof lent.block, GM_REGISTER_ENABLES, 0xFF), 0);
     due.block[25] = 7;
     left("gm_register_write");
-    expect("gm_register_read", gm_register_read(lent.block, sizeof lent.block, GM_REGISTER_ENABLES, lent.value + 1), 0);
+    expect("gm_register_read", gm_register_read(GM_MODE_ALWAYS, lent.block, sizeof lent.block, GM_REGISTER_ENABLES, lent.value + 1), 0);
     due.value[1] = 7;
     left("gm_register_read");
-    expect("gm_register_cycle", gm_register_cycle(lent.block, sizeof lent.block, 0, 0, lent.votes, sizeof lent.votes, 0), 0);
+    expect("gm_register_cycle", gm_register_cycle(GM_MODE_ALWAYS, lent.block, sizeof lent.block, 0, 0, 0, lent.votes, sizeof lent.votes, 0), 0);
     memcpy(due.block, halted, sizeof halted);
     left("gm_register_cycle");
     expect("gm_register_write_cycle",
-           gm_register_write_cycle(lent.block, sizeof lent.block, GM_REGISTER_COMMAND, GM_COMMAND_START, 0, 0, lent.votes, sizeof lent.votes, 0), 0);
+           gm_register_write_cycle(GM_MODE_ALWAYS, lent.block, sizeof lent.block, GM_REGISTER_COMMAND, GM_COMMAND_START, 0, 0, 0, lent.votes,
+                                   sizeof lent.votes, 0), 0);
     due.block[0] = 1;
     due.block[1] = 0;
     left("gm_register_write_cycle");
@@ -336,8 +372,8 @@ int main(void)
     views_and_votes();
     rows();
     registers();
-    expect("gm_decide", gm_decide(state, sizeof state, 0x1d, 0, votes, sizeof votes, 0), 0);
-    expect("gm_decide", gm_decide(state, sizeof state, 0x1d, 0, votes, sizeof votes - 1, 0), GM_REFUSED_LENGTH);
+    expect("gm_decide", gm_decide(GM_MODE_ALWAYS, state, sizeof state, 0x1d, 0, 0, votes, sizeof votes, 0), 0);
+    expect("gm_decide", gm_decide(GM_MODE_ALWAYS, state, sizeof state, 0x1d, 0, 0, votes, sizeof votes - 1, 0), GM_REFUSED_LENGTH);
     printf("%u\n", entries);
     return 0;
 }

@@ -1,17 +1,16 @@
 /*
- * The calls of tests/vectors/t02 on the archive: the status, the results and every byte of the frame or of the buffer for drive bytes after each call, and that
- * no byte beside these, or of what is only read, is written. The README beside the file says its form. Prints how many lines of each kind and how many calls
- * agree; the first difference ends it, with the line.
+ * The calls of tests/vectors/t02 on the archive, for a press that votes in every cycle: the status, the results and every byte of the frame or of the buffer
+ * for drive bytes after each call, and that no byte beside these, or of what is only read, is written. The README beside the file says its form. Prints how
+ * many lines of each kind and how many calls agree; the first difference ends it, with the line.
  * Usage: heartbeats FILE
  */
-#include "gm.h"
 #include "lines.h"
 
 enum { GUARD = 64, MOST_BYTES = 1024, FILL = 0xA5, NO_NUMBER = 0x5A5A5A5A, JOIN_AT = 5, DRIVE_AT = 7 };
 
-/* two buffers that a call reads and one that it writes, each between guard bytes; two results, with numbers around them; what is to stand there afterwards */
+/* two buffers that a call reads and one that it writes, each between guard bytes; three results, with numbers around them; what is to stand there afterwards */
 enum { FIRST, SECOND, WRITTEN, BUFFERS };
-enum { ANSWER = 1, NUMBER = 3, NUMBERS = 5 };
+enum { ANSWER = 1, NUMBER = 3, REQUEST = 5, NUMBERS = 7 };
 static uint8_t buffers[BUFFERS][GUARD + MOST_BYTES + GUARD], buffers_due[BUFFERS][sizeof *buffers];
 static uint32_t numbers[NUMBERS], numbers_due[NUMBERS];
 
@@ -77,8 +76,8 @@ static void write_from_numbers(char **field)
 {
     uint32_t status;
     lend(field[8], "-", decimal(field[9]));
-    status = gm_write_heartbeat(decimal(field[1]), decimal(field[2]), decimal(field[3]), decimal(field[4]), decimal(field[5]), decimal(field[6]),
-                                decimal(field[7]), first, first_len, written, written_len);
+    status = gm_write_heartbeat(decimal(field[1]), GM_MODE_ALWAYS, decimal(field[2]), decimal(field[3]), 0, decimal(field[4]), decimal(field[5]),
+                                decimal(field[6]), decimal(field[7]), first, first_len, written, written_len);
     leaves(field[11]);
     settle(status, decimal(field[10]));
 }
@@ -87,7 +86,8 @@ static void send_from_state(char **field)
 {
     uint32_t status;
     lend(field[1], field[6], decimal(field[7]));
-    status = gm_send_heartbeat(first, first_len, decimal(field[2]), decimal(field[3]), decimal(field[4]), decimal(field[5]), second, second_len, written,
+    status = gm_send_heartbeat(GM_MODE_ALWAYS, first, first_len, decimal(field[2]), decimal(field[3]), decimal(field[4]), decimal(field[5]), second,
+                               second_len, written,
                                written_len, &numbers[ANSWER]);
     gives(ANSWER, field[9]);
     leaves(field[10]);
@@ -97,8 +97,16 @@ static void send_from_state(char **field)
 /* the four numbers and the frame stand at the same places in three kinds of line; of a frame that was lent longer, the front */
 static uint32_t read_front(char **field, size_t frame_len)
 {
-    return gm_read_heartbeat(decimal(field[1]), decimal(field[2]), decimal(field[3]), decimal(field[4]), first, frame_len, written, written_len,
-                             &numbers[ANSWER], &numbers[NUMBER]);
+    return gm_read_heartbeat(decimal(field[1]), GM_MODE_ALWAYS, decimal(field[2]), decimal(field[3]), decimal(field[4]), first, frame_len, written, written_len,
+                             &numbers[ANSWER], &numbers[REQUEST], &numbers[NUMBER]);
+}
+
+/* no heartbeat of such a press requests */
+static void settle_read(uint32_t status, uint32_t status_due)
+{
+    if (status_due == 0)
+        numbers_due[REQUEST] = 0;
+    settle(status, status_due);
 }
 
 static void read_copy(char **field)
@@ -109,14 +117,15 @@ static void read_copy(char **field)
     gives(ANSWER, field[8]);
     gives(NUMBER, field[9]);
     leaves(field[10]);
-    settle(status, decimal(field[7]));
+    settle_read(status, decimal(field[7]));
 }
 
 static void receive_copies(char **field)
 {
     uint32_t status;
     lend(field[4], field[5], decimal(field[6]));
-    status = gm_receive_heartbeat(decimal(field[1]), decimal(field[2]), decimal(field[3]), first, first_len, second, second_len, written, written_len,
+    status = gm_receive_heartbeat(decimal(field[1]), GM_MODE_ALWAYS, decimal(field[2]), decimal(field[3]), first, first_len, second, second_len, written,
+                                  written_len,
                                   &numbers[ANSWER], &numbers[NUMBER]);
     gives(ANSWER, field[8]);
     gives(NUMBER, field[9]);
@@ -135,7 +144,7 @@ static void read_by_status(char **field, size_t frame_len, char status_due)
         numbers_due[NUMBER] = (uint32_t)(frame_len - GM_HEARTBEAT_BYTES);
         memcpy(buffers_due[WRITTEN] + GUARD, first + DRIVE_AT, numbers_due[NUMBER]);
     }
-    settle(status, (uint32_t)(status_due - '0'));
+    settle_read(status, (uint32_t)(status_due - '0'));
 }
 
 static void read_every_length(char **field)

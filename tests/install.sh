@@ -1,6 +1,6 @@
 #!/usr/bin/env bash
 # Whether `make install` places what it should, a host and a table need nothing beside it, and `make uninstall` takes away that and nothing else.
-# Usage: install.sh, after make archive, target/bin/grouprun and target/c/tabletext
+# Usage: install.sh, after make archive, target/bin/grouprun, target/bin/quietrun and target/c/tabletext
 set -euo pipefail
 cd "$(dirname "$0")/.."
 work=$(mktemp -d)
@@ -12,10 +12,10 @@ quiet_make() { env -u MAKEFLAGS -u MAKELEVEL make --silent "$@"; }
 files() { (cd "$1" && find . ! -type d -printf '%m %P\n' | sort -k 2); }
 
 expected() {
-    printf '755 bin/%s\n' grouprun tabletext
+    printf '755 bin/%s\n' grouprun quietrun tabletext
     printf '644 %s\n' include/gm{,_refusal}.h lib/libgm.a lib/pkgconfig/gm.pc lib/cmake/gm/gm-config{,-version}.cmake
-    printf '644 share/man/%s\n' man1/{grouprun,tabletext}.1 man3/gm.3
-    printf '644 share/doc/gm/%s\n' {CHANGELOG,CLAIMS,DECISIONS,DEMANDS,LIMITS,SAFETY}.md examples/{host,card}.{c,out} examples/p{1,2,3,4,5,6,7,8,9,10}.{out,txt}
+    printf '644 share/man/%s\n' man1/{grouprun,quietrun,tabletext}.1 man3/gm.3
+    printf '644 share/doc/gm/%s\n' {CHANGELOG,CLAIMS,DECISIONS,DEMANDS,LIMITS,SAFETY}.md examples/{host,card}.{c,out} examples/{p{1,2,3,4,5,6,7,8,9,10},quiet}.{out,txt}
 }
 
 # the same files with and without DESTDIR, which stands in none of them
@@ -81,13 +81,14 @@ check_cmake() {
 
 check_run() {
     "$prefix/bin/tabletext" table <examples/p1.txt | "$prefix/bin/grouprun" | cmp - examples/p1.out || fail "grouprun prints another run"
-    tried+=("a table")
+    "$prefix/bin/tabletext" table <"$prefix/share/doc/gm/examples/quiet.txt" | "$prefix/bin/quietrun" | cmp - examples/quiet.out || fail "quietrun prints another run"
+    tried+=("two tables")
 }
 
 check_manuals() {
     local page warnings
     command -v groff >/dev/null || { tried+=("manual pages NOT TRIED, since groff is not installed"); return; }
-    for page in grouprun.1 tabletext.1 gm.3; do
+    for page in grouprun.1 quietrun.1 tabletext.1 gm.3; do
         warnings=$(groff -man -Tascii -P-c -ww "$prefix/share/man/man${page#*.}/$page" 2>&1 >"$work/page") || fail "$page: $warnings"
         [ -z "$warnings" ] || fail "$page: $warnings"
         grep -q "^ *${page%.*} - " "$work/page" || fail "$page does not say what it is about"

@@ -43,9 +43,27 @@ static void states(void)
     uint32_t kind = 9, reason = 9, node = 9, n = 9, number = 9;
     uint64_t set = 9, base = 9;
     member(state);
-    hold(gm_state(state, sizeof state, &kind, &reason, &node, &n, &number, &set, &base) == GM_OK, "a member is refused");
+    hold(gm_state(GM_MODE_ALWAYS, state, sizeof state, &kind, &reason, &node, &n, &number, &set, &base) == GM_OK, "a member is refused");
     hold(kind == GM_KIND_MEMBER && reason == GM_REASON_STOPPED && node == 3 && n == 9, "kind, reason, node or n stands elsewhere");
     hold(number == 0x01020304 && set == 0x0F8 && base == 0x1F9, "number, set or base stands elsewhere");
+}
+
+/* in a quiet press a member that will request votes says so, and its heartbeat says it */
+static void requests(void)
+{
+    static const uint8_t none[1] = {0};
+    uint8_t state[GM_STATE_BYTES], beat[GM_HEARTBEAT_BYTES], drive[GM_DRIVE_BYTES];
+    uint32_t heard = 7, number = 7, sent = 7;
+    uint64_t view = 7;
+    member(state);
+    state[GM_STATE_AT_REASON] = 1;
+    hold(gm_view(GM_MODE_QUIET, state, sizeof state, 0, 0, &view) == GM_OK && view == 8, "a member that requests is refused");
+    hold(gm_view(GM_MODE_ALWAYS, state, sizeof state, 0, 0, &view) == GM_REFUSED_STATE, "a member requests where votes are sent in every cycle");
+    hold(gm_view(GM_MODE_QUIET + 1U, state, sizeof state, 0, 0, &view) == GM_REFUSED_NUMBER, "there is a third mode");
+    hold(gm_send_heartbeat(GM_MODE_QUIET, state, sizeof state, 0, 0, 5, GM_CHANNEL_B, none, 0, beat, sizeof beat, &sent) == GM_OK && sent == 1, "no heartbeat");
+    hold(beat[5] == 0x40U && beat[6] == 0, "the request stands elsewhere");
+    hold(gm_receive_heartbeat(9, GM_MODE_QUIET, 3, 5, none, 0, beat, sizeof beat, drive, sizeof drive, &heard, &number) == GM_OK, "a request is refused");
+    hold(heard == GM_HEARD_REQUEST, "a request is not heard");
 }
 
 /* the votes of units 1 and 2 of three, with group number 0 */
@@ -63,25 +81,28 @@ static void reasons(void)
 {
     uint8_t state[GM_STATE_BYTES], votes[GM_VOTES_BYTES] = {0};
     member(state);
-    hold(gm_decide(state, sizeof state, 0, 0, votes, sizeof votes, 0) == GM_OK && state[GM_STATE_AT_KIND] == GM_KIND_OUT, "a lonely member does not halt");
+    hold(gm_decide(GM_MODE_ALWAYS, state, sizeof state, 0, 0, 0, votes, sizeof votes, 0) == GM_OK && state[GM_STATE_AT_KIND] == GM_KIND_OUT,
+         "a lonely member does not halt");
     hold(state[GM_STATE_AT_REASON] == GM_REASON_NO_QUORUM, "its reason is another");
     gm_begin(3, 0, 7, state, sizeof state);
     put_votes(votes, 7, 6);
-    hold(gm_decide(state, sizeof state, 6, 0, votes, sizeof votes, 6) == GM_OK && state[GM_STATE_AT_REASON] == GM_REASON_OUTVOTED, "nobody is outvoted");
-    hold(gm_start(state, sizeof state) == GM_OK && state[GM_STATE_AT_KIND] == GM_KIND_JOINING, "a start does not make it joining");
-    hold(gm_stop(state, sizeof state) == GM_OK && state[GM_STATE_AT_REASON] == GM_REASON_STOPPED, "a stop leaves a reason");
+    hold(gm_decide(GM_MODE_ALWAYS, state, sizeof state, 6, 0, 0, votes, sizeof votes, 6) == GM_OK && state[GM_STATE_AT_REASON] == GM_REASON_OUTVOTED,
+         "nobody is outvoted");
+    hold(gm_start(GM_MODE_ALWAYS, state, sizeof state) == GM_OK && state[GM_STATE_AT_KIND] == GM_KIND_JOINING, "a start does not make it joining");
+    hold(gm_stop(GM_MODE_ALWAYS, state, sizeof state) == GM_OK && state[GM_STATE_AT_REASON] == GM_REASON_STOPPED, "a stop leaves a reason");
 }
 
 static uint32_t reads(const uint8_t *block, uint32_t address)
 {
     uint32_t value = UINT32_MAX;
-    hold(gm_register_read(block, GM_REGISTERS_BYTES, address, &value) == GM_OK && value == block[address], "a register is refused, or reads as another");
+    hold(gm_register_read(GM_MODE_ALWAYS, block, GM_REGISTERS_BYTES, address, &value) == GM_OK && value == block[address],
+         "a register is refused, or reads as another");
     return value;
 }
 
 static void writes(uint8_t *block, uint32_t address, uint32_t value)
 {
-    hold(gm_register_write(block, GM_REGISTERS_BYTES, address, (uint8_t)value) == GM_OK, "a write to a register is refused");
+    hold(gm_register_write(GM_MODE_ALWAYS, block, GM_REGISTERS_BYTES, address, (uint8_t)value) == GM_OK, "a write to a register is refused");
 }
 
 /* one of three founders, which loses another one, halts, is started, enters and is stopped; the first two flags are acknowledged together with a cycle, the third by a write alone */
@@ -93,14 +114,15 @@ static void registers(void)
     writes(block, GM_REGISTER_ENABLES, UINT8_MAX);
     hold(reads(block, GM_REGISTER_ENABLES) == all && reads(block, GM_REGISTER_PENDING) == 0, "enables stand elsewhere, or are not those of the flags");
     put_votes(votes, 7, 3);
-    hold(gm_register_cycle(block, sizeof block, 2, 0, votes, sizeof votes, 2) == GM_OK, "a cycle of a block is refused");
+    hold(gm_register_cycle(GM_MODE_ALWAYS, block, sizeof block, 2, 0, 0, votes, sizeof votes, 2) == GM_OK, "a cycle of a block is refused");
     hold(reads(block, GM_REGISTER_FLAGS) == GM_FLAG_CHANGED && reads(block, GM_REGISTER_PENDING) == 1, "a changed set raises no flag, or another");
-    hold(gm_register_write_cycle(block, sizeof block, GM_REGISTER_FLAGS, GM_FLAG_CHANGED, 0, 0, votes, sizeof votes, 0) == GM_OK, "a joint step is refused");
+    hold(gm_register_write_cycle(GM_MODE_ALWAYS, block, sizeof block, GM_REGISTER_FLAGS, GM_FLAG_CHANGED, 0, 0, 0, votes, sizeof votes, 0) == GM_OK,
+         "a joint step is refused");
     hold(reads(block, GM_REGISTER_FLAGS) == GM_FLAG_HALTED, "a halt raises no flag, or another");
     writes(block, GM_REGISTER_COMMAND, GM_COMMAND_START);
     hold(reads(block, GM_STATE_AT_KIND) == GM_KIND_JOINING && reads(block, GM_REGISTER_COMMAND) == 0, "no start is commanded");
     put_votes(votes, 6, 7);
-    gm_register_write_cycle(block, sizeof block, GM_REGISTER_FLAGS, GM_FLAG_HALTED, 6, 0, votes, sizeof votes, 6);
+    gm_register_write_cycle(GM_MODE_ALWAYS, block, sizeof block, GM_REGISTER_FLAGS, GM_FLAG_HALTED, 6, 0, 0, votes, sizeof votes, 6);
     hold(reads(block, GM_REGISTER_FLAGS) == GM_FLAG_ENTERED, "an entry raises no flag, or another");
     writes(block, GM_REGISTER_COMMAND, GM_COMMAND_STOP);
     hold(reads(block, GM_STATE_AT_KIND) == GM_KIND_OUT && reads(block, GM_STATE_AT_REASON) == GM_REASON_STOPPED, "no stop is commanded");
@@ -116,10 +138,10 @@ static void last_register(void)
     uint32_t value = 9;
     gm_begin(3, 0, 7, block, GM_STATE_BYTES);
     hold(reads(block, GM_REGISTERS_BYTES - 1U) == 0, "the last register is another");
-    hold(gm_register_read(block, GM_REGISTERS_BYTES, GM_REGISTERS_BYTES, &value) == GM_REFUSED_ADDRESS, "a register too many");
+    hold(gm_register_read(GM_MODE_ALWAYS, block, GM_REGISTERS_BYTES, GM_REGISTERS_BYTES, &value) == GM_REFUSED_ADDRESS, "a register too many");
     block[GM_REGISTER_COMMAND] = 1;
-    hold(gm_register_write(block, GM_REGISTERS_BYTES, GM_REGISTERS_BYTES, 0) == GM_REFUSED_STATE, "a command stands in a block");
-    hold(gm_register_write(block, sizeof block, GM_REGISTERS_BYTES, 0) == GM_REFUSED_LENGTH, "a block of another length is refused otherwise");
+    hold(gm_register_write(GM_MODE_ALWAYS, block, GM_REGISTERS_BYTES, GM_REGISTERS_BYTES, 0) == GM_REFUSED_STATE, "a command stands in a block");
+    hold(gm_register_write(GM_MODE_ALWAYS, block, sizeof block, GM_REGISTERS_BYTES, 0) == GM_REFUSED_LENGTH, "a block of another length is refused otherwise");
     hold(value == 9, "a refused read gives a value");
 }
 
@@ -133,15 +155,16 @@ static uint32_t slot_of(const uint8_t *frame)
 static uint32_t write_beat(uint32_t n, uint32_t node, uint32_t cycle, uint32_t channel, uint8_t *beat)
 {
     static const uint8_t none[1] = {0};
-    return gm_write_heartbeat(n, node, 0, 0, 0, cycle, channel, none, 0, beat, GM_HEARTBEAT_BYTES);
+    return gm_write_heartbeat(n, GM_MODE_ALWAYS, node, 0, 0, 0, 0, cycle, channel, none, 0, beat, GM_HEARTBEAT_BYTES);
 }
 
 /* accepted, it has no drive bytes */
 static uint32_t read_beat(uint32_t n, uint32_t node, uint32_t cycle, uint32_t channel, const uint8_t *beat, size_t len)
 {
     uint8_t drive[GM_DRIVE_BYTES];
-    uint32_t join = 7, number = 7, status = gm_read_heartbeat(n, node, cycle, channel, beat, len, drive, sizeof drive, &join, &number);
-    hold(status != GM_OK || number == 0, "a heartbeat without drive bytes is read with some");
+    uint32_t join = 7, request = 7, number = 7;
+    uint32_t status = gm_read_heartbeat(n, GM_MODE_ALWAYS, node, cycle, channel, beat, len, drive, sizeof drive, &join, &request, &number);
+    hold(status != GM_OK || (number == 0 && request == 0), "a heartbeat without drive bytes is read with some, or with a request");
     return status;
 }
 
@@ -150,7 +173,7 @@ static uint32_t receive_beat(const uint8_t *a, size_t a_len, const uint8_t *b, s
 {
     uint8_t drive[GM_DRIVE_BYTES];
     uint32_t heard = 7, number = 7;
-    hold(gm_receive_heartbeat(9, 3, 5, a, a_len, b, b_len, drive, sizeof drive, &heard, &number) == GM_OK, "copies of a heartbeat are refused");
+    hold(gm_receive_heartbeat(9, GM_MODE_ALWAYS, 3, 5, a, a_len, b, b_len, drive, sizeof drive, &heard, &number) == GM_OK, "copies of a heartbeat are refused");
     hold(number == 0, "a heartbeat without drive bytes is received with some");
     return heard;
 }
@@ -159,14 +182,19 @@ static uint32_t receive_beat(const uint8_t *a, size_t a_len, const uint8_t *b, s
 static void drive_bytes(void)
 {
     static uint8_t drive[GM_DRIVE_BYTES + 2U], frame[GM_HEARTBEAT_MOST_BYTES + 2U], got[GM_DRIVE_BYTES + 1U];
-    uint32_t join = 7, number = 7;
+    uint32_t join = 7, request = 7, number = 7;
     for (size_t i = 0; i < sizeof drive; i++)
         drive[i] = (uint8_t)(3U * i + 1U);
-    hold(gm_write_heartbeat(9, 3, 1, 0, 0, 5, GM_CHANNEL_A, drive, GM_DRIVE_BYTES, frame, GM_HEARTBEAT_MOST_BYTES) == GM_OK, "a heartbeat of most drive bytes is refused");
-    hold(gm_write_heartbeat(9, 3, 1, 0, 0, 5, GM_CHANNEL_A, drive, sizeof drive, frame, sizeof frame) == GM_REFUSED_LENGTH, "two drive bytes too many");
-    hold(gm_write_heartbeat(9, 3, 1, 0, 0, 5, GM_CHANNEL_A, drive, 1, frame, GM_HEARTBEAT_BYTES + 1U) == GM_REFUSED_LENGTH, "an odd number of drive bytes");
-    hold(gm_read_heartbeat(9, 3, 5, GM_CHANNEL_A, frame, GM_HEARTBEAT_MOST_BYTES, got, sizeof got, &join, &number) == GM_REFUSED_LENGTH, "a longer buffer is filled");
-    hold(gm_read_heartbeat(9, 3, 5, GM_CHANNEL_A, frame, GM_HEARTBEAT_MOST_BYTES, got, GM_DRIVE_BYTES, &join, &number) == GM_OK, "the longest heartbeat is not read");
+    hold(gm_write_heartbeat(9, GM_MODE_ALWAYS, 3, 1, 0, 0, 0, 5, GM_CHANNEL_A, drive, GM_DRIVE_BYTES, frame, GM_HEARTBEAT_MOST_BYTES) == GM_OK,
+         "a heartbeat of most drive bytes is refused");
+    hold(gm_write_heartbeat(9, GM_MODE_ALWAYS, 3, 1, 0, 0, 0, 5, GM_CHANNEL_A, drive, sizeof drive, frame, sizeof frame) == GM_REFUSED_LENGTH,
+         "two drive bytes too many");
+    hold(gm_write_heartbeat(9, GM_MODE_ALWAYS, 3, 1, 0, 0, 0, 5, GM_CHANNEL_A, drive, 1, frame, GM_HEARTBEAT_BYTES + 1U) == GM_REFUSED_LENGTH,
+         "an odd number of drive bytes");
+    hold(gm_read_heartbeat(9, GM_MODE_ALWAYS, 3, 5, GM_CHANNEL_A, frame, GM_HEARTBEAT_MOST_BYTES, got, sizeof got, &join, &request,
+                           &number) == GM_REFUSED_LENGTH, "a longer buffer is filled");
+    hold(gm_read_heartbeat(9, GM_MODE_ALWAYS, 3, 5, GM_CHANNEL_A, frame, GM_HEARTBEAT_MOST_BYTES, got, GM_DRIVE_BYTES, &join, &request, &number) == GM_OK,
+         "the longest heartbeat is not read");
     hold(join == 1 && number == GM_DRIVE_BYTES && memcmp(got, drive, GM_DRIVE_BYTES) == 0, "other drive bytes are read than were written");
     hold(frame[5] == 0x80U && frame[6] == 0 && memcmp(frame + 7, drive, GM_DRIVE_BYTES) == 0, "join or the drive bytes stand elsewhere");
 }
@@ -239,7 +267,7 @@ static void run(size_t at, uint64_t mask, uint8_t receiver, size_t entry)
     cycle[GM_CYCLE_AT_COUNT] = (uint8_t)(entry / GM_ENTRY_BYTES);
     cycle[GM_CYCLE_AT_ENTRIES + GM_ENTRY_AT_RECEIVER] = receiver;
     put(cycle + at, GM_SET_BYTES, mask);
-    hold(gm_run(row, sizeof row, table, GM_START_BYTES + GM_CYCLE_AT_ENTRIES + entry) == GM_OK, "the table is refused");
+    hold(gm_run(GM_MODE_ALWAYS, row, sizeof row, table, GM_START_BYTES + GM_CYCLE_AT_ENTRIES + entry) == GM_OK, "the table is refused");
 }
 
 static void tables(void)
@@ -265,7 +293,7 @@ static void shown(void)
     uint8_t table[GM_START_BYTES + GM_CYCLE_AT_ENTRIES] = {GM_MARK_0, GM_MARK_1, GM_RECORD_START, 2, 0, 0, 0, 0, 0, 0, 0, 3, GM_MARK_0, GM_MARK_1, GM_RECORD_CYCLE};
     uint8_t two[2 * GM_STATE_BYTES] = {0}, vote[GM_VOTE_BYTES];
     const size_t slot = GM_VOTE_FRAME_BYTES;
-    hold(gm_run_frames(two, sizeof two, table, sizeof table, frames, sizeof frames) == GM_OK, "a run through frames is refused");
+    hold(gm_run_frames(GM_MODE_ALWAYS, two, sizeof two, table, sizeof table, frames, sizeof frames) == GM_OK, "a run through frames is refused");
     hold(read_beat(2, 1, 0, GM_CHANNEL_A, frames + GM_FRAMES_AT_HEARTBEATS_A + slot, GM_HEARTBEAT_BYTES) == GM_OK, "no heartbeat on A");
     hold(read_beat(2, 1, 0, GM_CHANNEL_B, frames + GM_FRAMES_AT_HEARTBEATS_B + slot, GM_HEARTBEAT_BYTES) == GM_OK, "no heartbeat on B");
     hold(gm_read_vote(2, 1, 0, GM_CHANNEL_A, frames + GM_FRAMES_AT_VOTES_A + slot, slot, vote, sizeof vote) == GM_OK, "no vote on A");
@@ -289,16 +317,16 @@ static void longest(void)
 {
     static uint8_t all[GM_NODES_MAX * GM_STATE_BYTES], record[GM_RECORD_BYTES_MAX + GM_ENTRY_BYTES] = {GM_MARK_0, GM_MARK_1, GM_RECORD_CYCLE};
     uint8_t table[GM_START_BYTES] = {GM_MARK_0, GM_MARK_1, GM_RECORD_START, GM_NODES_MAX, 0xFF};
-    hold(gm_run(all, sizeof all, table, sizeof table) == GM_OK, "a table without cycles is refused");
+    hold(gm_run(GM_MODE_ALWAYS, all, sizeof all, table, sizeof table) == GM_OK, "a table without cycles is refused");
     for (uint32_t k = 0; k < GM_ENTRIES_MAX; k++) {
         uint8_t *entry = record + GM_CYCLE_AT_ENTRIES + k * GM_ENTRY_BYTES;
         entry[GM_ENTRY_AT_RECEIVER] = (uint8_t)(k / GM_NODES_MAX * GM_ENTRY_VOTE + k % GM_NODES_MAX);
         put(entry + GM_ENTRY_AT_MISSED, GM_SET_BYTES, (uint64_t)1 << (k + 1U) % GM_NODES_MAX);
     }
     record[GM_CYCLE_AT_COUNT] = GM_ENTRIES_MAX;
-    hold(gm_cycle(GM_NODES_MAX, all, sizeof all, record, GM_RECORD_BYTES_MAX) == GM_OK, "the longest record is refused");
+    hold(gm_cycle(GM_NODES_MAX, GM_MODE_ALWAYS, all, sizeof all, record, GM_RECORD_BYTES_MAX) == GM_OK, "the longest record is refused");
     record[GM_CYCLE_AT_COUNT]++;
-    hold(gm_cycle(GM_NODES_MAX, all, sizeof all, record, sizeof record) == GM_REFUSED_LIMIT, "an entry too many");
+    hold(gm_cycle(GM_NODES_MAX, GM_MODE_ALWAYS, all, sizeof all, record, sizeof record) == GM_REFUSED_LIMIT, "an entry too many");
 }
 
 /* a word of each sentence, by its status, so that no two are exchanged */
@@ -325,6 +353,7 @@ static void sentences(void)
 int main(void)
 {
     states();
+    requests();
     reasons();
     registers();
     last_register();

@@ -1,9 +1,11 @@
 /*
- * Files of stored calls: lines of fields that are divided by one space, of which the first says what kind of line it is. Numbers are decimal, bytes have two
- * hexadecimal digits each, and `-` is no bytes; a line that begins with `#` is a comment. Whoever includes this defines `must`.
+ * Files of stored calls: lines of fields that are divided by one space, of which the first says what kind of line it is, where a file has several. Numbers are
+ * decimal, bytes have two hexadecimal digits each, and `-` is no bytes; a line that begins with `#` is a comment. Whoever includes this defines `must`.
  */
 #ifndef LINES_H
 #define LINES_H
+
+#include "gm.h"
 
 #include <stdint.h>
 #include <stdio.h>
@@ -12,7 +14,7 @@
 
 enum { LONGEST_LINE = 4096, MOST_FIELDS = 12 };
 
-/* its first field, how many it has with that, what is done with them, and how many such lines there were */
+/* its first field, or NULL where all lines are of this kind; how many it has with that, what is done with them, and how many such lines there were */
 struct kind {
     const char *word;
     unsigned fields;
@@ -63,6 +65,29 @@ static inline size_t length(const char *field, size_t most)
     return digits / 2;
 }
 
+static inline uint64_t mask(const char *field)
+{
+    must(strlen(field) == 2 * GM_SET_BYTES, "this is no mask");
+    return hexadecimal(field, GM_SET_BYTES);
+}
+
+/* the votes of the nodes in `arrived`; a slot that is free holds the vote that comes next, or the last: it would count if it were looked at */
+static inline void put_votes(uint8_t *slots, uint64_t arrived, const char *field)
+{
+    size_t left = length(field, GM_VOTES_BYTES) / GM_VOTE_BYTES;
+    const char *vote = field;
+    must(left * GM_VOTE_BYTES == length(field, GM_VOTES_BYTES), "a vote is not whole");
+    for (unsigned q = 0; q < GM_NODES_MAX; q++) {
+        unsigned came = arrived >> q & 1U;
+        must(left >= came, "a vote is missing");
+        if (strcmp(field, "-") != 0)
+            put_bytes(slots + q * GM_VOTE_BYTES, vote, GM_VOTE_BYTES);
+        left -= came;
+        vote += came > 0 && left > 0 ? 2 * GM_VOTE_BYTES : 0;
+    }
+    must(left == 0, "a vote has no sender");
+}
+
 /* ---- lines */
 
 /* a space ends a field; how many there are, the rest of a line with too many being one more */
@@ -88,28 +113,36 @@ static inline void take_line(char *line, struct kind *kinds, unsigned count)
     if (line[0] == '#')
         return;
     fields = split(line, field);
-    while (kind < count && strcmp(field[0], kinds[kind].word) != 0)
+    while (kind < count && kinds[kind].word != NULL && strcmp(field[0], kinds[kind].word) != 0)
         kind++;
     must(kind < count && fields == kinds[kind].fields, "this line is of no kind");
     kinds[kind].lines++;
     kinds[kind].done(field);
 }
 
-/* the file that is the only argument; of every kind there is a line */
-static inline void read_lines(int argc, char **argv, struct kind *kinds, unsigned count)
+/* of every kind there is a line */
+static inline void read_file(const char *path, struct kind *kinds, unsigned count)
 {
     static char line[LONGEST_LINE];
-    FILE *file = argc == 2 ? fopen(argv[1], "r") : NULL;
-    if (file == NULL) {
-        fprintf(stderr, "usage: %s FILE, which can be read\n", argv[0]);
-        exit(2);
-    }
+    FILE *file = fopen(path, "r");
+    at = 0;
+    must(file != NULL, "the file cannot be read");
     for (at = 1; fgets(line, sizeof line, file) != NULL; at++)
         take_line(line, kinds, count);
     must(ferror(file) == 0, "the file cannot be read further");
     fclose(file);
     for (unsigned k = 0; k < count; k++)
         must(kinds[k].lines > 0, "the file ends, and has no line of one kind");
+}
+
+/* the file that is the only argument */
+static inline void read_lines(int argc, char **argv, struct kind *kinds, unsigned count)
+{
+    if (argc != 2) {
+        fprintf(stderr, "usage: %s FILE\n", argv[0]);
+        exit(2);
+    }
+    read_file(argv[1], kinds, count);
 }
 
 #endif

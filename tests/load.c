@@ -54,7 +54,7 @@ struct faults {
 /* its state alone, and the same state in a register block */
 struct unit {
     struct lent state, block, votes;
-    uint64_t heard0, heard1, arrived;
+    uint64_t heard0, heard1, requests, arrived;
 };
 
 /* what stands on the bus in one slot, a copy per channel */
@@ -70,7 +70,7 @@ struct press {
     struct slot bus[NODES];
     struct lent nothing;
     uint8_t shown[PHASES][CHANNELS][NODES][GM_VOTE_FRAME_BYTES];
-    uint32_t n;
+    uint32_t n, mode;
 };
 
 /* which frame is due, and what a heartbeat carries */
@@ -83,11 +83,11 @@ struct due {
 /* the entries, and the refusals that the header names for each */
 #define BIT(refusal) ((uint32_t)1 << (refusal))
 #define NUMBERS (BIT(GM_REFUSED_COUNT) | BIT(GM_REFUSED_NUMBER))
-#define STATES (BIT(GM_REFUSED_LENGTH) | BIT(GM_REFUSED_STATE))
+#define STATES (BIT(GM_REFUSED_NUMBER) | BIT(GM_REFUSED_LENGTH) | BIT(GM_REFUSED_STATE))
 #define FRAMES \
     (BIT(GM_REFUSED_FRAME_LENGTH) | BIT(GM_REFUSED_HEADER_CHECK) | BIT(GM_REFUSED_FRAME_CHECK) | BIT(GM_REFUSED_NULL_FRAME) | BIT(GM_REFUSED_NOT_DUE) \
      | BIT(GM_REFUSED_CONTENT))
-#define RECORDS (BIT(GM_REFUSED_COUNT) | BIT(GM_REFUSED_LENGTH) | BIT(GM_REFUSED_CUT) | BIT(GM_REFUSED_KIND) | BIT(GM_REFUSED_LIMIT))
+#define RECORDS (NUMBERS | BIT(GM_REFUSED_LENGTH) | BIT(GM_REFUSED_CUT) | BIT(GM_REFUSED_KIND) | BIT(GM_REFUSED_LIMIT))
 static const struct {
     const char *name;
     uint32_t refusals;
@@ -96,13 +96,13 @@ static const struct {
     {"gm_stop", STATES},
     {"gm_start", STATES},
     {"gm_state", STATES},
-    {"gm_write_heartbeat", NUMBERS | BIT(GM_REFUSED_LENGTH)},
-    {"gm_send_heartbeat", BIT(GM_REFUSED_NUMBER) | STATES},
+    {"gm_write_heartbeat", NUMBERS | BIT(GM_REFUSED_LENGTH) | BIT(GM_REFUSED_CONTENT)},
+    {"gm_send_heartbeat", STATES},
     {"gm_read_heartbeat", NUMBERS | BIT(GM_REFUSED_LENGTH) | FRAMES},
     {"gm_receive_heartbeat", NUMBERS | BIT(GM_REFUSED_LENGTH)},
     {"gm_view", STATES},
     {"gm_write_vote", NUMBERS | BIT(GM_REFUSED_LENGTH) | BIT(GM_REFUSED_CONTENT)},
-    {"gm_send_vote", BIT(GM_REFUSED_NUMBER) | STATES},
+    {"gm_send_vote", STATES},
     {"gm_read_vote", NUMBERS | BIT(GM_REFUSED_LENGTH) | FRAMES},
     {"gm_receive_vote", NUMBERS | BIT(GM_REFUSED_LENGTH)},
     {"gm_decide", STATES},
@@ -164,6 +164,11 @@ static uint32_t number_near(struct work *w, uint32_t limit)
 static uint32_t count_near(struct work *w)
 {
     return one_in(w, 12) ? number_near(w, 0) : 2 + below(w, NODES - 1);
+}
+
+static uint32_t mode_near(struct work *w)
+{
+    return number_near(w, GM_MODE_QUIET + 1);
 }
 
 static uint64_t set_near(struct work *w, uint32_t n)
@@ -319,6 +324,8 @@ static void put_image(struct work *w, uint8_t *image, uint32_t n, uint32_t node)
         image[1] = (uint8_t)below(w, 3);
     if (image[0] != 2)
         return;
+    /* a member that requests, which only a quiet press has */
+    image[1] = one_in(w, 16);
     put(image + 4, any(w), 4);
     put(image + 8, set, 8);
     put(image + 16, set | (any(w) & all_below(n)), 8);
@@ -374,16 +381,20 @@ static void seal(uint8_t *frame, size_t len, uint32_t channel)
     put(frame + len - 3, check(frame, 0, 8 * (len - 3), 24, 0x5D6DCB, channel == 0 ? 0xFEDCBA : 0xABCDEF), 3);
 }
 
+/* what a heartbeat says */
+enum { NEITHER, JOIN, REQUEST, SIGNS };
+
 static struct lent frame_near(struct work *w, unsigned phase, const struct due *d)
 {
     uint8_t frame[LONGEST_FRAME] = {0};
     size_t len = phase == VOTE ? GM_VOTE_FRAME_BYTES : GM_HEARTBEAT_BYTES + d->drive_len;
     uint64_t set = (any(w) & all_below(d->n)) | only(d->node), more = any(w) & all_below(d->n);
-    uint32_t sync = below(w, 2), damage = below(w, 8);
+    uint32_t sync = below(w, 2), damage = below(w, 8), sign = below(w, SIGNS);
     if (phase == VOTE)
         gm_write_vote(d->n, d->node, (uint32_t)any(w), set, set | more, more | only(d->node), d->cycle, d->channel, frame, len);
     else
-        gm_write_heartbeat(d->n, d->node, below(w, 2), sync, sync & below(w, 2), d->cycle, d->channel, d->drive, d->drive_len, frame, len);
+        gm_write_heartbeat(d->n, GM_MODE_QUIET, d->node, sign == JOIN, sign == REQUEST, sync, sync & below(w, 2), d->cycle, d->channel, d->drive, d->drive_len,
+                           frame, len);
     if (damage == 0)
         frame[0] ^= NULL_FRAME;
     else if (damage < 4)
@@ -439,14 +450,14 @@ static void call_begin(struct work *w)
 static void call_stop(struct work *w)
 {
     struct lent state = state_near(w);
-    int accepted = answered(w, STOP, gm_stop(state.bytes, state.len));
+    int accepted = answered(w, STOP, gm_stop(mode_near(w), state.bytes, state.len));
     settle(w, &state, accepted);
 }
 
 static void call_start(struct work *w)
 {
     struct lent state = state_near(w);
-    int accepted = answered(w, START, gm_start(state.bytes, state.len));
+    int accepted = answered(w, START, gm_start(mode_near(w), state.bytes, state.len));
     settle(w, &state, accepted);
 }
 
@@ -463,7 +474,8 @@ static void call_state(struct work *w)
     struct lent state = state_near(w), p[PARTS];
     int accepted;
     output_parts(w, p);
-    accepted = answered(w, STATE, gm_state(state.bytes, state.len, number_in(p), number_in(p + 1), number_in(p + 2), number_in(p + 3), number_in(p + 4),
+    accepted = answered(w, STATE, gm_state(mode_near(w), state.bytes, state.len, number_in(p), number_in(p + 1), number_in(p + 2), number_in(p + 3),
+                                           number_in(p + 4),
                                            mask_in(p + MASKS_FROM), mask_in(p + 6)));
     for (unsigned k = 0; k < PARTS; k++)
         settle(w, &p[k], accepted);
@@ -483,9 +495,10 @@ static struct lent drive_near(struct work *w, const struct due *d)
 static void call_write_heartbeat(struct work *w)
 {
     struct due d = due_near(w);
-    uint32_t join = number_near(w, 2), sync = number_near(w, 2), startup = number_near(w, 2);
+    uint32_t join = number_near(w, 2), request = number_near(w, 2), sync = number_near(w, 2), startup = number_near(w, 2);
     struct lent drive = drive_near(w, &d), frame = output(w, length_near(w, GM_HEARTBEAT_BYTES + drive.len));
-    int accepted = answered(w, WRITE_HEARTBEAT, gm_write_heartbeat(d.n, d.node, join, sync, startup, d.cycle, d.channel, drive.bytes, drive.len, frame.bytes,
+    int accepted = answered(w, WRITE_HEARTBEAT, gm_write_heartbeat(d.n, mode_near(w), d.node, join, request, sync, startup, d.cycle, d.channel, drive.bytes,
+                                                                   drive.len, frame.bytes,
                                                                    frame.len));
     if (accepted && (drive.len % 2 != 0 || drive.len > GM_DRIVE_BYTES || frame.len != GM_HEARTBEAT_BYTES + drive.len))
         fail(w, "accepted drive bytes or a frame of another length");
@@ -499,7 +512,8 @@ static void call_send_heartbeat(struct work *w)
     uint32_t sync = number_near(w, 2), startup = number_near(w, 2);
     struct lent state = state_near(w), drive = drive_near(w, &d), frame = output(w, length_near(w, GM_HEARTBEAT_BYTES + drive.len));
     struct lent sent = output(w, sizeof(uint32_t));
-    int accepted = answered(w, SEND_HEARTBEAT, gm_send_heartbeat(state.bytes, state.len, sync, startup, d.cycle, d.channel, drive.bytes, drive.len, frame.bytes,
+    int accepted = answered(w, SEND_HEARTBEAT, gm_send_heartbeat(mode_near(w), state.bytes, state.len, sync, startup, d.cycle, d.channel, drive.bytes,
+                                                                 drive.len, frame.bytes,
                                                                  frame.len, number_in(&sent)));
     settle(w, &state, 0);
     settle(w, &drive, 0);
@@ -517,16 +531,18 @@ static void call_read_heartbeat(struct work *w)
 {
     struct due d = due_near(w);
     struct lent frame = frame_near(w, HEARTBEAT, &d), drive = output(w, length_near(w, GM_DRIVE_BYTES));
-    struct lent join = output(w, sizeof(uint32_t)), number = output(w, sizeof(uint32_t));
+    struct lent join = output(w, sizeof(uint32_t)), request = output(w, sizeof(uint32_t)), number = output(w, sizeof(uint32_t));
     int accepted;
     stray(w, &d);
-    accepted = answered(w, READ_HEARTBEAT, gm_read_heartbeat(d.n, d.node, d.cycle, d.channel, frame.bytes, frame.len, drive.bytes, drive.len, number_in(&join),
-                                                             number_in(&number)));
+    accepted = answered(w, READ_HEARTBEAT, gm_read_heartbeat(d.n, mode_near(w), d.node, d.cycle, d.channel, frame.bytes, frame.len, drive.bytes, drive.len,
+                                                             number_in(&join),
+                                                             number_in(&request), number_in(&number)));
     if (accepted && !gave(&frame, &drive, *number_in(&number)))
         fail(w, "gave other drive bytes than the copy's");
     settle_part(w, &drive, 0, accepted ? *number_in(&number) : 0);
     settle(w, &frame, 0);
     settle(w, &join, accepted);
+    settle(w, &request, accepted);
     settle(w, &number, accepted);
 }
 
@@ -546,7 +562,7 @@ static void call_receive_heartbeat(struct work *w)
     struct lent heard = output(w, sizeof(uint32_t)), number = output(w, sizeof(uint32_t));
     int accepted, came;
     stray(w, &d);
-    accepted = answered(w, RECEIVE_HEARTBEAT, gm_receive_heartbeat(d.n, d.node, d.cycle, a.bytes, a.len, b.bytes, b.len, drive.bytes, drive.len,
+    accepted = answered(w, RECEIVE_HEARTBEAT, gm_receive_heartbeat(d.n, mode_near(w), d.node, d.cycle, a.bytes, a.len, b.bytes, b.len, drive.bytes, drive.len,
                                                                    number_in(&heard), number_in(&number)));
     came = accepted && *number_in(&heard) != GM_MISSED;
     if (accepted && !came && *number_in(&number) != 0)
@@ -564,7 +580,7 @@ static void call_view(struct work *w)
 {
     uint64_t heard0 = any(w), heard1 = any(w);
     struct lent state = state_near(w), view = output(w, sizeof(uint64_t));
-    int accepted = answered(w, VIEW, gm_view(state.bytes, state.len, heard0, heard1, mask_in(&view)));
+    int accepted = answered(w, VIEW, gm_view(mode_near(w), state.bytes, state.len, heard0, heard1, mask_in(&view)));
     settle(w, &state, 0);
     settle(w, &view, accepted);
 }
@@ -583,7 +599,7 @@ static void call_send_vote(struct work *w)
     struct due d = due_near(w);
     uint64_t heard0 = any(w), heard1 = any(w);
     struct lent state = state_near(w), frame = output(w, length_near(w, GM_VOTE_FRAME_BYTES)), sent = output(w, sizeof(uint32_t));
-    int accepted = answered(w, SEND_VOTE, gm_send_vote(state.bytes, state.len, heard0, heard1, d.cycle, d.channel, frame.bytes, frame.len,
+    int accepted = answered(w, SEND_VOTE, gm_send_vote(mode_near(w), state.bytes, state.len, heard0, heard1, any(w), d.cycle, d.channel, frame.bytes, frame.len,
                                                        number_in(&sent)));
     settle(w, &state, 0);
     settle(w, &frame, accepted && *number_in(&sent) == 1);
@@ -624,7 +640,7 @@ static void call_decide(struct work *w)
 {
     uint64_t heard0 = any(w), heard1 = any(w), arrived = any(w);
     struct lent state = state_near(w), votes = filled(w, length_near(w, GM_VOTES_BYTES));
-    int accepted = answered(w, DECIDE, gm_decide(state.bytes, state.len, heard0, heard1, votes.bytes, votes.len, arrived));
+    int accepted = answered(w, DECIDE, gm_decide(mode_near(w), state.bytes, state.len, heard0, heard1, any(w), votes.bytes, votes.len, arrived));
     settle(w, &state, accepted);
     settle(w, &votes, 0);
 }
@@ -632,7 +648,7 @@ static void call_decide(struct work *w)
 static void call_register_read(struct work *w)
 {
     struct lent block = block_near(w), value = output(w, sizeof(uint32_t));
-    int accepted = answered(w, REGISTER_READ, gm_register_read(block.bytes, block.len, address_near(w), number_in(&value)));
+    int accepted = answered(w, REGISTER_READ, gm_register_read(mode_near(w), block.bytes, block.len, address_near(w), number_in(&value)));
     settle(w, &block, 0);
     settle(w, &value, accepted);
 }
@@ -641,7 +657,7 @@ static void call_register_write(struct work *w)
 {
     struct lent block = block_near(w);
     uint32_t address = address_near(w);
-    int accepted = answered(w, REGISTER_WRITE, gm_register_write(block.bytes, block.len, address, (uint8_t)below(w, 8)));
+    int accepted = answered(w, REGISTER_WRITE, gm_register_write(mode_near(w), block.bytes, block.len, address, (uint8_t)below(w, 8)));
     settle(w, &block, accepted);
 }
 
@@ -649,7 +665,8 @@ static void call_register_cycle(struct work *w)
 {
     uint64_t heard0 = any(w), heard1 = any(w), arrived = any(w);
     struct lent block = block_near(w), votes = filled(w, length_near(w, GM_VOTES_BYTES));
-    int accepted = answered(w, REGISTER_CYCLE, gm_register_cycle(block.bytes, block.len, heard0, heard1, votes.bytes, votes.len, arrived));
+    int accepted = answered(w, REGISTER_CYCLE, gm_register_cycle(mode_near(w), block.bytes, block.len, heard0, heard1, any(w), votes.bytes, votes.len,
+                                                                 arrived));
     settle(w, &block, accepted);
     settle(w, &votes, 0);
 }
@@ -659,7 +676,8 @@ static void call_register_write_cycle(struct work *w)
     uint64_t heard0 = any(w), heard1 = any(w), arrived = any(w);
     struct lent block = block_near(w), votes = filled(w, length_near(w, GM_VOTES_BYTES));
     uint32_t address = address_near(w);
-    int accepted = answered(w, REGISTER_WRITE_CYCLE, gm_register_write_cycle(block.bytes, block.len, address, (uint8_t)any(w), heard0, heard1, votes.bytes,
+    int accepted = answered(w, REGISTER_WRITE_CYCLE, gm_register_write_cycle(mode_near(w), block.bytes, block.len, address, (uint8_t)any(w), heard0, heard1,
+                                                                             any(w), votes.bytes,
                                                                              votes.len, arrived));
     settle(w, &block, accepted);
     settle(w, &votes, 0);
@@ -706,17 +724,17 @@ static void call_cycle(struct work *w)
     const struct table *t = &w->tables[below(w, w->table_count)];
     uint32_t n = t->bytes[3];
     struct lent row = row_near(w, n), record = record_near(w, t);
-    int accepted = answered(w, CYCLE, gm_cycle(one_in(w, 12) ? number_near(w, 0) : n, row.bytes, row.len, record.bytes, record.len));
+    int accepted = answered(w, CYCLE, gm_cycle(one_in(w, 12) ? number_near(w, 0) : n, mode_near(w), row.bytes, row.len, record.bytes, record.len));
     settle(w, &row, accepted);
     settle(w, &record, 0);
 }
 
 /* a run, plain or through frames */
-static uint32_t run(unsigned entry, const struct lent *row, const struct lent *table, const struct lent *frames)
+static uint32_t run(unsigned entry, uint32_t mode, const struct lent *row, const struct lent *table, const struct lent *frames)
 {
     if (entry == RUN)
-        return gm_run(row->bytes, row->len, table->bytes, table->len);
-    return gm_run_frames(row->bytes, row->len, table->bytes, table->len, frames->bytes, frames->len);
+        return gm_run(mode, row->bytes, row->len, table->bytes, table->len);
+    return gm_run_frames(mode, row->bytes, row->len, table->bytes, table->len, frames->bytes, frames->len);
 }
 
 /*
@@ -729,7 +747,7 @@ static void run_table(struct work *w, unsigned entry)
     size_t n = table.len > 3 && table.bytes[3] > 0 ? table.bytes[3] : 1;
     int accepted;
     row = filled(w, length_near(w, n * GM_STATE_BYTES));
-    accepted = answered(w, entry, run(entry, &row, &table, &frames));
+    accepted = answered(w, entry, run(entry, mode_near(w), &row, &table, &frames));
     settle(w, &row, accepted);
     settle(w, &frames, accepted && entry == RUN_FRAMES && table.len > FIRST_BYTES);
     settle(w, &table, 0);
@@ -819,8 +837,9 @@ static uint32_t send_heartbeat(struct press *p, uint32_t q, uint32_t count, uint
     struct lent drive = drive_of(p->work, q, count), *frame = &p->bus[q].copy[channel];
     uint32_t sent, shown;
     *frame = room_for(p->work, GM_HEARTBEAT_BYTES + drive.len);
-    must(p->work, SEND_HEARTBEAT, gm_send_heartbeat(u->state.bytes, u->state.len, 0, 0, count, channel, drive.bytes, drive.len, frame->bytes, frame->len, &sent));
-    must(p->work, SEND_HEARTBEAT, gm_send_heartbeat(u->state.bytes, u->state.len, 0, 0, count, channel, p->nothing.bytes, p->nothing.len,
+    must(p->work, SEND_HEARTBEAT, gm_send_heartbeat(p->mode, u->state.bytes, u->state.len, 0, 0, count, channel, drive.bytes, drive.len, frame->bytes,
+                                                    frame->len, &sent));
+    must(p->work, SEND_HEARTBEAT, gm_send_heartbeat(p->mode, u->state.bytes, u->state.len, 0, 0, count, channel, p->nothing.bytes, p->nothing.len,
                                                     p->shown[HEARTBEAT][channel][q], GM_HEARTBEAT_BYTES, &shown));
     if (sent != shown)
         fail(p->work, "sends with drive bytes or without, and not both");
@@ -834,7 +853,8 @@ static uint32_t send_vote(struct press *p, uint32_t q, uint32_t count, uint32_t 
     struct lent *frame = &p->bus[q].copy[channel];
     uint32_t sent;
     *frame = room_for(p->work, GM_VOTE_FRAME_BYTES);
-    must(p->work, SEND_VOTE, gm_send_vote(u->state.bytes, u->state.len, u->heard0, u->heard1, count, channel, frame->bytes, frame->len, &sent));
+    must(p->work, SEND_VOTE, gm_send_vote(p->mode, u->state.bytes, u->state.len, u->heard0, u->heard1, u->requests, count, channel, frame->bytes, frame->len,
+                                          &sent));
     if (sent)
         memcpy(p->shown[VOTE][channel][q], frame->bytes, frame->len);
     return sent;
@@ -853,13 +873,16 @@ static void hear(struct press *p, struct unit *u, uint32_t sender, uint32_t coun
 {
     struct lent got = room_for(p->work, GM_DRIVE_BYTES), due = drive_of(p->work, sender, count);
     uint32_t heard, number;
-    must(p->work, RECEIVE_HEARTBEAT, gm_receive_heartbeat(p->n, sender, count, a->bytes, a->len, b->bytes, b->len, got.bytes, got.len, &heard, &number));
+    must(p->work, RECEIVE_HEARTBEAT, gm_receive_heartbeat(p->n, p->mode, sender, count, a->bytes, a->len, b->bytes, b->len, got.bytes, got.len, &heard,
+                                                          &number));
     if (number != (heard == GM_MISSED ? 0 : due.len) || memcmp(got.bytes, due.bytes, number) != 0)
         fail(p->work, "gives other drive bytes than were sent");
-    if (heard == GM_HEARD_MEMBER)
+    if (heard == GM_HEARD_MEMBER || heard == GM_HEARD_REQUEST)
         u->heard0 |= only(sender);
     if (heard == GM_HEARD_JOINING)
         u->heard1 |= only(sender);
+    if (heard == GM_HEARD_REQUEST)
+        u->requests |= only(sender);
     give_back(&got);
     give_back(&due);
 }
@@ -882,20 +905,20 @@ static void receive(struct press *p, uint32_t q, unsigned phase, uint32_t count,
 
 static void write_register(struct press *p, struct unit *u, uint32_t address, uint8_t value)
 {
-    must(p->work, REGISTER_WRITE, gm_register_write(u->block.bytes, u->block.len, address, value));
+    must(p->work, REGISTER_WRITE, gm_register_write(p->mode, u->block.bytes, u->block.len, address, value));
 }
 
 static void stop_and_start(struct press *p, const struct faults *f)
 {
     for (uint32_t q = 0; q < p->n; q++) {
         struct unit *u = &p->units[q];
-        u->heard0 = u->heard1 = u->arrived = 0;
+        u->heard0 = u->heard1 = u->requests = u->arrived = 0;
         if (f->stop & only(q)) {
-            must(p->work, STOP, gm_stop(u->state.bytes, u->state.len));
+            must(p->work, STOP, gm_stop(p->mode, u->state.bytes, u->state.len));
             write_register(p, u, GM_REGISTER_COMMAND, GM_COMMAND_STOP);
         }
         if (f->start & only(q)) {
-            must(p->work, START, gm_start(u->state.bytes, u->state.len));
+            must(p->work, START, gm_start(p->mode, u->state.bytes, u->state.len));
             write_register(p, u, GM_REGISTER_COMMAND, GM_COMMAND_START);
         }
     }
@@ -927,13 +950,15 @@ static void cycle_block(struct press *p, struct unit *u)
 {
     struct lent *b = &u->block;
     uint32_t pending, flags;
-    must(p->work, REGISTER_READ, gm_register_read(b->bytes, b->len, GM_REGISTER_PENDING, &pending));
-    must(p->work, REGISTER_READ, gm_register_read(b->bytes, b->len, GM_REGISTER_FLAGS, &flags));
+    must(p->work, REGISTER_READ, gm_register_read(p->mode, b->bytes, b->len, GM_REGISTER_PENDING, &pending));
+    must(p->work, REGISTER_READ, gm_register_read(p->mode, b->bytes, b->len, GM_REGISTER_FLAGS, &flags));
     if (pending)
-        must(p->work, REGISTER_WRITE_CYCLE, gm_register_write_cycle(b->bytes, b->len, GM_REGISTER_FLAGS, (uint8_t)flags, u->heard0, u->heard1, u->votes.bytes,
+        must(p->work, REGISTER_WRITE_CYCLE, gm_register_write_cycle(p->mode, b->bytes, b->len, GM_REGISTER_FLAGS, (uint8_t)flags, u->heard0, u->heard1,
+                                                                    u->requests, u->votes.bytes,
                                                                     u->votes.len, u->arrived));
     else
-        must(p->work, REGISTER_CYCLE, gm_register_cycle(b->bytes, b->len, u->heard0, u->heard1, u->votes.bytes, u->votes.len, u->arrived));
+        must(p->work, REGISTER_CYCLE, gm_register_cycle(p->mode, b->bytes, b->len, u->heard0, u->heard1, u->requests, u->votes.bytes, u->votes.len,
+                                                        u->arrived));
     if (memcmp(b->bytes, u->state.bytes, u->state.len) != 0)
         fail(p->work, "leaves another state than gm_decide");
     must_be_defined(p->work, b->bytes, b->len);
@@ -945,7 +970,7 @@ static void decide_all(struct press *p)
 {
     for (uint32_t q = 0; q < p->n; q++) {
         struct unit *u = &p->units[q];
-        must(p->work, DECIDE, gm_decide(u->state.bytes, u->state.len, u->heard0, u->heard1, u->votes.bytes, u->votes.len, u->arrived));
+        must(p->work, DECIDE, gm_decide(p->mode, u->state.bytes, u->state.len, u->heard0, u->heard1, u->requests, u->votes.bytes, u->votes.len, u->arrived));
         must_be_defined(p->work, u->state.bytes, u->state.len);
         note(p->work, u->state.bytes, u->state.len);
         cycle_block(p, u);
@@ -981,6 +1006,8 @@ static void begin_press(struct press *p, struct work *w)
     uint64_t founding = mask_at(w->tables->bytes + 4);
     p->work = w;
     p->n = w->tables->bytes[3];
+    /* presses with an odd number of units are quiet */
+    p->mode = p->n % 2;
     p->nothing = room_for(w, 0);
     for (uint32_t q = 0; q < p->n; q++) {
         struct unit *u = &p->units[q];
@@ -1011,7 +1038,7 @@ static void run_whole(struct press *p)
     struct lent table = copy_of(p->work, t->bytes, t->len), frames = room_for(p->work, GM_FRAMES_BYTES);
     for (unsigned entry = RUN; entry <= RUN_FRAMES; entry++) {
         struct lent row = filled(p->work, (size_t)p->n * GM_STATE_BYTES);
-        must(p->work, entry, run(entry, &row, &table, &frames));
+        must(p->work, entry, run(entry, p->mode, &row, &table, &frames));
         same_row(p, &row, entry);
         give_back(&row);
     }
@@ -1042,7 +1069,7 @@ static void *work_press(void *of)
         struct lent record = copy_of(w, w->tables->bytes + at, record_length(w->tables->bytes + at));
         at += record.len;
         run_cycle(&p, record.bytes, cycles % COUNTS);
-        must(w, CYCLE, gm_cycle(p.n, row.bytes, row.len, record.bytes, record.len));
+        must(w, CYCLE, gm_cycle(p.n, p.mode, row.bytes, row.len, record.bytes, record.len));
         same_row(&p, &row, CYCLE);
         give_back(&record);
     }
@@ -1098,13 +1125,13 @@ static int fault(const char *which)
     struct lent state = room_for(&w, GM_STATE_BYTES), cut = cut_state(&w);
     uint64_t view = 0;
     if (strcmp(which, "unset") == 0)
-        return (int)gm_view(state.bytes, state.len, 0, 0, &view);
+        return (int)gm_view(GM_MODE_ALWAYS, state.bytes, state.len, 0, 0, &view);
     if (strcmp(which, "write") == 0)
         return (int)gm_begin(NODES, 1, 2, cut.bytes, GM_STATE_BYTES);
     gm_begin(NODES, 1, 2, state.bytes, GM_STATE_BYTES);
     memcpy(cut.bytes, state.bytes, cut.len);
     if (strcmp(which, "read") == 0)
-        return (int)gm_view(cut.bytes, GM_STATE_BYTES, 0, 0, &view);
+        return (int)gm_view(GM_MODE_ALWAYS, cut.bytes, GM_STATE_BYTES, 0, 0, &view);
     return cut.bytes[cut.len];
 }
 

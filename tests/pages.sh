@@ -1,9 +1,9 @@
 #!/usr/bin/env bash
 # Whether the examples of the programs' manual pages print what stands there, page by page and in their order, and a page fits a terminal of 80 columns.
-# Usage: pages.sh GROUPRUN TABLETEXT BUILD-FOLDER
+# Usage: pages.sh GROUPRUN QUIETRUN TABLETEXT BUILD-FOLDER
 set -euo pipefail
-programs=$(dirname "$(realpath "$1")"):$(dirname "$(realpath "$2")") here=$(realpath "$(dirname "$0")")
-work=$(mktemp -d -p "$(realpath "$3")")
+programs=$(dirname "$(realpath "$1")"):$(dirname "$(realpath "$2")"):$(dirname "$(realpath "$3")") here=$(realpath "$(dirname "$0")")
+work=$(mktemp -d -p "$(realpath "$4")")
 trap 'rm -rf "$work"' EXIT
 count=0 widths="widths NOT TRIED, since groff is not installed"
 fail() { echo "tests/pages: $*" >&2; exit 1; }
@@ -53,7 +53,7 @@ narrow() { # PAGE
     widths="no line is wider than 80 columns"
 }
 
-for page in grouprun.1 tabletext.1; do
+for page in grouprun.1 quietrun.1 tabletext.1; do
     mkdir "$work/$page"
     cd "$work/$page"
     try_examples "$page"

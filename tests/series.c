@@ -1,9 +1,9 @@
 /*
- * The series of tests/vectors/t01 on the archive, step by step: the status, the value read and the whole block after each step, and that no byte beside what is lent
- * is written. The README beside the file says its form. Prints how many series and steps agree; the first difference ends it, with the series and the line.
+ * The series of tests/vectors/t01 on the archive, step by step: the status, the value read and the whole block after each step, and that no byte beside what is
+ * lent is written. They are of a press that votes in every cycle. The README beside the file says its form. Prints how many series and steps agree; the first
+ * difference ends it, with the series and the line.
  * Usage: series FILE
  */
-#include "gm.h"
 #include "lines.h"
 
 enum { MOST_NAME = 64, GUARD = 64, MOST_BLOCK = 128, MOST_VOTES = 4096, FILL = 0xA5, NO_BYTE = 0x5A5A5A5A };
@@ -37,30 +37,7 @@ static uint8_t byte(const char *field)
     return (uint8_t)hexadecimal(field, 1);
 }
 
-static uint64_t mask(const char *field)
-{
-    must(strlen(field) == 2 * GM_SET_BYTES, "this is no mask");
-    return hexadecimal(field, GM_SET_BYTES);
-}
-
 /* ---- what is lent */
-
-/* a slot that is free holds the vote that comes next, or the last: it would count if it were looked at */
-static void put_votes(uint8_t *slots, uint64_t arrived, const char *field)
-{
-    size_t left = length(field, GM_VOTES_BYTES) / GM_VOTE_BYTES;
-    const char *vote = field;
-    must(left * GM_VOTE_BYTES == length(field, GM_VOTES_BYTES), "a vote is not whole");
-    for (unsigned q = 0; q < GM_NODES_MAX; q++) {
-        unsigned came = arrived >> q & 1U;
-        must(left >= came, "a vote is missing");
-        if (strcmp(field, "-") != 0)
-            put_bytes(slots + q * GM_VOTE_BYTES, vote, GM_VOTE_BYTES);
-        left -= came;
-        vote += came > 0 && left > 0 ? 2 * GM_VOTE_BYTES : 0;
-    }
-    must(left == 0, "a vote has no sender");
-}
 
 /* the 1,792 bytes, cut or with zeros behind */
 static size_t lend_votes(const char *arrived, const char *field, const char *len_field)
@@ -114,27 +91,28 @@ static void read_register(char **field)
 {
     uint32_t status;
     value[1] = NO_BYTE;
-    status = gm_register_read(block + GUARD, block_len, decimal(field[1]), &value[1]);
+    status = gm_register_read(GM_MODE_ALWAYS, block + GUARD, block_len, decimal(field[1]), &value[1]);
     value_due[1] = strcmp(field[3], "-") == 0 ? NO_BYTE : byte(field[3]);
     settle(status, field[2], field[4]);
 }
 
 static void write_register(char **field)
 {
-    settle(gm_register_write(block + GUARD, block_len, decimal(field[1]), byte(field[2])), field[3], field[4]);
+    settle(gm_register_write(GM_MODE_ALWAYS, block + GUARD, block_len, decimal(field[1]), byte(field[2])), field[3], field[4]);
 }
 
 static void cycle(char **field)
 {
     size_t len = lend_votes(field[3], field[4], field[5]);
-    settle(gm_register_cycle(block + GUARD, block_len, mask(field[1]), mask(field[2]), votes + GUARD, len, mask(field[3])), field[6], field[7]);
+    uint32_t status = gm_register_cycle(GM_MODE_ALWAYS, block + GUARD, block_len, mask(field[1]), mask(field[2]), 0, votes + GUARD, len, mask(field[3]));
+    settle(status, field[6], field[7]);
 }
 
 static void write_and_cycle(char **field)
 {
     size_t len = lend_votes(field[5], field[6], field[7]);
-    uint32_t status = gm_register_write_cycle(block + GUARD, block_len, decimal(field[1]), byte(field[2]), mask(field[3]), mask(field[4]), votes + GUARD, len,
-                                              mask(field[5]));
+    uint32_t status = gm_register_write_cycle(GM_MODE_ALWAYS, block + GUARD, block_len, decimal(field[1]), byte(field[2]), mask(field[3]), mask(field[4]), 0,
+                                              votes + GUARD, len, mask(field[5]));
     settle(status, field[8], field[9]);
 }
 

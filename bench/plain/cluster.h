@@ -16,9 +16,11 @@ struct group {
     uint32_t number;
 };
 
+/* in a quiet press members rest while nothing happens; `asking` are those that will request */
 struct cluster {
     unsigned n;
-    uint64_t all, members, joining;
+    int quiet;
+    uint64_t all, members, joining, asking;
     struct group groups[NODES];
 };
 
@@ -29,17 +31,18 @@ struct ballot {
     unsigned size;
 };
 
-/* the votes of one cycle, equal ones as one ballot, and the place of each voter's own */
+/* the votes of one cycle, equal ones as one ballot, who voted, and the place of each voter's own */
 struct poll {
     struct ballot ballots[NODES];
     unsigned count;
+    uint64_t voters;
     uint8_t own[NODES];
 };
 
 void begin(struct cluster *c);
 void cycle(struct cluster *c, const struct faults *f, struct poll *p, uint64_t *halted, uint64_t *entered);
 
-/* those of the nodes that a cycle halted for which another view had a quorum */
+/* those of the nodes that a cycle halted for which another view had a quorum, or that did not vote */
 uint64_t outvoted(const struct poll *p, const struct faults *f, uint64_t halted);
 
 #endif

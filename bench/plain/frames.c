@@ -66,8 +66,15 @@ static int due(uint64_t h, uint32_t number, uint32_t cycle)
     return h >> 38 == 0 && (h >> 24 & 2047) == number && (h & 63) == cycle;
 }
 
-/* the drive bytes are then those after the payload's first word, which holds join */
-static uint32_t open_heartbeat(uint32_t node, uint32_t cycle, uint32_t channel, const uint8_t *frame, size_t len)
+/* the two highest bits of a heartbeat's first byte: a request stands alone, and in a quiet press */
+enum { REQUEST = 1, JOIN = 2 };
+static int right_signs(uint32_t mode, uint32_t signs)
+{
+    return signs <= JOIN && (signs != REQUEST || mode == QUIET);
+}
+
+/* the drive bytes are then those after the payload's first word, which holds the signs */
+static uint32_t open_heartbeat(uint32_t mode, uint32_t node, uint32_t cycle, uint32_t channel, const uint8_t *frame, size_t len)
 {
     uint64_t h;
     uint32_t refused = look(channel, frame, len, &h);
@@ -75,7 +82,7 @@ static uint32_t open_heartbeat(uint32_t node, uint32_t cycle, uint32_t channel, 
         return refused;
     if (!due(h, node + 1, cycle) || len == AROUND_BYTES || (h >> 35 & 3) == 1)
         return 9;
-    return (frame[HEADER_BYTES] & 127) != 0 || frame[HEADER_BYTES + 1] != 0 ? 10 : 0;
+    return (frame[HEADER_BYTES] & 63) != 0 || frame[HEADER_BYTES + 1] != 0 || !right_signs(mode, frame[HEADER_BYTES] >> 6) ? 10 : 0;
 }
 
 int sound_vote(unsigned n, unsigned q, uint64_t set, uint64_t base, uint64_t view)
@@ -107,17 +114,19 @@ int right_lengths(size_t drive_len, size_t frame_len)
     return drive_len % 2 == 0 && drive_len <= DRIVE_BYTES && frame_len == HEARTBEAT_BYTES + drive_len;
 }
 
-uint32_t plain_write_heartbeat(uint32_t n, uint32_t node, uint32_t join, uint32_t sync, uint32_t startup, uint32_t cycle, uint32_t channel,
-                               const uint8_t *drive, size_t drive_len, uint8_t *frame, size_t frame_len)
+uint32_t plain_write_heartbeat(uint32_t n, uint32_t mode, uint32_t node, uint32_t join, uint32_t request, uint32_t sync, uint32_t startup,
+                               uint32_t cycle, uint32_t channel, const uint8_t *drive, size_t drive_len, uint8_t *frame, size_t frame_len)
 {
     uint32_t refused = refused_numbers(n, node, cycle, channel);
     if (refused != 0)
         return refused;
-    if (join > 1 || sync > 1 || startup > sync)
+    if (mode > QUIET || join > 1 || request > 1 || sync > 1 || startup > sync)
         return 2;
     if (!right_lengths(drive_len, frame_len))
         return 3;
-    put_number(frame + HEADER_BYTES, 2, join << 15);
+    if (!right_signs(mode, join << 1 | request))
+        return 10;
+    put_number(frame + HEADER_BYTES, 2, join << 15 | request << 14);
     memcpy(frame + DRIVE_AT, drive, drive_len);
     close_frame(frame, sync, startup, node + 1, 1 + (uint32_t)drive_len / 2, cycle, channel);
     return 0;
@@ -148,18 +157,28 @@ static uint32_t give_drive(uint8_t *drive, const uint8_t *frame, size_t frame_le
     return (uint32_t)(frame_len - HEARTBEAT_BYTES);
 }
 
-uint32_t plain_read_heartbeat(uint32_t n, uint32_t node, uint32_t cycle, uint32_t channel, const uint8_t *frame, size_t frame_len, uint8_t *drive,
-                              size_t drive_len, uint32_t *join, uint32_t *drive_bytes)
+/* 1 to 3 of a heartbeat that is read or received */
+static uint32_t refused_reading(uint32_t n, uint32_t mode, uint32_t node, uint32_t cycle, uint32_t channel, size_t drive_len)
 {
     uint32_t refused = refused_numbers(n, node, cycle, channel);
     if (refused != 0)
         return refused;
-    if (drive_len != DRIVE_BYTES)
-        return 3;
-    refused = open_heartbeat(node, cycle, channel, frame, frame_len);
+    if (mode > QUIET)
+        return 2;
+    return drive_len != DRIVE_BYTES ? 3 : 0;
+}
+
+uint32_t plain_read_heartbeat(uint32_t n, uint32_t mode, uint32_t node, uint32_t cycle, uint32_t channel, const uint8_t *frame, size_t frame_len,
+                              uint8_t *drive, size_t drive_len, uint32_t *join, uint32_t *request, uint32_t *drive_bytes)
+{
+    uint32_t refused = refused_reading(n, mode, node, cycle, channel, drive_len);
+    if (refused != 0)
+        return refused;
+    refused = open_heartbeat(mode, node, cycle, channel, frame, frame_len);
     if (refused != 0)
         return refused;
     *join = frame[HEADER_BYTES] >> 7;
+    *request = frame[HEADER_BYTES] >> 6 & 1;
     *drive_bytes = give_drive(drive, frame, frame_len);
     return 0;
 }
@@ -187,19 +206,20 @@ static struct copy counting(struct copy a, struct copy b)
     return a.len != 0 ? a : b;
 }
 
-uint32_t plain_receive_heartbeat(uint32_t n, uint32_t node, uint32_t cycle, const uint8_t *a, size_t a_len, const uint8_t *b, size_t b_len,
-                                 uint8_t *drive, size_t drive_len, uint32_t *heard, uint32_t *drive_bytes)
+/* what is heard, by the signs: a member, a member that requests, a joining node */
+static const uint8_t heard_by_signs[] = {1, 3, 2};
+
+uint32_t plain_receive_heartbeat(uint32_t n, uint32_t mode, uint32_t node, uint32_t cycle, const uint8_t *a, size_t a_len, const uint8_t *b,
+                                 size_t b_len, uint8_t *drive, size_t drive_len, uint32_t *heard, uint32_t *drive_bytes)
 {
-    uint32_t refused = refused_numbers(n, node, cycle, 0);
+    uint32_t refused = refused_reading(n, mode, node, cycle, 0, drive_len);
     struct copy on_a = {a, a_len}, on_b = {b, b_len}, counts;
     if (refused != 0)
         return refused;
-    if (drive_len != DRIVE_BYTES)
-        return 3;
-    on_a.len = open_heartbeat(node, cycle, 0, a, a_len) == 0 ? a_len : 0;
-    on_b.len = open_heartbeat(node, cycle, 1, b, b_len) == 0 ? b_len : 0;
+    on_a.len = open_heartbeat(mode, node, cycle, 0, a, a_len) == 0 ? a_len : 0;
+    on_b.len = open_heartbeat(mode, node, cycle, 1, b, b_len) == 0 ? b_len : 0;
     counts = counting(on_a, on_b);
-    *heard = counts.len == 0 ? 0 : 1 + (counts.bytes[HEADER_BYTES] >> 7);
+    *heard = counts.len == 0 ? 0 : heard_by_signs[counts.bytes[HEADER_BYTES] >> 6];
     *drive_bytes = counts.len == 0 ? 0 : give_drive(drive, counts.bytes, counts.len);
     return 0;
 }

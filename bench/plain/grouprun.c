@@ -1,5 +1,6 @@
 /*
- * A table's run in plain C, from the product paper alone: what `grouprun` is timed beside, and held to on damaged tables.
+ * A table's run in plain C, from the product paper and the requests made after it alone: what `grouprun` is timed beside, and held to on damaged tables;
+ * with the argument `quiet` the same for `quietrun`.
  * It reads and writes in large blocks, and its memory does not grow with the table. Reasons of halting are not kept, since no line shows them.
  */
 #include "records.h"
@@ -149,7 +150,7 @@ static void put_line(struct output *out, const struct reference *r, uint64_t hal
 }
 
 /* a table ends before its cycle 4294967296 */
-static unsigned run(struct input *in, struct output *out)
+static unsigned run(struct input *in, struct output *out, int quiet)
 {
     static struct cluster c;
     static struct faults f;
@@ -158,6 +159,7 @@ static unsigned run(struct input *in, struct output *out)
     unsigned refused = next_first(in, &c);
     if (refused != 0)
         return refused;
+    c.quiet = quiet;
     begin(&c);
     r.group = c.groups[0];
     while (ready(in, 1)) {
@@ -174,13 +176,16 @@ static unsigned run(struct input *in, struct output *out)
     return 0;
 }
 
-int main(void)
+int main(int argc, char **argv)
 {
     static struct input in;
     static struct output out;
+    int quiet = argc == 2 && strcmp(argv[1], "quiet") == 0;
     unsigned refused;
+    if (argc > 1 && !quiet)
+        return 2;
     put_text(&out, "cycle promise group set halted entered\n");
-    refused = run(&in, &out);
+    refused = run(&in, &out, quiet);
     if (out.len > BLOCK - LONGEST_LINE)
         flush(&out);
     if (refused != 0) {

@@ -23,6 +23,7 @@ unsigned read_first(const uint8_t *s, long row_bytes, struct cluster *c)
     c->all = all_of(c->n);
     c->members = mask_at(s + 4);
     c->joining = 0;
+    c->asking = 0;
     return c->members == 0 || (c->members & ~c->all) != 0 ? 13 : 0;
 }
 

@@ -21,16 +21,18 @@ static int sound_registers(const uint8_t *b)
     return 1;
 }
 
-static uint32_t refused_block(const uint8_t *b, size_t len)
+static uint32_t refused_block(uint32_t mode, const uint8_t *b, size_t len)
 {
+    if (mode > QUIET)
+        return 2;
     if (len != REGISTERS_BYTES)
         return 3;
-    return sound_state(b) && sound_registers(b) ? 0 : 4;
+    return sound_state(mode, b) && sound_registers(b) ? 0 : 4;
 }
 
-static uint32_t refused_register(const uint8_t *b, size_t len, uint32_t address)
+static uint32_t refused_register(uint32_t mode, const uint8_t *b, size_t len, uint32_t address)
 {
-    uint32_t refused = refused_block(b, len);
+    uint32_t refused = refused_block(mode, b, len);
     if (refused != 0)
         return refused;
     return address < REGISTERS_BYTES ? 0 : 14;
@@ -50,11 +52,11 @@ static void put_register(uint8_t *b, uint32_t address, uint8_t value)
     b[PENDING] = pending(b);
 }
 
-static void cycle_registers(uint8_t *b, uint64_t heard0, uint64_t heard1, const uint8_t *votes, uint64_t arrived)
+static void cycle_registers(uint32_t mode, uint8_t *b, uint64_t heard0, uint64_t heard1, uint64_t requests, const uint8_t *votes, uint64_t arrived)
 {
     unsigned kind = b[0];
     uint64_t set = mask_at(b + 8);
-    decide_node(b, heard0, heard1, votes, arrived);
+    decide_node(mode, b, heard0, heard1, requests, votes, arrived);
     if (kind == JOINING && b[0] == MEMBER)
         b[FLAGS] |= ENTERED;
     else if (kind == MEMBER && b[0] == OUT)
@@ -64,38 +66,44 @@ static void cycle_registers(uint8_t *b, uint64_t heard0, uint64_t heard1, const 
     b[PENDING] = pending(b);
 }
 
-uint32_t plain_register_read(const uint8_t *block, size_t block_len, uint32_t address, uint32_t *value)
+uint32_t plain_register_read(uint32_t mode, const uint8_t *block, size_t block_len, uint32_t address, uint32_t *value)
 {
-    uint32_t refused = refused_register(block, block_len, address);
+    uint32_t refused = refused_register(mode, block, block_len, address);
     if (refused == 0)
         *value = block[address];
     return refused;
 }
 
-uint32_t plain_register_write(uint8_t *block, size_t block_len, uint32_t address, uint8_t value)
+uint32_t plain_register_write(uint32_t mode, uint8_t *block, size_t block_len, uint32_t address, uint8_t value)
 {
-    uint32_t refused = refused_register(block, block_len, address);
+    uint32_t refused = refused_register(mode, block, block_len, address);
     if (refused == 0)
         put_register(block, address, value);
     return refused;
 }
 
-uint32_t plain_register_cycle(uint8_t *block, size_t block_len, uint64_t heard0, uint64_t heard1, const uint8_t *votes, size_t votes_len,
-                              uint64_t arrived)
+/* votes of another length are looked at with that of the block, after the mode */
+static size_t with_votes(size_t block_len, size_t votes_len)
 {
-    uint32_t refused = votes_len == VOTES_BYTES ? refused_block(block, block_len) : 3;
+    return votes_len == VOTES_BYTES ? block_len : 0;
+}
+
+uint32_t plain_register_cycle(uint32_t mode, uint8_t *block, size_t block_len, uint64_t heard0, uint64_t heard1, uint64_t requests,
+                              const uint8_t *votes, size_t votes_len, uint64_t arrived)
+{
+    uint32_t refused = refused_block(mode, block, with_votes(block_len, votes_len));
     if (refused == 0)
-        cycle_registers(block, heard0, heard1, votes, arrived);
+        cycle_registers(mode, block, heard0, heard1, requests, votes, arrived);
     return refused;
 }
 
-uint32_t plain_register_write_cycle(uint8_t *block, size_t block_len, uint32_t address, uint8_t value, uint64_t heard0, uint64_t heard1,
-                                    const uint8_t *votes, size_t votes_len, uint64_t arrived)
+uint32_t plain_register_write_cycle(uint32_t mode, uint8_t *block, size_t block_len, uint32_t address, uint8_t value, uint64_t heard0,
+                                    uint64_t heard1, uint64_t requests, const uint8_t *votes, size_t votes_len, uint64_t arrived)
 {
-    uint32_t refused = votes_len == VOTES_BYTES ? refused_register(block, block_len, address) : 3;
+    uint32_t refused = refused_register(mode, block, with_votes(block_len, votes_len), address);
     if (refused == 0) {
         put_register(block, address, value);
-        cycle_registers(block, heard0, heard1, votes, arrived);
+        cycle_registers(mode, block, heard0, heard1, requests, votes, arrived);
     }
     return refused;
 }

@@ -19,7 +19,7 @@ struct bus {
 
 /* what a node hears in one cycle */
 struct heard {
-    uint64_t alive, joining;
+    uint64_t alive, joining, requests;
 };
 
 static uint8_t *image(uint8_t *row, unsigned q)
@@ -35,12 +35,13 @@ static int gather(uint8_t *row, struct cluster *c, struct reasons *r)
     for (unsigned q = 0; q < c->n; q++) {
         const uint8_t *s = image(row, q);
         struct group g = {mask_at(s + 8), mask_at(s + 16), word_at(s + 4)};
-        if (!sound_state(s) || s[2] != q || s[3] != c->n)
+        if (!sound_state(c->quiet, s) || s[2] != q || s[3] != c->n)
             return 0;
         c->groups[q] = g;
         c->members |= s[0] == MEMBER ? only(q) : 0;
         c->joining |= s[0] == JOINING ? only(q) : 0;
-        r->no_quorum |= s[1] == 1 ? only(q) : 0;
+        c->asking |= s[0] == MEMBER && s[1] == 1 ? only(q) : 0;
+        r->no_quorum |= s[0] == OUT && s[1] == 1 ? only(q) : 0;
         r->outvoted |= s[1] == 2 ? only(q) : 0;
     }
     return 1;
@@ -54,7 +55,7 @@ static void scatter(uint8_t *row, const struct cluster *c, const struct reasons 
         int member = in(c->members, q);
         const struct group *g = member ? &c->groups[q] : &none;
         s[0] = (uint8_t)(member ? MEMBER : in(c->joining, q) ? JOINING : OUT);
-        s[1] = (uint8_t)(in(r->no_quorum, q) + 2 * in(r->outvoted, q));
+        s[1] = (uint8_t)(in(r->no_quorum | c->asking, q) + 2 * in(r->outvoted, q));
         s[2] = (uint8_t)q;
         s[3] = (uint8_t)c->n;
         put_number(s + 4, 4, g->number);
@@ -73,14 +74,16 @@ static void cycle_with_reasons(struct cluster *c, const struct faults *f, struct
     r->outvoted = (r->outvoted & ~(f->stop | f->start)) | lost;
 }
 
-uint32_t plain_cycle(uint32_t n, uint8_t *row, size_t row_len, const uint8_t *record, size_t record_len)
+uint32_t plain_cycle(uint32_t n, uint32_t mode, uint8_t *row, size_t row_len, const uint8_t *record, size_t record_len)
 {
-    struct cluster c = {.n = n};
+    struct cluster c = {.n = n, .quiet = mode == QUIET};
     struct reasons r = {0, 0};
     struct faults f = {.stop = 0};
     unsigned refused;
     if (n < 2 || n > NODES)
         return 1;
+    if (mode > QUIET)
+        return 2;
     if (row_len != STATE_BYTES * (size_t)n || (record_len >= CYCLE_BYTES && record_len > cycle_length(record)))
         return 3;
     c.all = all_of(n);
@@ -120,12 +123,12 @@ static unsigned refused_table(const uint8_t *s, size_t len, size_t row_len, stru
     return refused;
 }
 
-uint32_t plain_run(uint8_t *row, size_t row_len, const uint8_t *table, size_t table_len)
+uint32_t plain_run(uint32_t mode, uint8_t *row, size_t row_len, const uint8_t *table, size_t table_len)
 {
-    struct cluster c;
+    struct cluster c = {.quiet = mode == QUIET};
     struct reasons r = {0, 0};
     struct faults f = {.stop = 0};
-    unsigned refused = refused_table(table, table_len, row_len, &c);
+    unsigned refused = mode > QUIET ? 2 : refused_table(table, table_len, row_len, &c);
     if (refused != 0)
         return refused;
     begin(&c);
@@ -139,55 +142,57 @@ uint32_t plain_run(uint8_t *row, size_t row_len, const uint8_t *table, size_t ta
 
 /* ---- through frames: every node by the entries for one node. Out nodes hear too, as in the archive, but do not decide */
 
-static void rule_one(uint8_t *row, unsigned n, const struct faults *f)
+static void rule_one(uint32_t mode, uint8_t *row, unsigned n, const struct faults *f)
 {
     for (unsigned q = 0; q < n; q++) {
         if (in(f->stop, q))
-            plain_stop(image(row, q), STATE_BYTES);
+            plain_stop(mode, image(row, q), STATE_BYTES);
         if (in(f->start, q))
-            plain_start(image(row, q), STATE_BYTES);
+            plain_start(mode, image(row, q), STATE_BYTES);
     }
 }
 
 /* without drive bytes */
-static void send_heartbeats(struct bus *bus, uint8_t *row, unsigned n, uint32_t count)
+static void send_heartbeats(uint32_t mode, struct bus *bus, uint8_t *row, unsigned n, uint32_t count)
 {
     uint32_t a, b;
     bus->sent = 0;
     for (unsigned q = 0; q < n; q++) {
-        plain_send_heartbeat(image(row, q), STATE_BYTES, 0, 0, count, 0, row, 0, bus->frames[0][q], HEARTBEAT_BYTES, &a);
-        plain_send_heartbeat(image(row, q), STATE_BYTES, 0, 0, count, 1, row, 0, bus->frames[1][q], HEARTBEAT_BYTES, &b);
+        plain_send_heartbeat(mode, image(row, q), STATE_BYTES, 0, 0, count, 0, row, 0, bus->frames[0][q], HEARTBEAT_BYTES, &a);
+        plain_send_heartbeat(mode, image(row, q), STATE_BYTES, 0, 0, count, 1, row, 0, bus->frames[1][q], HEARTBEAT_BYTES, &b);
         bus->sent |= a + b == CHANNELS ? only(q) : 0;
     }
 }
 
 /* a node reads the slots of all, empty ones too */
-static struct heard hear(const struct bus *bus, unsigned n, uint32_t count, uint64_t reaches)
+static struct heard hear(uint32_t mode, const struct bus *bus, unsigned n, uint32_t count, uint64_t reaches)
 {
-    struct heard h = {0, 0};
+    struct heard h = {0, 0, 0};
     uint8_t drive[DRIVE_BYTES];
     for (unsigned p = 0; p < n; p++) {
         size_t len = in(bus->sent & reaches, p) ? HEARTBEAT_BYTES : 0;
         uint32_t heard = 0, none;
-        plain_receive_heartbeat(n, p, count, bus->frames[0][p], len, bus->frames[1][p], len, drive, sizeof drive, &heard, &none);
-        h.alive |= heard == 1 ? only(p) : 0;
+        plain_receive_heartbeat(n, mode, p, count, bus->frames[0][p], len, bus->frames[1][p], len, drive, sizeof drive, &heard, &none);
+        h.alive |= heard == 1 || heard == 3 ? only(p) : 0;
         h.joining |= heard == 2 ? only(p) : 0;
+        h.requests |= heard == 3 ? only(p) : 0;
     }
     return h;
 }
 
-static void send_votes(struct bus *bus, uint8_t *row, unsigned n, uint32_t count, const struct heard *h)
+static void send_votes(uint32_t mode, struct bus *bus, uint8_t *row, unsigned n, uint32_t count, const struct heard *h)
 {
     uint32_t a, b;
     bus->sent = 0;
     for (unsigned q = 0; q < n; q++) {
-        plain_send_vote(image(row, q), STATE_BYTES, h[q].alive, h[q].joining, count, 0, bus->frames[0][q], VOTE_FRAME_BYTES, &a);
-        plain_send_vote(image(row, q), STATE_BYTES, h[q].alive, h[q].joining, count, 1, bus->frames[1][q], VOTE_FRAME_BYTES, &b);
+        plain_send_vote(mode, image(row, q), STATE_BYTES, h[q].alive, h[q].joining, h[q].requests, count, 0, bus->frames[0][q], VOTE_FRAME_BYTES, &a);
+        plain_send_vote(mode, image(row, q), STATE_BYTES, h[q].alive, h[q].joining, h[q].requests, count, 1, bus->frames[1][q], VOTE_FRAME_BYTES, &b);
         bus->sent |= a + b == CHANNELS ? only(q) : 0;
     }
 }
 
-static void receive_and_decide(const struct bus *bus, uint8_t *state, unsigned n, uint32_t count, uint64_t reaches, const struct heard *h)
+static void receive_and_decide(uint32_t mode, const struct bus *bus, uint8_t *state, unsigned n, uint32_t count, uint64_t reaches,
+                               const struct heard *h)
 {
     uint8_t votes[VOTES_BYTES];
     uint64_t arrived = 0;
@@ -195,21 +200,21 @@ static void receive_and_decide(const struct bus *bus, uint8_t *state, unsigned n
         size_t len = in(bus->sent & reaches, p) ? VOTE_FRAME_BYTES : 0;
         plain_receive_vote(n, p, count, bus->frames[0][p], len, bus->frames[1][p], len, votes, VOTES_BYTES, &arrived);
     }
-    plain_decide(state, STATE_BYTES, h->alive, h->joining, votes, VOTES_BYTES, arrived);
+    plain_decide(mode, state, STATE_BYTES, h->alive, h->joining, h->requests, votes, VOTES_BYTES, arrived);
 }
 
 /* the frames of both phases stay on the bus */
-static void framed_cycle(struct bus *bus, uint8_t *row, unsigned n, uint32_t count, const struct faults *f)
+static void framed_cycle(uint32_t mode, struct bus *bus, uint8_t *row, unsigned n, uint32_t count, const struct faults *f)
 {
     struct heard heard[NODES];
-    rule_one(row, n, f);
-    send_heartbeats(&bus[HEARTBEAT], row, n, count);
+    rule_one(mode, row, n, f);
+    send_heartbeats(mode, &bus[HEARTBEAT], row, n, count);
     for (unsigned q = 0; q < n; q++)
-        heard[q] = hear(&bus[HEARTBEAT], n, count, ~(f->lost[HEARTBEAT] | f->missed[HEARTBEAT][q]));
-    send_votes(&bus[VOTE], row, n, count, heard);
+        heard[q] = hear(mode, &bus[HEARTBEAT], n, count, ~(f->lost[HEARTBEAT] | f->missed[HEARTBEAT][q]));
+    send_votes(mode, &bus[VOTE], row, n, count, heard);
     for (unsigned q = 0; q < n; q++)
         if (image(row, q)[0] != OUT)
-            receive_and_decide(&bus[VOTE], image(row, q), n, count, ~(f->lost[VOTE] | f->missed[VOTE][q]), &heard[q]);
+            receive_and_decide(mode, &bus[VOTE], image(row, q), n, count, ~(f->lost[VOTE] | f->missed[VOTE][q]), &heard[q]);
 }
 
 /* what was sent in one phase: the frame at the front of its sender's slot, zeros elsewhere */
@@ -222,20 +227,20 @@ static void show(uint8_t *slots, const struct bus *bus, size_t frame_len)
 }
 
 /* a frames buffer of another length is refused as a row of no bytes, which is right for no table */
-uint32_t plain_run_frames(uint8_t *row, size_t row_len, const uint8_t *table, size_t table_len, uint8_t *frames, size_t frames_len)
+uint32_t plain_run_frames(uint32_t mode, uint8_t *row, size_t row_len, const uint8_t *table, size_t table_len, uint8_t *frames, size_t frames_len)
 {
-    struct cluster c;
+    struct cluster c = {.quiet = mode == QUIET};
     struct faults f = {.stop = 0};
     struct bus bus[PHASES];
     uint32_t count = 0;
-    unsigned refused = refused_table(table, table_len, frames_len == FRAMES_BYTES ? row_len : 0, &c);
+    unsigned refused = mode > QUIET ? 2 : refused_table(table, table_len, frames_len == FRAMES_BYTES ? row_len : 0, &c);
     if (refused != 0)
         return refused;
     for (unsigned q = 0; q < c.n; q++)
         plain_begin(c.n, q, c.members, image(row, q), STATE_BYTES);
     for (size_t at = FIRST_BYTES; at < table_len; at += cycle_length(table + at), count = (count + 1) % 64) {
         read_cycle(table + at, &c, &f);
-        framed_cycle(bus, row, c.n, count, &f);
+        framed_cycle(mode, bus, row, c.n, count, &f);
     }
     if (table_len > FIRST_BYTES) {
         show(frames, &bus[HEARTBEAT], HEARTBEAT_BYTES);

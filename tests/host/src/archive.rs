@@ -17,9 +17,10 @@ macro_rules! linked {
 
         extern "C" {
             fn $begin(n: u32, node: u32, founding: u64, state: *mut u8, state_len: usize) -> u32;
-            fn $stop(state: *mut u8, state_len: usize) -> u32;
-            fn $start(state: *mut u8, state_len: usize) -> u32;
+            fn $stop(mode: u32, state: *mut u8, state_len: usize) -> u32;
+            fn $start(mode: u32, state: *mut u8, state_len: usize) -> u32;
             fn $state(
+                mode: u32,
                 state: *const u8,
                 state_len: usize,
                 kind: *mut u32,
@@ -32,8 +33,10 @@ macro_rules! linked {
             ) -> u32;
             fn $write_heartbeat(
                 n: u32,
+                mode: u32,
                 node: u32,
                 join: u32,
+                request: u32,
                 sync: u32,
                 startup: u32,
                 cycle: u32,
@@ -44,6 +47,7 @@ macro_rules! linked {
                 frame_len: usize,
             ) -> u32;
             fn $send_heartbeat(
+                mode: u32,
                 state: *const u8,
                 state_len: usize,
                 sync: u32,
@@ -58,6 +62,7 @@ macro_rules! linked {
             ) -> u32;
             fn $read_heartbeat(
                 n: u32,
+                mode: u32,
                 node: u32,
                 cycle: u32,
                 channel: u32,
@@ -66,10 +71,12 @@ macro_rules! linked {
                 drive: *mut u8,
                 drive_len: usize,
                 join: *mut u32,
+                request: *mut u32,
                 drive_bytes: *mut u32,
             ) -> u32;
             fn $receive_heartbeat(
                 n: u32,
+                mode: u32,
                 node: u32,
                 cycle: u32,
                 a: *const u8,
@@ -81,7 +88,7 @@ macro_rules! linked {
                 heard: *mut u32,
                 drive_bytes: *mut u32,
             ) -> u32;
-            fn $view(state: *const u8, state_len: usize, heard0: u64, heard1: u64, view: *mut u64) -> u32;
+            fn $view(mode: u32, state: *const u8, state_len: usize, heard0: u64, heard1: u64, view: *mut u64) -> u32;
             fn $write_vote(
                 n: u32,
                 node: u32,
@@ -95,10 +102,12 @@ macro_rules! linked {
                 frame_len: usize,
             ) -> u32;
             fn $send_vote(
+                mode: u32,
                 state: *const u8,
                 state_len: usize,
                 heard0: u64,
                 heard1: u64,
+                requests: u64,
                 cycle: u32,
                 channel: u32,
                 frame: *mut u8,
@@ -118,20 +127,42 @@ macro_rules! linked {
                 votes_len: usize,
                 arrived: *mut u64,
             ) -> u32;
-            fn $decide(state: *mut u8, state_len: usize, heard0: u64, heard1: u64, votes: *const u8, votes_len: usize, arrived: u64) -> u32;
-            fn $cycle(n: u32, row: *mut u8, row_len: usize, record: *const u8, record_len: usize) -> u32;
-            fn $run(row: *mut u8, row_len: usize, table: *const u8, table_len: usize) -> u32;
-            fn $run_frames(row: *mut u8, row_len: usize, table: *const u8, table_len: usize, frames: *mut u8, frames_len: usize) -> u32;
-            fn $register_read(block: *const u8, block_len: usize, address: u32, value: *mut u32) -> u32;
-            fn $register_write(block: *mut u8, block_len: usize, address: u32, value: u8) -> u32;
-            fn $register_cycle(block: *mut u8, block_len: usize, heard0: u64, heard1: u64, votes: *const u8, votes_len: usize, arrived: u64) -> u32;
+            fn $decide(
+                mode: u32,
+                state: *mut u8,
+                state_len: usize,
+                heard0: u64,
+                heard1: u64,
+                requests: u64,
+                votes: *const u8,
+                votes_len: usize,
+                arrived: u64,
+            ) -> u32;
+            fn $cycle(n: u32, mode: u32, row: *mut u8, row_len: usize, record: *const u8, record_len: usize) -> u32;
+            fn $run(mode: u32, row: *mut u8, row_len: usize, table: *const u8, table_len: usize) -> u32;
+            fn $run_frames(mode: u32, row: *mut u8, row_len: usize, table: *const u8, table_len: usize, frames: *mut u8, frames_len: usize) -> u32;
+            fn $register_read(mode: u32, block: *const u8, block_len: usize, address: u32, value: *mut u32) -> u32;
+            fn $register_write(mode: u32, block: *mut u8, block_len: usize, address: u32, value: u8) -> u32;
+            fn $register_cycle(
+                mode: u32,
+                block: *mut u8,
+                block_len: usize,
+                heard0: u64,
+                heard1: u64,
+                requests: u64,
+                votes: *const u8,
+                votes_len: usize,
+                arrived: u64,
+            ) -> u32;
             fn $register_write_cycle(
+                mode: u32,
                 block: *mut u8,
                 block_len: usize,
                 address: u32,
                 value: u8,
                 heard0: u64,
                 heard1: u64,
+                requests: u64,
                 votes: *const u8,
                 votes_len: usize,
                 arrived: u64,
@@ -144,16 +175,17 @@ macro_rules! linked {
                 unsafe { $begin(n, node, founding, state.as_mut_ptr(), state.len()) }
             }
 
-            fn stop(&self, state: &mut [u8]) -> u32 {
-                unsafe { $stop(state.as_mut_ptr(), state.len()) }
+            fn stop(&self, mode: u32, state: &mut [u8]) -> u32 {
+                unsafe { $stop(mode, state.as_mut_ptr(), state.len()) }
             }
 
-            fn start(&self, state: &mut [u8]) -> u32 {
-                unsafe { $start(state.as_mut_ptr(), state.len()) }
+            fn start(&self, mode: u32, state: &mut [u8]) -> u32 {
+                unsafe { $start(mode, state.as_mut_ptr(), state.len()) }
             }
 
             fn state(
                 &self,
+                mode: u32,
                 state: &[u8],
                 kind: &mut u32,
                 reason: &mut u32,
@@ -163,14 +195,16 @@ macro_rules! linked {
                 set: &mut u64,
                 base: &mut u64,
             ) -> u32 {
-                unsafe { $state(state.as_ptr(), state.len(), kind, reason, node, n, number, set, base) }
+                unsafe { $state(mode, state.as_ptr(), state.len(), kind, reason, node, n, number, set, base) }
             }
 
             fn write_heartbeat(
                 &self,
                 n: u32,
+                mode: u32,
                 node: u32,
                 join: u32,
+                request: u32,
                 sync: u32,
                 startup: u32,
                 cycle: u32,
@@ -179,11 +213,12 @@ macro_rules! linked {
                 frame: &mut [u8],
             ) -> u32 {
                 let (lent, len) = (frame.as_mut_ptr(), frame.len());
-                unsafe { $write_heartbeat(n, node, join, sync, startup, cycle, channel, drive.as_ptr(), drive.len(), lent, len) }
+                unsafe { $write_heartbeat(n, mode, node, join, request, sync, startup, cycle, channel, drive.as_ptr(), drive.len(), lent, len) }
             }
 
             fn send_heartbeat(
                 &self,
+                mode: u32,
                 state: &[u8],
                 sync: u32,
                 startup: u32,
@@ -194,27 +229,31 @@ macro_rules! linked {
                 sent: &mut u32,
             ) -> u32 {
                 let (lent, len) = (frame.as_mut_ptr(), frame.len());
-                unsafe { $send_heartbeat(state.as_ptr(), state.len(), sync, startup, cycle, channel, drive.as_ptr(), drive.len(), lent, len, sent) }
+                let (state, state_len) = (state.as_ptr(), state.len());
+                unsafe { $send_heartbeat(mode, state, state_len, sync, startup, cycle, channel, drive.as_ptr(), drive.len(), lent, len, sent) }
             }
 
             fn read_heartbeat(
                 &self,
                 n: u32,
+                mode: u32,
                 node: u32,
                 cycle: u32,
                 channel: u32,
                 frame: &[u8],
                 drive: &mut [u8],
                 join: &mut u32,
+                request: &mut u32,
                 drive_bytes: &mut u32,
             ) -> u32 {
                 let (lent, len) = (drive.as_mut_ptr(), drive.len());
-                unsafe { $read_heartbeat(n, node, cycle, channel, frame.as_ptr(), frame.len(), lent, len, join, drive_bytes) }
+                unsafe { $read_heartbeat(n, mode, node, cycle, channel, frame.as_ptr(), frame.len(), lent, len, join, request, drive_bytes) }
             }
 
             fn receive_heartbeat(
                 &self,
                 n: u32,
+                mode: u32,
                 node: u32,
                 cycle: u32,
                 a: &[u8],
@@ -224,19 +263,32 @@ macro_rules! linked {
                 drive_bytes: &mut u32,
             ) -> u32 {
                 let (lent, len) = (drive.as_mut_ptr(), drive.len());
-                unsafe { $receive_heartbeat(n, node, cycle, a.as_ptr(), a.len(), b.as_ptr(), b.len(), lent, len, heard, drive_bytes) }
+                unsafe { $receive_heartbeat(n, mode, node, cycle, a.as_ptr(), a.len(), b.as_ptr(), b.len(), lent, len, heard, drive_bytes) }
             }
 
-            fn view(&self, state: &[u8], heard0: u64, heard1: u64, view: &mut u64) -> u32 {
-                unsafe { $view(state.as_ptr(), state.len(), heard0, heard1, view) }
+            fn view(&self, mode: u32, state: &[u8], heard0: u64, heard1: u64, view: &mut u64) -> u32 {
+                unsafe { $view(mode, state.as_ptr(), state.len(), heard0, heard1, view) }
             }
 
             fn write_vote(&self, n: u32, node: u32, number: u32, set: u64, base: u64, view: u64, cycle: u32, channel: u32, frame: &mut [u8]) -> u32 {
                 unsafe { $write_vote(n, node, number, set, base, view, cycle, channel, frame.as_mut_ptr(), frame.len()) }
             }
 
-            fn send_vote(&self, state: &[u8], heard0: u64, heard1: u64, cycle: u32, channel: u32, frame: &mut [u8], sent: &mut u32) -> u32 {
-                unsafe { $send_vote(state.as_ptr(), state.len(), heard0, heard1, cycle, channel, frame.as_mut_ptr(), frame.len(), sent) }
+            fn send_vote(
+                &self,
+                mode: u32,
+                state: &[u8],
+                heard0: u64,
+                heard1: u64,
+                requests: u64,
+                cycle: u32,
+                channel: u32,
+                frame: &mut [u8],
+                sent: &mut u32,
+            ) -> u32 {
+                unsafe {
+                    $send_vote(mode, state.as_ptr(), state.len(), heard0, heard1, requests, cycle, channel, frame.as_mut_ptr(), frame.len(), sent)
+                }
             }
 
             fn read_vote(&self, n: u32, node: u32, cycle: u32, channel: u32, frame: &[u8], vote: &mut [u8]) -> u32 {
@@ -247,38 +299,48 @@ macro_rules! linked {
                 unsafe { $receive_vote(n, node, cycle, a.as_ptr(), a.len(), b.as_ptr(), b.len(), votes.as_mut_ptr(), votes.len(), arrived) }
             }
 
-            fn decide(&self, state: &mut [u8], heard0: u64, heard1: u64, votes: &[u8], arrived: u64) -> u32 {
-                unsafe { $decide(state.as_mut_ptr(), state.len(), heard0, heard1, votes.as_ptr(), votes.len(), arrived) }
+            fn decide(&self, mode: u32, state: &mut [u8], heard0: u64, heard1: u64, requests: u64, votes: &[u8], arrived: u64) -> u32 {
+                unsafe { $decide(mode, state.as_mut_ptr(), state.len(), heard0, heard1, requests, votes.as_ptr(), votes.len(), arrived) }
             }
 
-            fn cycle(&self, n: u32, row: &mut [u8], record: &[u8]) -> u32 {
-                unsafe { $cycle(n, row.as_mut_ptr(), row.len(), record.as_ptr(), record.len()) }
+            fn cycle(&self, n: u32, mode: u32, row: &mut [u8], record: &[u8]) -> u32 {
+                unsafe { $cycle(n, mode, row.as_mut_ptr(), row.len(), record.as_ptr(), record.len()) }
             }
 
-            fn run(&self, row: &mut [u8], table: &[u8]) -> u32 {
-                unsafe { $run(row.as_mut_ptr(), row.len(), table.as_ptr(), table.len()) }
+            fn run(&self, mode: u32, row: &mut [u8], table: &[u8]) -> u32 {
+                unsafe { $run(mode, row.as_mut_ptr(), row.len(), table.as_ptr(), table.len()) }
             }
 
-            fn run_frames(&self, row: &mut [u8], table: &[u8], frames: &mut [u8]) -> u32 {
-                unsafe { $run_frames(row.as_mut_ptr(), row.len(), table.as_ptr(), table.len(), frames.as_mut_ptr(), frames.len()) }
+            fn run_frames(&self, mode: u32, row: &mut [u8], table: &[u8], frames: &mut [u8]) -> u32 {
+                unsafe { $run_frames(mode, row.as_mut_ptr(), row.len(), table.as_ptr(), table.len(), frames.as_mut_ptr(), frames.len()) }
             }
 
-            fn register_read(&self, block: &[u8], address: u32, value: &mut u32) -> u32 {
-                unsafe { $register_read(block.as_ptr(), block.len(), address, value) }
+            fn register_read(&self, mode: u32, block: &[u8], address: u32, value: &mut u32) -> u32 {
+                unsafe { $register_read(mode, block.as_ptr(), block.len(), address, value) }
             }
 
-            fn register_write(&self, block: &mut [u8], address: u32, value: u8) -> u32 {
-                unsafe { $register_write(block.as_mut_ptr(), block.len(), address, value) }
+            fn register_write(&self, mode: u32, block: &mut [u8], address: u32, value: u8) -> u32 {
+                unsafe { $register_write(mode, block.as_mut_ptr(), block.len(), address, value) }
             }
 
-            fn register_cycle(&self, block: &mut [u8], heard0: u64, heard1: u64, votes: &[u8], arrived: u64) -> u32 {
-                unsafe { $register_cycle(block.as_mut_ptr(), block.len(), heard0, heard1, votes.as_ptr(), votes.len(), arrived) }
+            fn register_cycle(&self, mode: u32, block: &mut [u8], heard0: u64, heard1: u64, requests: u64, votes: &[u8], arrived: u64) -> u32 {
+                unsafe { $register_cycle(mode, block.as_mut_ptr(), block.len(), heard0, heard1, requests, votes.as_ptr(), votes.len(), arrived) }
             }
 
-            fn register_write_cycle(&self, block: &mut [u8], address: u32, value: u8, heard0: u64, heard1: u64, votes: &[u8], arrived: u64) -> u32 {
-                unsafe {
-                    $register_write_cycle(block.as_mut_ptr(), block.len(), address, value, heard0, heard1, votes.as_ptr(), votes.len(), arrived)
-                }
+            fn register_write_cycle(
+                &self,
+                mode: u32,
+                block: &mut [u8],
+                address: u32,
+                value: u8,
+                heard0: u64,
+                heard1: u64,
+                requests: u64,
+                votes: &[u8],
+                arrived: u64,
+            ) -> u32 {
+                let (lent, len) = (block.as_mut_ptr(), block.len());
+                unsafe { $register_write_cycle(mode, lent, len, address, value, heard0, heard1, requests, votes.as_ptr(), votes.len(), arrived) }
             }
         }
     };

@@ -1,10 +1,11 @@
-//! What is claimed of the rules: demand 3 over histories, and the worked examples. The premise and the terms of demand 3 are those of the paper ("Faults"
-//! and "Over what does demand 3 run?"); its claims are taken from the plain words of docs/CLAIMS.md.
-use crate::paper::faults::{after_rule1, cycle, Faults};
+//! What is claimed of the rules: demand 3 over histories in both modes, and the worked examples. The premise and the terms of demand 3 are those of the
+//! paper ("Faults" and "Over what does demand 3 run?"); its claims are taken from the plain words of docs/CLAIMS.md.
+use crate::paper::faults::{cycle, Cycle, Faults};
+use crate::paper::mode::Mode;
 use crate::paper::printed::printed_by;
 use crate::paper::record::Record;
-use crate::paper::rules::Mistake;
-use crate::paper::sets::{all, has, only, those, Set};
+use crate::paper::rules::{decide, rule4, Heard, Mistake, Rules, Vote};
+use crate::paper::sets::{all, has, only, size, those, Set};
 use crate::paper::state::{beginning, beginning_from, Group, Reason, State};
 use crate::paper::table::{write_cycle, write_first};
 
@@ -29,11 +30,15 @@ impl Standing {
     }
 
     /// One cycle that keeps the promise, and the claims of demand 3 about it. Where one fails, the claim.
-    pub fn step(&self, faults: &Faults, mistake: Option<Mistake>) -> Result<Standing, &'static str> {
+    pub fn step(&self, faults: &Faults, rules: Rules) -> Result<Standing, &'static str> {
+        self.step_of(cycle(&self.row, faults, rules), faults)
+    }
+
+    /// the same of a cycle that is there already
+    pub fn step_of(&self, passed: Cycle, faults: &Faults) -> Result<Standing, &'static str> {
         let n = self.row.len();
         let touched = faults.touched(n);
-        let stood = after_rule1(&self.row, faults);
-        let row = cycle(&self.row, faults, mistake);
+        let Cycle { stood, after: row, .. } = passed;
         let record = self.record.after(&row, faults);
         let before = self.record.group.ok_or("the group of record was undefined")?;
         let after = record.group.ok_or("a kept cycle gives no group of record")?;
@@ -41,14 +46,14 @@ impl Standing {
             let untouched = !has(touched, q);
             match row[q] {
                 // agreement: a member that was untouched holds the group of record; so one with another set was touched
-                State::Member(group) if untouched && group != after => return Err("an untouched member holds another group"),
-                State::Member(_) => {}
+                State::Member { group, .. } if untouched && group != after => return Err("an untouched member holds another group"),
+                State::Member { .. } => {}
                 // a node that is joining as the heartbeats go out, untouched in that cycle and in the next, is a member after the second (and agrees)
                 _ if untouched && has(self.joiners, q) => return Err("a joiner untouched in two cycles is no member"),
                 _ => {}
             }
             // a member with another set than the group of record halts, or is stopped, in the next cycle
-            let stray = matches!(self.row[q], State::Member(group) if group.set != before.set);
+            let stray = matches!(self.row[q], State::Member { group, .. } if group.set != before.set);
             let halted = matches!(row[q], State::Out(Reason::NoQuorum | Reason::Outvoted));
             if stray && !has(faults.stop, q) && !halted {
                 return Err("a unit with another set goes on");
@@ -63,13 +68,65 @@ impl Standing {
         let from = self.record.group.map_or(0, |group| group.number);
         let shift = |group: Group| Group { number: group.number.wrapping_sub(from), ..group };
         let plain = |state: &State| match *state {
-            State::Member(group) => State::Member(shift(group)),
+            State::Member { group, request } => State::Member { group: shift(group), request },
             State::Out(_) => State::Out(Reason::Stopped),
             State::Joining => State::Joining,
         };
         let record = Record { group: self.record.group.map(shift), ..self.record };
         Standing { row: self.row.iter().map(plain).collect(), record, joiners: self.joiners }
     }
+
+    /// the members with another set than the group of record
+    fn strays(&self) -> Set {
+        let of_record = self.record.group.map(|group| group.set);
+        those(self.row.len(), |q| matches!(self.row[q], State::Member { group, .. } if Some(group.set) != of_record))
+    }
+
+    /// what a cycle from here shows of members that may rest
+    pub fn resting(&self, passed: &Cycle, rules: Rules) -> Resting {
+        let n = self.row.len();
+        let member = |q: usize| matches!(passed.stood[q], State::Member { .. });
+        let silent = those(n, |q| member(q) && passed.votes[q].is_none());
+        let halted = those(n, |q| has(silent, q) && matches!(passed.after[q], State::Out(_)));
+        // whoever would not have voted without its own request
+        let own = |q: usize| passed.votes[q].is_some() && rule4(n, q, without_request(passed.stood[q]), passed.heard[q], rules).is_none();
+        let strays = self.strays();
+        let woken = those(n, |q| has(strays, q) && own(q));
+        Resting { silent: size(silent).into(), halted: size(halted).into(), own_request: size(woken).into() }
+    }
+}
+
+/// members that did not vote, those of them that halted, and strays that voted because of their own request alone
+#[derive(Clone, Copy, Default)]
+pub struct Resting {
+    pub silent: u64,
+    pub halted: u64,
+    pub own_request: u64,
+}
+
+impl std::ops::AddAssign for Resting {
+    fn add_assign(&mut self, more: Resting) {
+        *self = Resting { silent: self.silent + more.silent, halted: self.halted + more.halted, own_request: self.own_request + more.own_request };
+    }
+}
+
+fn without_request(state: State) -> State {
+    match state {
+        State::Member { group, .. } => State::Member { group, request: false },
+        other => other,
+    }
+}
+
+/// Request 3. "A quiet press with no unit touched or started since its beginning sends no vote at all": and it stays as it began.
+pub fn is_silent(n: usize, founding: Set, cycles: usize, rules: Rules) -> bool {
+    let begun = beginning(n, founding);
+    let mut row = begun.clone();
+    (0..cycles).all(|_| {
+        // a start of a member does nothing
+        let passed = cycle(&row, &Faults { start: founding, ..Faults::none() }, rules);
+        row = passed.after;
+        passed.votes.iter().all(Option::is_none) && row == begun
+    })
 }
 
 /// the marks that touch node q of n, by number: stop, its heartbeat lost, its vote lost, then for each other node its heartbeat and its vote missed
@@ -154,10 +211,17 @@ fn more_marks(at: &Standing, k: usize, from: usize, faults: &Faults, visit: &mut
 // the worked examples
 
 fn member(number: u32, set: Set, base: Set) -> State {
-    State::Member(Group { number, set, base })
+    State::Member { group: Group { number, set, base }, request: false }
 }
 
+/// a member that will request
+fn requesting(number: u32, set: Set, base: Set) -> State {
+    State::Member { group: Group { number, set, base }, request: true }
+}
+
+const STOPPED: State = State::Out(Reason::Stopped);
 const NO_QUORUM: State = State::Out(Reason::NoQuorum);
+const OUTVOTED: State = State::Out(Reason::Outvoted);
 
 fn stopping(set: Set) -> Faults {
     Faults { stop: set, ..Faults::none() }
@@ -180,12 +244,18 @@ pub const P1_PRINTED: &str = "cycle promise group set halted entered
 5 kept 3 000000000000001e 0000000000000001 0000000000000000
 ";
 
-/// "Proved examples" P1 to P10, and two more that show mistakes 3 and 4: whether each comes out as the paper says
+/// the worked examples in both modes: whether each comes out as the paper or the request says
 pub fn worked_examples(mistake: Option<Mistake>) -> Vec<(&'static str, bool)> {
-    let step = |row: &[State], faults: &Faults| cycle(row, faults, mistake);
-    let sets = |row: &[State]| -> Vec<Set> { row.iter().map(|state| if let State::Member(group) = state { group.set } else { 0 }).collect() };
+    let [always, quiet] = Mode::BOTH.map(|mode| Rules { mode, mistake });
+    [paper_examples(always), quiet_examples(quiet), quiet_decisions(quiet)].concat()
+}
+
+/// "Proved examples" P1 to P10, and two more that show mistakes 3 and 4
+fn paper_examples(rules: Rules) -> Vec<(&'static str, bool)> {
+    let step = |row: &[State], faults: &Faults| cycle(row, faults, rules).after;
+    let sets = |row: &[State]| -> Vec<Set> { row.iter().map(|state| if let State::Member { group, .. } = state { group.set } else { 0 }).collect() };
     let whole = |n: usize| beginning(n, all(n));
-    let stopped = State::Out(Reason::Stopped);
+    let stopped = STOPPED;
 
     let p2 = step(&whole(2), &Faults { lost_heartbeat: 2, ..Faults::none() });
     let p3 = step(&whole(3), &stopping(4));
@@ -210,7 +280,7 @@ pub fn worked_examples(mistake: Option<Mistake>) -> Vec<(&'static str, bool)> {
     x2 = step(&x2, &Faults { start: 0x20, ..Faults::none() });
 
     vec![
-        ("P1", printed_by(&p1_table(), mistake) == P1_PRINTED),
+        ("P1", printed_by(&p1_table(), rules) == P1_PRINTED),
         ("P2", p2 == [NO_QUORUM; 2]),
         ("P3", sets(&p3) == [3, 3, 0] && p3[2] == stopped),
         ("P4", p4 == [NO_QUORUM, stopped, stopped]),
@@ -227,5 +297,82 @@ pub fn worked_examples(mistake: Option<Mistake>) -> Vec<(&'static str, bool)> {
         ("P10", p10 == [member(0, 3, 7), member(0, 3, 7), stopped]),
         ("P6 with node 3 missing the join heartbeat", x1[..4] == [member(1, 0xf, 0x1f); 4] && x1[4] == State::Joining),
         ("a joiner beside a stray of lower number", x2[0] == NO_QUORUM && x2[1..] == [member(2, 0x3e, 0x3e); 5]),
+    ]
+}
+
+/// the nodes that vote in a cycle
+fn voters(passed: &Cycle) -> Set {
+    those(passed.votes.len(), |q| passed.votes[q].is_some())
+}
+
+/// a quiet press from a row through cycles
+fn quiet_press(row: Vec<State>, faults: &[Faults], rules: Rules) -> Vec<Cycle> {
+    let mut row = row;
+    let mut passed = Vec::new();
+    for faults in faults {
+        let one = cycle(&row, faults, rules);
+        row = one.after.clone();
+        passed.push(one);
+    }
+    passed
+}
+
+/// a cycle in which one node misses frames of others
+fn missing(receiver: usize, heartbeats: Set, votes: Set) -> Faults {
+    let mut faults = Faults::none();
+    faults.missed_heartbeat[receiver] = heartbeats;
+    faults.missed_vote[receiver] = votes;
+    faults
+}
+
+/// quiet presses, from their beginning and from rows that are lent: who voted, and the row
+fn quiet_examples(rules: Rules) -> Vec<(&'static str, bool)> {
+    let none = Faults::none;
+    let lost = |set: Set| Faults { lost_heartbeat: set, ..none() };
+    let start = |set: Set| Faults { start: set, ..none() };
+    let press = |n: usize, founding: Set, faults: &[Faults]| quiet_press(beginning(n, founding), faults, rules);
+
+    let silent_halts = press(3, 7, &[lost(2)]);
+    let entering = press(2, 2, &[start(1), none(), none()]);
+    let heard = press(3, 7, &[Faults { lost_heartbeat: 4, ..missing(2, 0, 2) }, none()]);
+    let own = press(3, 7, &[stopping(2), start(2), missing(2, 0, 2), none()]);
+    let unheard = press(4, 7, &[Faults { start: 8, ..missing(2, 8, 0) }]);
+    let rests = quiet_press(vec![member(5, 3, 7), member(5, 3, 7), STOPPED], &[none()], rules);
+    let outside = quiet_press(vec![member(0, 3, 3), member(0, 3, 3), requesting(0, 12, 12), requesting(0, 12, 12)], &[missing(1, 12, 0)], rules);
+
+    vec![
+        ("quiet P1", printed_by(&p1_table(), rules) == P1_PRINTED),
+        ("a silent member halts", voters(&silent_halts[0]) == 5 && silent_halts[0].after == [requesting(1, 5, 7), OUTVOTED, requesting(1, 5, 7)]),
+        (
+            "who entered requests, votes, and rests",
+            entering[0].after == [requesting(1, 3, 3); 2]
+                && voters(&entering[1]) == 3
+                && voters(&entering[2]) == 0
+                && entering[2].after == [member(1, 3, 3); 2],
+        ),
+        (
+            "a request that is heard makes a stray vote",
+            heard[0].after == [requesting(1, 3, 7), requesting(1, 3, 7), member(0, 7, 7)] && voters(&heard[1]) == 7 && heard[1].after[2] == NO_QUORUM,
+        ),
+        (
+            "the own request makes a stray vote",
+            own[2].after == [member(2, 7, 7), member(2, 7, 7), requesting(3, 5, 7)] && voters(&own[3]) == 7 && own[3].after[2] == NO_QUORUM,
+        ),
+        (
+            "a silent member is in no new set",
+            voters(&unheard[0]) == 3 && unheard[0].after == [requesting(1, 0xb, 0xf), requesting(1, 0xb, 0xf), OUTVOTED, requesting(1, 0xb, 0xf)],
+        ),
+        ("the base of a silent member becomes its set", rests[0].after == [member(5, 3, 3), member(5, 3, 3), STOPPED]),
+        ("a request from outside the set counts for nothing", voters(&outside[0]) == 12 && outside[0].after[..2] == [member(0, 3, 3); 2]),
+    ]
+}
+
+/// what node 0 of three decides that heard all and did not vote
+fn quiet_decisions(rules: Rules) -> Vec<(&'static str, bool)> {
+    let vote = Some(Vote { group: Group { number: 0, set: 7, base: 7 }, view: 7 });
+    let decided = |votes: &[Option<Vote>]| decide(3, 0, member(0, 7, 7), Heard { join0: 6, ..Heard::default() }, votes, rules);
+    vec![
+        ("a quorum for its own view puts a silent member out", decided(&[None, vote, vote]) == OUTVOTED),
+        ("a silent member counts no vote of its own", decided(&[None, vote, None]) == member(0, 7, 7)),
     ]
 }

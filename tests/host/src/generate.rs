@@ -1,9 +1,10 @@
 //! Inputs that are worth comparing: presses driven through faults, votes around the quorum, frames, tables, steps on a register block, and damage to each.
 use crate::paper::checks::frame_check;
-use crate::paper::faults::{after_rule1, all_heard, all_votes, arriving, cycle, Faults};
+use crate::paper::faults::{arriving, cycle, Cycle, Faults};
 use crate::paper::frames::{frame, heartbeat, parts_of, vote_frame, vote_payload, Header, VOTES_BYTES, VOTE_BYTES};
+use crate::paper::mode::Mode;
 use crate::paper::registers::{block_of, written, Flags, Machine, BLOCK_BYTES, COMMAND, ENABLES, FLAGS};
-use crate::paper::rules::{rule3, Heard, Vote};
+use crate::paper::rules::{rule3, Heard, Rules, Sign, Vote};
 use crate::paper::sets::{all, has, nodes, only};
 use crate::paper::state::{beginning_from, image, row_image, Group, Reason, State, Unit, IMAGE_BYTES};
 use crate::paper::table::{write_cycle, write_first};
@@ -129,51 +130,48 @@ pub fn shuffled(random: &mut Random, n: usize) -> Vec<usize> {
     order
 }
 
-/// a press in some cycle: the row before it and after rule 1, the faults, and what each node hears and votes
+/// a press in some cycle: the row before it, the faults, and what the cycle is by the rules
 pub struct Press {
     pub n: usize,
+    pub mode: Mode,
     pub before: Vec<State>,
     pub faults: Faults,
-    pub row: Vec<State>,
-    pub heard: Vec<Heard>,
-    pub votes: Vec<Option<Vote>>,
+    pub cycle: Cycle,
 }
 
 impl Press {
-    pub fn new(random: &mut Random, n: usize) -> Press {
+    pub fn new(random: &mut Random, mode: Mode, n: usize) -> Press {
         let founding = founding(random, n);
         let number = group_number(random);
-        Press::at(random, beginning_from(n, founding, number))
+        Press::at(random, mode, beginning_from(n, founding, number))
     }
 
-    fn at(random: &mut Random, before: Vec<State>) -> Press {
+    fn at(random: &mut Random, mode: Mode, before: Vec<State>) -> Press {
         let n = before.len();
         let faults = if before.iter().all(|state| matches!(state, State::Out(_))) { Faults::none() } else { faults(random, n) };
-        let row = after_rule1(&before, &faults);
-        let heard = all_heard(&row, &faults);
-        let votes = all_votes(&row, &heard, None);
-        Press { n, before, faults, row, heard, votes }
+        let cycle = cycle(&before, &faults, Rules::of(mode));
+        Press { n, mode, before, faults, cycle }
     }
 
     /// the next cycle; a press of which nobody is left begins again
     pub fn next(&self, random: &mut Random) -> Press {
-        let row = cycle(&self.before, &self.faults, None);
-        if row.iter().any(|state| matches!(state, State::Member(_))) {
-            Press::at(random, row)
+        if self.cycle.after.iter().any(|state| matches!(state, State::Member { .. })) {
+            Press::at(random, self.mode, self.cycle.after.clone())
         } else {
-            Press::new(random, self.n)
+            Press::new(random, self.mode, self.n)
         }
     }
 
+    /// a node after rule 1
     pub fn unit(&self, node: usize) -> Unit {
-        Unit { n: self.n, node, state: self.row[node] }
+        Unit { n: self.n, node, state: self.cycle.stood[node] }
     }
 
     /// the lent votes of a receiver: 1,792 bytes and a mask; slots that did not arrive hold anything
     pub fn arrived(&self, random: &mut Random, node: usize) -> (Vec<u8>, u64) {
         let mut slots = if random.once_in(2) { vec![0; VOTES_BYTES] } else { random.bytes(VOTES_BYTES) };
         let mut mask = 0;
-        for (q, vote) in arriving(&self.votes, &self.faults, node).iter().enumerate() {
+        for (q, vote) in arriving(&self.cycle.votes, &self.faults, node).iter().enumerate() {
             if let Some(vote) = vote {
                 put_vote(&mut slots, q, vote);
                 mask |= only(q);
@@ -195,14 +193,15 @@ pub fn put_unlooked(random: &mut Random, unit: &Unit, slots: &mut [u8], mask: &m
 }
 
 /// a well-formed unit, of any kind, that no press need have reached
-pub fn unit(random: &mut Random, n: usize) -> Unit {
+pub fn unit(random: &mut Random, mode: Mode, n: usize) -> Unit {
     let node = random.below(n);
     let state = match random.below(6) {
         0 => State::Out(random.pick(&[Reason::Stopped, Reason::NoQuorum, Reason::Outvoted])),
         1 => State::Joining,
         _ => {
             let set = random.mask() & all(n) | only(node);
-            State::Member(Group { number: group_number(random), set, base: set | random.mask() & all(n) })
+            let group = Group { number: group_number(random), set, base: set | random.mask() & all(n) };
+            State::Member { group, request: mode.is_quiet() && random.once_in(2) }
         }
     };
     Unit { n, node, state }
@@ -236,6 +235,11 @@ pub fn any_image(random: &mut Random, unit: &Unit) -> Vec<u8> {
     bytes
 }
 
+/// what a member sees; it is the same in both modes
+pub fn view(unit: &Unit, group: &Group, heard: Heard) -> u64 {
+    rule3(unit.n, unit.node, group, heard, Rules::of(Mode::Always))
+}
+
 /// votes around the quorum, for a unit that is a member or joining: some agree with it, some have another view, some are of another group
 pub fn votes_for(random: &mut Random, unit: &Unit, heard: Heard) -> (Vec<u8>, u64) {
     let n = unit.n;
@@ -244,8 +248,8 @@ pub fn votes_for(random: &mut Random, unit: &Unit, heard: Heard) -> (Vec<u8>, u6
     }
     let mut slots = random.bytes(VOTES_BYTES);
     let mut values: Vec<Vote> = Vec::new();
-    if let State::Member(group) = unit.state {
-        let view = rule3(n, unit.node, &group, heard, None);
+    if let State::Member { group, .. } = unit.state {
+        let view = view(unit, &group, heard);
         values.push(Vote { group, view });
         values.push(Vote { group, view: view ^ only(random.below(n)) });
         values.push(Vote { group: Group { number: group.number.wrapping_add(1), ..group }, view });
@@ -271,7 +275,7 @@ pub fn votes_for(random: &mut Random, unit: &Unit, heard: Heard) -> (Vec<u8>, u6
         k => (half + k).saturating_sub(2),
     };
     let mut mask = if random.once_in(2) { random.bits() & !all(n) } else { 0 };
-    let mut agreeing = if matches!(unit.state, State::Member(_)) { 1 } else { 0 };
+    let mut agreeing = if matches!(unit.state, State::Member { .. }) { 1 } else { 0 };
     let rival = 1 + random.below(values.len() - 1);
     let mixed = random.once_in(3);
     for q in shuffled(random, n) {
@@ -456,34 +460,49 @@ pub fn drive(random: &mut Random) -> Vec<u8> {
     random.bytes(2 * words)
 }
 
+/// what heartbeats of a mode say
+pub fn signs(mode: Mode) -> &'static [Sign] {
+    match mode {
+        Mode::Always => &[Sign::Member, Sign::Joining],
+        Mode::Quiet => &[Sign::Member, Sign::Joining, Sign::Request],
+    }
+}
+
 /// a heartbeat of a node on a channel
-pub fn good_heartbeat(random: &mut Random, node: usize, cycle: u32, channel: u32, drive: &[u8]) -> Vec<u8> {
+pub fn good_heartbeat(random: &mut Random, mode: Mode, node: usize, cycle: u32, channel: u32, drive: &[u8]) -> Vec<u8> {
     let sync = random.once_in(2);
-    let join = random.once_in(2);
+    let sign = random.pick(signs(mode));
     let startup = sync && random.once_in(2);
-    heartbeat(node, join, sync, startup, cycle, channel, drive)
+    heartbeat(node, sign, sync, startup, cycle, channel, drive)
 }
 
 /// both copies of a heartbeat of a node; in one of four pairs they say different things
-pub fn two_heartbeats(random: &mut Random, node: usize, cycle: u32) -> [Vec<u8>; 2] {
-    let (join, drive) = (random.once_in(2), drive(random));
+pub fn two_heartbeats(random: &mut Random, mode: Mode, node: usize, cycle: u32) -> [Vec<u8>; 2] {
+    let (sign, drive) = (random.pick(signs(mode)), drive(random));
     let mut copies = [0, 1].map(|channel| {
         let sync = random.once_in(2);
-        heartbeat(node, join, sync, sync && random.once_in(2), cycle, channel, &drive)
+        heartbeat(node, sign, sync, sync && random.once_in(2), cycle, channel, &drive)
     });
     if random.once_in(4) {
         let channel = random.below(2);
-        copies[channel] = other_heartbeat(random, &copies[channel], channel as u32);
+        copies[channel] = other_heartbeat(random, mode, &copies[channel], channel as u32);
     }
     copies
 }
 
-/// a good heartbeat that differs from another one in join, in a drive byte, or in how many there are
-pub fn other_heartbeat(random: &mut Random, good: &[u8], channel: u32) -> Vec<u8> {
+/// the first byte of a good heartbeat that says something else
+pub fn other_first_byte(random: &mut Random, mode: Mode, first: u8) -> u8 {
+    let good: &[u8] = if mode.is_quiet() { &[0, 0x40, 0x80] } else { &[0, 0x80] };
+    let others: Vec<u8> = good.iter().copied().filter(|byte| *byte != first).collect();
+    random.pick(&others)
+}
+
+/// a good heartbeat that differs from another one in what it says, in a drive byte, or in how many there are
+pub fn other_heartbeat(random: &mut Random, mode: Mode, good: &[u8], channel: u32) -> Vec<u8> {
     let (header, payload) = parts_of(good);
     let (mut payload, len) = (payload.to_vec(), payload.len());
     match random.below(4) {
-        0 => payload[0] ^= 0x80,
+        0 => payload[0] = other_first_byte(random, mode, payload[0]),
         1 if len > 2 => payload[2 + random.below(len - 2)] ^= 1 << random.below(8),
         2 if len > 2 => payload.truncate(len - 2),
         _ if len < 254 => payload.extend([random.pick(&[0, 0x5a]); 2]),
@@ -656,7 +675,7 @@ pub struct Offer {
 /// votes of a cycle under which a unit stays as it is, has another set, halts for either reason, or enters; or any around the quorum
 pub fn offer(random: &mut Random, unit: &Unit) -> Offer {
     let (heard, vote, voters) = match unit.state {
-        State::Member(group) => vote_of_members(random, unit, group),
+        State::Member { group, .. } => vote_of_members(random, unit, group),
         _ => vote_for_joiner(random, unit),
     };
     let (mut slots, mut arrived) = if random.once_in(8) {
@@ -678,7 +697,10 @@ fn vote_of_members(random: &mut Random, unit: &Unit, group: Group) -> (Heard, Vo
     let moved = if random.once_in(2) { only(random.below(unit.n)) & !only(unit.node) } else { 0 };
     let view = group.set ^ moved;
     // join 0 from outside the set and join 1 from inside count for nothing
-    let heard = Heard { join0: view & group.set | random.bits() & !group.set, join1: view & !group.set | random.bits() & group.set };
+    let (join0, join1) = (view & group.set | random.bits() & !group.set, view & !group.set | random.bits() & group.set);
+    // a request from outside the set, of the unit itself or of nobody who is heard counts for nothing
+    let unlooked = random.bits() & (!group.set | !join0 | only(unit.node));
+    let heard = Heard { join0, join1, requests: if random.once_in(2) { random.mask() } else { unlooked } };
     let voters = group.set & view & !only(unit.node);
     match random.below(6) {
         0 => (heard, Vote { group, view }, 0),
@@ -697,7 +719,7 @@ fn vote_for_joiner(random: &mut Random, unit: &Unit) -> (Heard, Vote, u64) {
     let lost = if random.once_in(4) { random.mask() & others } else { 0 };
     let group = Group { number: group_number(random), set, base: set | lost };
     let wanted = if random.once_in(6) { 0 } else { only(unit.node) };
-    (Heard { join0: random.bits(), join1: random.bits() }, Vote { group, view: set | wanted }, set)
+    (Heard { join0: random.bits(), join1: random.bits(), requests: random.bits() }, Vote { group, view: set | wanted }, set)
 }
 
 /// a step on a register block, a write with its address and value
@@ -749,10 +771,10 @@ fn lent_offer(random: &mut Random, unit: &Unit) -> Offer {
 }
 
 /// a machine with a unit at its beginning, or of any kind
-pub fn machine(random: &mut Random) -> Machine {
+pub fn machine(random: &mut Random, mode: Mode) -> Machine {
     let n = count(random);
     let unit = if random.once_in(3) {
-        unit(random, n)
+        unit(random, mode, n)
     } else {
         let (node, founding, number) = (random.below(n), founding(random, n), group_number(random));
         Unit { n, node, state: beginning_from(n, founding, number)[node] }

@@ -1,5 +1,5 @@
-//! Compares the twenty-one entries of the archive with the paper's implementation: first every length, number and place of damage in turn, then random calls
-//! and random series of steps on a register block. SEED (or the first argument) chooses the calls, CALLS and SERIES the number of random ones.
+//! Compares the twenty-one entries of the archive with the paper's implementation, in both modes: first every length, number and place of damage in turn, then
+//! random calls and random series of steps on a register block. SEED (or the first argument) chooses the calls, CALLS and SERIES the number of random ones.
 use host::archive::Archive;
 use host::claims::{each_kept_record, Standing};
 use host::generate::{self as make, Press, Step};
@@ -10,10 +10,11 @@ use host::paper::frames::{
     arrived_votes, frame, heartbeat, heartbeat_header, parts_of, vote_frame, vote_header, vote_payload, Header, DRIVE_BYTES, HEARTBEAT_BYTES,
     VOTES_BYTES, VOTE_BYTES, VOTE_FRAME_BYTES,
 };
+use host::paper::mode::Mode;
 use host::paper::registers::{block_of, raised, read_block, written, Flags, Machine, BLOCK_BYTES, COMMAND, ENABLES, FLAGS, PENDING};
-use host::paper::rules::{fits, rule3, Heard, Vote};
+use host::paper::rules::{fits, rule4, Heard, Rules, Sign, Vote};
 use host::paper::run::FRAMES_BYTES;
-use host::paper::sets::{has, only, size};
+use host::paper::sets::{all, has, inside, only, size};
 use host::paper::state::{beginning_from, image, row_image, Group, Reason, State, Unit};
 use host::paper::table::{write_cycle, write_first};
 use host::random::Random;
@@ -43,6 +44,8 @@ const ENTRIES: [&str; 21] = [
     "register_cycle",
     "register_write_cycle",
 ];
+/// the entries that take no mode: a founder's state and a vote's frame are the same in both
+const NO_MODE_ASKED: [&str; 4] = ["begin", "write_vote", "read_vote", "receive_vote"];
 /// 0 and every refusal of the paper and of the requests made after it
 const STATUSES: usize = 22;
 const FLAG_NAMES: [&str; 3] = ["changed", "halted", "entered"];
@@ -61,8 +64,11 @@ const FILLED_VALUE: u32 = 0x9192_9394;
 /// for drive bytes that are read: no byte of it is 0, and none is as its neighbours are
 const FILLED: [u8; 300] = pattern();
 const FILLED_DRIVE: &[u8] = FILLED.split_at(DRIVE_BYTES).0;
-/// for the results of a heartbeat read or received
-const FILLED_READ: [u32; 2] = [0x8182_8384, 0x8586_8788];
+/// for the results of a heartbeat read, and of one received
+const FILLED_READ: [u32; 3] = [0x8182_8384, 0x8586_8788, 0x898a_8b8c];
+const FILLED_HEARD: [u32; 2] = [0x8182_8384, 0x8586_8788];
+/// numbers that are no mode, and such that would be one if only part of them were looked at
+const NO_MODES: [u32; 9] = [2, 3, 255, 256, 257, 1 << 16, (1 << 16) + 1, 1 << 31, u32::MAX];
 /// the words of heartbeats of which each byte is changed
 const WORDS: [usize; 4] = [1, 2, 64, 127];
 
@@ -109,7 +115,7 @@ struct Outcome {
     buffers: Vec<Lent>,
 }
 
-/// what a heartbeat read or received left: status, join or heard and the number of drive bytes, and the lent buffer
+/// what a heartbeat read or received left: status, join and request or heard, the number of drive bytes, and the lent buffer
 struct Received {
     status: u32,
     results: Vec<u64>,
@@ -117,10 +123,10 @@ struct Received {
 }
 
 impl Received {
-    /// this join or heard, just these drive bytes, and behind them what was there
-    fn is(&self, first: u64, drive: &[u8]) -> bool {
+    /// this join and request or this heard, just these drive bytes, and behind them what was there
+    fn is(&self, said: &[u64], drive: &[u8]) -> bool {
         let left = [drive, &FILLED_DRIVE[drive.len()..]].concat();
-        self.status == 0 && self.results == [first, drive.len() as u64] && self.drive == left
+        self.status == 0 && self.results == [said, &[drive.len() as u64]].concat() && self.drive == left
     }
 }
 
@@ -139,6 +145,8 @@ struct Compare {
     counts: [[u64; STATUSES]; ENTRIES.len()],
     /// moves the buffers of a call to other addresses
     shift: usize,
+    /// the mode with which entries are called
+    mode: u32,
     /// what accepted calls gave, in words
     given: BTreeMap<String, u64>,
     /// per flag of a register block and what became of it
@@ -166,7 +174,7 @@ impl Compare {
         let unchanged = |outcome: &Outcome| outcome.results == results && outcome.buffers == lent;
         if paper != archive || archive.status != 0 && !unchanged(&archive) {
             println!("compare: gm_{entry} differs");
-            println!("  numbers {numbers:x?} (hex)");
+            println!("  mode {}, numbers {numbers:x?} (hex)", self.mode);
             println!("  results before {results:x?}");
             buffers.iter().for_each(|bytes| println!("  buffer of {}: {}", bytes.len(), hex(bytes)));
             for (name, outcome) in [("paper", &paper), ("archive", &archive)] {
@@ -196,15 +204,15 @@ impl Compare {
         let text = match entry {
             "decide" | "register_cycle" => match (kind(before), kind(after)) {
                 ("member", "out") => format!("member to out with reason {}", after[1]),
-                ("member", _) if before[4..8] == after[4..8] => "member with the same G".to_string(),
-                ("member", _) if after[4..8] == [0; 4] => "member with G from 4294967295 to 0".to_string(),
-                ("member", _) => "member with the next G".to_string(),
+                ("member", _) if before[4..8] == after[4..8] => format!("member with the same G{}", request_text(after)),
+                ("member", _) if after[4..8] == [0; 4] => format!("member with G from 4294967295 to 0{}", request_text(after)),
+                ("member", _) => format!("member with the next G{}", request_text(after)),
                 (before, after) => format!("{before} to {after}"),
             },
             "write_heartbeat" => drive_text(after.len() - HEARTBEAT_BYTES).to_string(),
-            "read_heartbeat" => drive_text(results[1] as usize).to_string(),
+            "read_heartbeat" => format!("join {}, request {}, {}", results[0], results[1], drive_text(results[2] as usize)),
             "receive_heartbeat" if results[0] == 0 => "missed".to_string(),
-            "receive_heartbeat" => format!("join {}, {}", results[0] - 1, drive_text(results[1] as usize)),
+            "receive_heartbeat" => format!("heard {}, {}", results[0], drive_text(results[1] as usize)),
             "state" => ["out", "joining", "member"][results[0] as usize].to_string(),
             "send_heartbeat" | "send_vote" => ["nothing sent", "sent"][results[0] as usize].to_string(),
             "receive_vote" if before != after => "arrived".to_string(),
@@ -217,7 +225,21 @@ impl Compare {
             }
             _ => return,
         };
-        *self.given.entry(format!("gm_{entry}: {text}")).or_default() += 1;
+        let mode = if NO_MODE_ASKED.contains(&entry) { String::new() } else { format!(", mode {}", self.mode) };
+        *self.given.entry(format!("gm_{entry}{mode}: {text}")).or_default() += 1;
+    }
+
+    /// the mode that entries are called with, of a press
+    fn press_mode(&self) -> Mode {
+        Mode::of(self.mode).expect("the mode of a press")
+    }
+
+    /// what is done with another mode
+    fn with_mode<T>(&mut self, mode: u32, done: impl FnOnce(&mut Compare) -> T) -> T {
+        let before = std::mem::replace(&mut self.mode, mode);
+        let result = done(self);
+        self.mode = before;
+        result
     }
 
     fn begin(&mut self, n: u32, node: u32, founding: u64, state: &[u8]) {
@@ -225,62 +247,71 @@ impl Compare {
     }
 
     fn stop(&mut self, state: &[u8]) {
-        self.both("stop", &[], &[], &[state], |by, _, b| by.stop(b[0].lend()));
+        let mode = self.mode;
+        self.both("stop", &[], &[], &[state], |by, _, b| by.stop(mode, b[0].lend()));
     }
 
     fn start(&mut self, state: &[u8]) {
-        self.both("start", &[], &[], &[state], |by, _, b| by.start(b[0].lend()));
+        let mode = self.mode;
+        self.both("start", &[], &[], &[state], |by, _, b| by.start(mode, b[0].lend()));
     }
 
     fn state(&mut self, state: &[u8], numbers: [u32; 5], masks: [u64; 2]) {
+        let mode = self.mode;
         let results: Vec<u64> = numbers.map(u64::from).into_iter().chain(masks).collect();
         self.both("state", &[], &results, &[state], |by, r, b| {
             let [mut kind, mut reason, mut node, mut n, mut number] = numbers;
             let [mut set, mut base] = masks;
-            let status = by.state(b[0].get(), &mut kind, &mut reason, &mut node, &mut n, &mut number, &mut set, &mut base);
+            let status = by.state(mode, b[0].get(), &mut kind, &mut reason, &mut node, &mut n, &mut number, &mut set, &mut base);
             r.copy_from_slice(&[kind.into(), reason.into(), node.into(), n.into(), number.into(), set, base]);
             status
         });
     }
 
-    fn write_heartbeat(&mut self, [n, node, join, sync, startup, cycle, channel]: [u32; 7], drive: &[u8], frame: &[u8]) -> Vec<u8> {
-        let numbers = [n, node, join, sync, startup, cycle, channel].map(u64::from);
+    fn write_heartbeat(&mut self, [n, node, join, request, sync, startup, cycle, channel]: [u32; 8], drive: &[u8], frame: &[u8]) -> Vec<u8> {
+        let mode = self.mode;
+        let numbers = [n, node, join, request, sync, startup, cycle, channel].map(u64::from);
         let (_, _, written) = self.both("write_heartbeat", &numbers, &[], &[drive, frame], |by, _, b| {
             let [drive, frame] = b else { unreachable!() };
-            by.write_heartbeat(n, node, join, sync, startup, cycle, channel, drive.get(), frame.lend())
+            by.write_heartbeat(n, mode, node, join, request, sync, startup, cycle, channel, drive.get(), frame.lend())
         });
         written
     }
 
-    fn send_heartbeat(&mut self, state: &[u8], [sync, startup, cycle, channel]: [u32; 4], drive: &[u8], frame: &[u8], sent: u32) {
+    /// what it answers of `sent`, and the frame
+    fn send_heartbeat(&mut self, state: &[u8], [sync, startup, cycle, channel]: [u32; 4], drive: &[u8], frame: &[u8], sent: u32) -> (u64, Vec<u8>) {
+        let mode = self.mode;
         let numbers = [sync, startup, cycle, channel].map(u64::from);
-        self.both("send_heartbeat", &numbers, &[sent.into()], &[state, drive, frame], |by, r, b| {
+        let (_, results, frame) = self.both("send_heartbeat", &numbers, &[sent.into()], &[state, drive, frame], |by, r, b| {
             let [state, drive, frame] = b else { unreachable!() };
             let mut sent = r[0] as u32;
-            let status = by.send_heartbeat(state.get(), sync, startup, cycle, channel, drive.get(), frame.lend(), &mut sent);
+            let status = by.send_heartbeat(mode, state.get(), sync, startup, cycle, channel, drive.get(), frame.lend(), &mut sent);
             r[0] = sent.into();
             status
         });
+        (results[0], frame)
     }
 
-    fn read_heartbeat(&mut self, [n, node, cycle, channel]: [u32; 4], frame: &[u8], drive: &[u8], before: [u32; 2]) -> Received {
+    fn read_heartbeat(&mut self, [n, node, cycle, channel]: [u32; 4], frame: &[u8], drive: &[u8], before: [u32; 3]) -> Received {
+        let mode = self.mode;
         let numbers = [n, node, cycle, channel].map(u64::from);
         let (status, results, drive) = self.both("read_heartbeat", &numbers, &before.map(u64::from), &[frame, drive], |by, r, b| {
             let [frame, drive] = b else { unreachable!() };
-            let [mut join, mut drive_bytes] = before;
-            let status = by.read_heartbeat(n, node, cycle, channel, frame.get(), drive.lend(), &mut join, &mut drive_bytes);
-            r.copy_from_slice(&[join, drive_bytes].map(u64::from));
+            let [mut join, mut request, mut drive_bytes] = before;
+            let status = by.read_heartbeat(n, mode, node, cycle, channel, frame.get(), drive.lend(), &mut join, &mut request, &mut drive_bytes);
+            r.copy_from_slice(&[join, request, drive_bytes].map(u64::from));
             status
         });
         Received { status, results, drive }
     }
 
     fn receive_heartbeat(&mut self, [n, node, cycle]: [u32; 3], a: &[u8], b: &[u8], drive: &[u8], before: [u32; 2]) -> Received {
+        let mode = self.mode;
         let numbers = [n, node, cycle].map(u64::from);
         let (status, results, drive) = self.both("receive_heartbeat", &numbers, &before.map(u64::from), &[a, b, drive], |by, r, lent| {
             let [a, b, drive] = lent else { unreachable!() };
             let [mut heard, mut drive_bytes] = before;
-            let status = by.receive_heartbeat(n, node, cycle, a.get(), b.get(), drive.lend(), &mut heard, &mut drive_bytes);
+            let status = by.receive_heartbeat(n, mode, node, cycle, a.get(), b.get(), drive.lend(), &mut heard, &mut drive_bytes);
             r.copy_from_slice(&[heard, drive_bytes].map(u64::from));
             status
         });
@@ -293,11 +324,12 @@ impl Compare {
     }
 
     fn receive_filled(&mut self, sender: [u32; 3], [a, b]: [&[u8]; 2]) -> Received {
-        self.receive_heartbeat(sender, a, b, FILLED_DRIVE, FILLED_READ)
+        self.receive_heartbeat(sender, a, b, FILLED_DRIVE, FILLED_HEARD)
     }
 
     fn view(&mut self, state: &[u8], heard: Heard, view: u64) {
-        self.both("view", &[heard.join0, heard.join1], &[view], &[state], |by, r, b| by.view(b[0].get(), heard.join0, heard.join1, &mut r[0]));
+        let mode = self.mode;
+        self.both("view", &[heard.join0, heard.join1], &[view], &[state], |by, r, b| by.view(mode, b[0].get(), heard.join0, heard.join1, &mut r[0]));
     }
 
     fn write_vote(&mut self, [n, node, cycle, channel]: [u32; 4], vote: &Vote, frame: &[u8]) {
@@ -306,15 +338,18 @@ impl Compare {
         self.both("write_vote", &numbers, &[], &[frame], |by, _, b| by.write_vote(n, node, number, set, base, view, cycle, channel, b[0].lend()));
     }
 
-    fn send_vote(&mut self, state: &[u8], heard: Heard, [cycle, channel]: [u32; 2], frame: &[u8], sent: u32) {
-        let numbers = [heard.join0, heard.join1, cycle.into(), channel.into()];
-        self.both("send_vote", &numbers, &[sent.into()], &[state, frame], |by, r, b| {
+    /// what it answers of `sent`, and the frame
+    fn send_vote(&mut self, state: &[u8], heard: Heard, [cycle, channel]: [u32; 2], frame: &[u8], sent: u32) -> (u64, Vec<u8>) {
+        let mode = self.mode;
+        let numbers = [heard.join0, heard.join1, heard.requests, cycle.into(), channel.into()];
+        let (_, results, frame) = self.both("send_vote", &numbers, &[sent.into()], &[state, frame], |by, r, b| {
             let [state, frame] = b else { unreachable!() };
             let mut sent = r[0] as u32;
-            let status = by.send_vote(state.get(), heard.join0, heard.join1, cycle, channel, frame.lend(), &mut sent);
+            let status = by.send_vote(mode, state.get(), heard.join0, heard.join1, heard.requests, cycle, channel, frame.lend(), &mut sent);
             r[0] = sent.into();
             status
         });
+        (results[0], frame)
     }
 
     fn read_vote(&mut self, [n, node, cycle, channel]: [u32; 4], frame: &[u8], vote: &[u8]) {
@@ -334,62 +369,69 @@ impl Compare {
         (results[0], votes)
     }
 
-    fn decide(&mut self, state: &[u8], heard: Heard, votes: &[u8], arrived: u64) {
-        self.both("decide", &[heard.join0, heard.join1, arrived], &[], &[votes, state], |by, _, b| {
+    fn decide(&mut self, state: &[u8], heard: Heard, votes: &[u8], arrived: u64) -> Vec<u8> {
+        let (mode, Heard { join0, join1, requests }) = (self.mode, heard);
+        let (_, _, left) = self.both("decide", &[join0, join1, requests, arrived], &[], &[votes, state], |by, _, b| {
             let [votes, state] = b else { unreachable!() };
-            by.decide(state.lend(), heard.join0, heard.join1, votes.get(), arrived)
+            by.decide(mode, state.lend(), join0, join1, requests, votes.get(), arrived)
         });
+        left
     }
 
     fn cycle(&mut self, n: u32, row: &[u8], record: &[u8]) -> (u32, Vec<u8>) {
+        let mode = self.mode;
         let (status, _, row) = self.both("cycle", &[n.into()], &[], &[record, row], |by, _, b| {
             let [record, row] = b else { unreachable!() };
-            by.cycle(n, row.lend(), record.get())
+            by.cycle(n, mode, row.lend(), record.get())
         });
         (status, row)
     }
 
     fn run(&mut self, row: &[u8], table: &[u8]) -> (u32, Vec<u8>) {
+        let mode = self.mode;
         let (status, _, row) = self.both("run", &[], &[], &[table, row], |by, _, b| {
             let [table, row] = b else { unreachable!() };
-            by.run(row.lend(), table.get())
+            by.run(mode, row.lend(), table.get())
         });
         (status, row)
     }
 
     fn run_frames(&mut self, row: &[u8], table: &[u8], frames: &[u8]) -> (u32, Vec<u8>) {
+        let mode = self.mode;
         let (status, _, row) = self.both("run_frames", &[], &[], &[table, frames, row], |by, _, b| {
             let [table, frames, row] = b else { unreachable!() };
-            by.run_frames(row.lend(), table.get(), frames.lend())
+            by.run_frames(mode, row.lend(), table.get(), frames.lend())
         });
         (status, row)
     }
 
     /// a step on a register block, which is left behind
     fn step(&mut self, block: &[u8], step: &Step) -> (u32, Vec<u8>) {
+        let mode = self.mode;
         let (status, _, left) = match *step {
             Step::Read(address) => self.both("register_read", &[address.into()], &[FILLED_VALUE.into()], &[block], |by, r, b| {
                 let mut value = r[0] as u32;
-                let status = by.register_read(b[0].get(), address, &mut value);
+                let status = by.register_read(mode, b[0].get(), address, &mut value);
                 r[0] = value.into();
                 status
             }),
             Step::Write(address, value) => {
-                self.both("register_write", &[address.into(), value.into()], &[], &[block], |by, _, b| by.register_write(b[0].lend(), address, value))
+                let numbers = [address.into(), value.into()];
+                self.both("register_write", &numbers, &[], &[block], |by, _, b| by.register_write(mode, b[0].lend(), address, value))
             }
             Step::Cycle(ref offer) => {
-                let Heard { join0, join1 } = offer.heard;
-                self.both("register_cycle", &[join0, join1, offer.arrived], &[], &[&offer.slots, block], |by, _, b| {
+                let Heard { join0, join1, requests } = offer.heard;
+                self.both("register_cycle", &[join0, join1, requests, offer.arrived], &[], &[&offer.slots, block], |by, _, b| {
                     let [votes, block] = b else { unreachable!() };
-                    by.register_cycle(block.lend(), join0, join1, votes.get(), offer.arrived)
+                    by.register_cycle(mode, block.lend(), join0, join1, requests, votes.get(), offer.arrived)
                 })
             }
             Step::WriteCycle(address, value, ref offer) => {
-                let Heard { join0, join1 } = offer.heard;
-                let numbers = [address.into(), value.into(), join0, join1, offer.arrived];
+                let Heard { join0, join1, requests } = offer.heard;
+                let numbers = [address.into(), value.into(), join0, join1, requests, offer.arrived];
                 self.both("register_write_cycle", &numbers, &[], &[&offer.slots, block], |by, _, b| {
                     let [votes, block] = b else { unreachable!() };
-                    by.register_write_cycle(block.lend(), address, value, join0, join1, votes.get(), offer.arrived)
+                    by.register_write_cycle(mode, block.lend(), address, value, join0, join1, requests, votes.get(), offer.arrived)
                 })
             }
         };
@@ -398,6 +440,20 @@ impl Compare {
 
     fn total(&self) -> u64 {
         self.counts.iter().flatten().sum()
+    }
+}
+
+/// whether the image of a member says that it will request
+fn request_text(image: &[u8]) -> &'static str {
+    ["", ", requests"][usize::from(image[1])]
+}
+
+/// a mode as a caller gives it, now and then the other one or none
+fn lent_mode(random: &mut Random, mode: Mode) -> u32 {
+    match random.below(24) {
+        0 => random.pick(&NO_MODES),
+        1 => 1 - mode.number(),
+        _ => mode.number(),
     }
 }
 
@@ -443,14 +499,20 @@ fn lent_drive(random: &mut Random) -> Vec<u8> {
     }
 }
 
-/// masks heard, often those that a press gives
+/// masks heard, often those that a press gives, and now and then these with other requests
 fn heard(random: &mut Random, given: Heard) -> Heard {
-    match random.below(6) {
-        0 => Heard { join0: random.bits(), join1: random.bits() },
-        1 => Heard { join0: given.join0 ^ random.mask(), join1: given.join1 ^ random.mask() },
-        2 => Heard { join0: random.mask(), join1: random.mask() },
+    match random.below(7) {
+        0 => Heard { join0: random.bits(), join1: random.bits(), requests: random.bits() },
+        1 => Heard { join0: given.join0 ^ random.mask(), join1: given.join1 ^ random.mask(), ..given },
+        2 => Heard { join0: random.mask(), join1: random.mask(), requests: random.mask() },
+        3 => Heard { requests: given.requests ^ random.mask(), ..given },
         _ => given,
     }
+}
+
+/// everybody of a set is heard with join 0
+fn members(set: u64) -> Heard {
+    Heard { join0: set, ..Heard::default() }
 }
 
 // every value of one input in turn, the others being right
@@ -460,11 +522,11 @@ fn counts_and_numbers(compare: &mut Compare) {
     for x in wide {
         for node in [0, 1, 4, 63, 64, x.wrapping_sub(1), x, x.wrapping_add(1)] {
             compare.begin(x, node, 1, &[7; 24]);
-            compare.write_heartbeat([x, node, 0, 0, 0, 0, 0], &[], &[7; 10]);
+            compare.write_heartbeat([x, node, 0, 0, 0, 0, 0, 0], &[], &[7; 10]);
             let set = if node < 64 { only(node as usize) } else { 1 };
             let vote = Vote { group: Group { number: 1, set, base: set }, view: set };
             compare.write_vote([x, node, 0, 0], &vote, &[7; 36]);
-            let beat = heartbeat(node.min(63) as usize, true, false, false, 0, 0, &[]);
+            let beat = heartbeat(node.min(63) as usize, Sign::Joining, false, false, 0, 0, &[]);
             let sent = vote_frame(node.min(63) as usize, &vote, 0, 0);
             compare.read_filled([x, node, 0, 0], &beat);
             compare.receive_filled([x, node, 0], [&beat, &[]]);
@@ -474,10 +536,10 @@ fn counts_and_numbers(compare: &mut Compare) {
         }
         let five = image(&Unit { n: 5, node: 1, state: beginning_from(5, 0x1f, 3)[1] });
         for channel in [0, 1, 2, x] {
-            compare.write_heartbeat([5, 1, 0, 0, 0, x, channel], &[], &[7; 10]);
+            compare.write_heartbeat([5, 1, 0, 0, 0, 0, x, channel], &[], &[7; 10]);
             compare.send_heartbeat(&five, [0, 0, x, channel], &[], &[7; 10], 9);
-            compare.send_vote(&five, Heard { join0: 0x1f, join1: 0 }, [x, channel], &[7; 36], 9);
-            let beat = heartbeat(1, true, false, false, x & 63, channel & 1, &[]);
+            compare.send_vote(&five, members(0x1f), [x, channel], &[7; 36], 9);
+            let beat = heartbeat(1, Sign::Joining, false, false, x & 63, channel & 1, &[]);
             compare.read_filled([5, 1, x, channel], &beat);
             compare.receive_filled([5, 1, x], [&beat, &beat]);
             let vote = Vote { group: Group { number: 1, set: 0x1f, base: 0x1f }, view: 3 };
@@ -487,8 +549,9 @@ fn counts_and_numbers(compare: &mut Compare) {
             compare.receive_vote([5, 1, x], &sent, &sent, &[7; VOTES_BYTES], u64::MAX);
         }
         for (sync, startup) in [(0, 0), (0, 1), (1, 0), (1, 1), (x, 0), (x, 1), (1, x), (x, x), (0, x)] {
-            compare.write_heartbeat([5, 1, x, sync, startup, 0, 0], &[], &[7; 10]);
-            compare.write_heartbeat([5, 1, 1, sync, startup, 0, 1], &[], &[7; 10]);
+            compare.write_heartbeat([5, 1, x, 0, sync, startup, 0, 0], &[], &[7; 10]);
+            compare.write_heartbeat([5, 1, 0, x, sync, startup, 0, 0], &[], &[7; 10]);
+            compare.write_heartbeat([5, 1, 1, 0, sync, startup, 0, 1], &[], &[7; 10]);
             compare.send_heartbeat(&five, [sync, startup, 63, 1], &[], &[7; 10], 9);
         }
     }
@@ -496,12 +559,12 @@ fn counts_and_numbers(compare: &mut Compare) {
 
 fn lengths(compare: &mut Compare) {
     let right = image(&Unit { n: 5, node: 1, state: beginning_from(5, 0x1f, u32::MAX)[1] });
-    let everyone = Heard { join0: 0x1f, join1: 0 };
+    let everyone = members(0x1f);
     let mut votes = vec![0; VOTES_BYTES];
     let vote = Vote { group: Group { number: u32::MAX, set: 0x1f, base: 0x1f }, view: 0x1f };
     (0..5).for_each(|q| make::put_vote(&mut votes, q, &vote));
     let frame = vote_frame(1, &vote, 9, 0);
-    let beat = heartbeat(1, false, true, true, 9, 0, &[]);
+    let beat = heartbeat(1, Sign::Member, true, true, 9, 0, &[]);
     for len in 0..=200 {
         let mut bytes = right.to_vec();
         bytes.resize(len, 0);
@@ -517,7 +580,7 @@ fn lengths(compare: &mut Compare) {
         compare.send_heartbeat(&bytes, [1, 1, 5, 0], &[], &filled, 9);
         compare.send_vote(&bytes, everyone, [5, 0], &[7; 36], 9);
         compare.send_vote(&right, everyone, [5, 0], &filled, 9);
-        compare.write_heartbeat([5, 1, 0, 1, 1, 3, 0], &[], &filled);
+        compare.write_heartbeat([5, 1, 0, 0, 1, 1, 3, 0], &[], &filled);
         compare.write_vote([5, 1, 9, 0], &vote, &filled);
         compare.read_vote([5, 1, 9, 0], &frame, &filled);
         let mut long = frame.clone();
@@ -569,7 +632,8 @@ fn lengths_of_frames(compare: &mut Compare) {
 }
 
 fn every_bit_of_an_image(compare: &mut Compare) {
-    let mut press = Press::new(&mut compare.random, 5);
+    let mode = compare.press_mode();
+    let mut press = Press::new(&mut compare.random, mode, 5);
     for _ in 0..6 {
         for node in 0..press.n {
             let bytes = image(&press.unit(node));
@@ -580,10 +644,10 @@ fn every_bit_of_an_image(compare: &mut Compare) {
                 compare.stop(&changed);
                 compare.start(&changed);
                 compare.state(&changed, FILLED_NUMBERS, FILLED_MASKS);
-                compare.view(&changed, press.heard[node], 7);
+                compare.view(&changed, press.cycle.heard[node], 7);
                 compare.send_heartbeat(&changed, [0, 0, 1, 1], &[], &[7; 10], 7);
-                compare.send_vote(&changed, press.heard[node], [1, 1], &[7; 36], 7);
-                compare.decide(&changed, press.heard[node], &slots, mask);
+                compare.send_vote(&changed, press.cycle.heard[node], [1, 1], &[7; 36], 7);
+                compare.decide(&changed, press.cycle.heard[node], &slots, mask);
             }
             for byte in 0..4 {
                 for value in 0..=255 {
@@ -592,7 +656,7 @@ fn every_bit_of_an_image(compare: &mut Compare) {
                     compare.stop(&changed);
                     compare.start(&changed);
                     compare.state(&changed, FILLED_NUMBERS, FILLED_MASKS);
-                    compare.view(&changed, press.heard[node], 7);
+                    compare.view(&changed, press.cycle.heard[node], 7);
                 }
             }
         }
@@ -601,11 +665,12 @@ fn every_bit_of_an_image(compare: &mut Compare) {
 }
 
 fn every_bit_of_a_frame(compare: &mut Compare) {
+    let mode = compare.press_mode();
     for _ in 0..8 {
         let n = make::count(&mut compare.random);
         let (node, cycle) = (compare.random.below(n), compare.random.below(64) as u32);
         for channel in [0, 1] {
-            let beat = make::good_heartbeat(&mut compare.random, node, cycle, channel, &[]);
+            let beat = make::good_heartbeat(&mut compare.random, mode, node, cycle, channel, &[]);
             let vote = make::good_vote(&mut compare.random, n, node, cycle, channel);
             let place = [n as u32, node as u32, cycle, channel];
             let pair = [n as u32, node as u32, cycle];
@@ -649,7 +714,7 @@ fn place(channel: usize) -> [u32; 4] {
 
 /// the copies of a heartbeat with join 1, their indicators not the same
 fn two_copies(drive: &[u8]) -> [Vec<u8>; 2] {
-    [0, 1].map(|channel| heartbeat(1, true, channel == 1, false, 9, channel, drive))
+    [0, 1].map(|channel| heartbeat(1, Sign::Joining, channel == 1, false, 9, channel, drive))
 }
 
 /// the copies, one of them in the place of what was sent
@@ -681,14 +746,21 @@ fn drive_bytes_written(compare: &mut Compare, drive: &[u8], frame: &[u8]) {
     let mut malformed = member;
     malformed[0] = 3;
     for channel in [0, 1] {
-        compare.write_heartbeat([5, 1, 1, 1, 0, 9, channel], drive, frame);
+        compare.write_heartbeat([5, 1, 1, 0, 1, 0, 9, channel], drive, frame);
         for state in [&member[..], &joining, &out, &malformed, &member[1..]] {
             compare.send_heartbeat(state, [1, 1, 9, channel], drive, frame, 9);
         }
     }
-    for numbers in
-        [[1, 1, 0, 0, 0, 9, 0], [5, 5, 0, 0, 0, 9, 0], [5, 1, 2, 0, 0, 9, 0], [5, 1, 0, 0, 1, 9, 0], [5, 1, 0, 0, 0, 64, 0], [5, 1, 0, 0, 0, 9, 2]]
-    {
+    for numbers in [
+        [1, 1, 0, 0, 0, 0, 9, 0],
+        [5, 5, 0, 0, 0, 0, 9, 0],
+        [5, 1, 2, 0, 0, 0, 9, 0],
+        [5, 1, 0, 2, 0, 0, 9, 0],
+        [5, 1, 1, 1, 0, 0, 9, 0],
+        [5, 1, 0, 0, 0, 1, 9, 0],
+        [5, 1, 0, 0, 0, 0, 64, 0],
+        [5, 1, 0, 0, 0, 0, 9, 2],
+    ] {
         compare.write_heartbeat(numbers, drive, frame);
     }
     compare.send_heartbeat(&malformed, [0, 1, 9, 0], drive, frame, 9);
@@ -697,9 +769,9 @@ fn drive_bytes_written(compare: &mut Compare, drive: &[u8], frame: &[u8]) {
 fn drive_bytes_back(compare: &mut Compare, drive: &[u8]) {
     for (channel, join) in [(0, 0), (0, 1), (1, 0), (1, 1)] {
         let [n, node, cycle] = SENDER;
-        let written = compare.write_heartbeat([n, node, join, join, 0, cycle, channel], drive, &vec![7; HEARTBEAT_BYTES + drive.len()]);
+        let written = compare.write_heartbeat([n, node, join, 0, join, 0, cycle, channel], drive, &vec![7; HEARTBEAT_BYTES + drive.len()]);
         let read = compare.read_filled(place(channel as usize), &written);
-        assert!(read.is(join.into(), drive), "{} drive bytes are not read as they were written", drive.len());
+        assert!(read.is(&[join.into(), 0], drive), "{} drive bytes are not read as they were written", drive.len());
     }
 }
 
@@ -773,12 +845,12 @@ fn every_length_of_a_drive_buffer(compare: &mut Compare) {
     for buffer in (0..=260).map(|len| &FILLED[..len]) {
         for copy in refused.iter().map(|(_, copy)| copy).chain([&copies[0]]) {
             compare.read_heartbeat(place(0), copy, buffer, FILLED_READ);
-            compare.receive_heartbeat(SENDER, copy, &copies[1], buffer, FILLED_READ);
-            compare.receive_heartbeat(SENDER, copy, &[], buffer, FILLED_READ);
+            compare.receive_heartbeat(SENDER, copy, &copies[1], buffer, FILLED_HEARD);
+            compare.receive_heartbeat(SENDER, copy, &[], buffer, FILLED_HEARD);
         }
         for [n, node, cycle] in [[1, 1, 9], [65, 1, 9], [5, 5, 9], [5, 1, 64]] {
             compare.read_heartbeat([n, node, cycle, 0], &copies[0], buffer, FILLED_READ);
-            compare.receive_heartbeat([n, node, cycle], &copies[0], &copies[1], buffer, FILLED_READ);
+            compare.receive_heartbeat([n, node, cycle], &copies[0], &copies[1], buffer, FILLED_HEARD);
         }
         compare.read_heartbeat(place(2), &copies[0], buffer, FILLED_READ);
     }
@@ -807,7 +879,7 @@ fn changed_copy(compare: &mut Compare, copies: &[Vec<u8>; 2], channel: usize, at
         let (read, received) = (compare.read_filled(place(channel), bytes), compare.receive_filled(SENDER, with_copy(copies, channel, bytes)));
         // the indicators are not compared, and a check that was changed and made again is as it was
         let same_payload = at < 5 || at >= end;
-        let due = if read.status != 0 || same_payload { received.is(2, &copies[channel][7..end]) } else { received.is(0, &[]) };
+        let due = if read.status != 0 || same_payload { received.is(&[2], &copies[channel][7..end]) } else { received.is(&[0], &[]) };
         assert!(due, "byte {at} of a copy of {} changed by {change}", end + 3);
     }
 }
@@ -818,7 +890,7 @@ fn copies_of_every_two_lengths(compare: &mut Compare) {
         let copies: Vec<[Vec<u8>; 2]> = (0..=DRIVE_BYTES / 2).map(|words| two_copies(&drive[..2 * words])).collect();
         for ((a, [on_a, _]), (b, [_, on_b])) in copies.iter().enumerate().flat_map(|a| copies.iter().enumerate().map(move |b| (a, b))) {
             let received = compare.receive_filled(SENDER, [on_a, on_b]);
-            let due = if a == b { received.is(2, &drive[..2 * a]) } else { received.is(0, &[]) };
+            let due = if a == b { received.is(&[2], &drive[..2 * a]) } else { received.is(&[0], &[]) };
             assert!(due, "copies of {a} and {b} words of drive bytes");
         }
     }
@@ -833,8 +905,125 @@ fn one_good_copy_of_every_length(compare: &mut Compare) {
         for (number, copy) in &refused {
             assert_eq!(compare.read_filled(place(channel), copy).status, *number, "a copy that is refused");
             let received = compare.receive_filled(SENDER, with_copy(&copies, channel, copy));
-            assert!(received.is(2, &drive), "one good copy of {words} words of drive bytes");
+            assert!(received.is(&[2], &drive), "one good copy of {words} words of drive bytes");
         }
+    }
+}
+
+/// every join and request to be written, alone and with what is refused before and after: of those accepted the first byte says them
+fn every_first_byte_written(compare: &mut Compare) {
+    let values = [0, 1, 2, 3, 255, 256, 1 << 31, u32::MAX];
+    for (join, request) in values.into_iter().flat_map(|join| values.map(|request| (join, request))) {
+        for (n, node, len) in [(5, 1, 10), (1, 1, 10), (5, 5, 10), (5, 1, 11), (5, 5, 11)] {
+            let frame = compare.write_heartbeat([n, node, join, request, 0, 0, 9, 1], &[], &vec![7; len]);
+            let quiet = compare.press_mode().is_quiet();
+            let written = match (join, request) {
+                _ if (n, node, len) != (5, 1, 10) => 7,
+                (0, 0) => 0,
+                (1, 0) => 0x80,
+                (0, 1) if quiet => 0x40,
+                _ => 7,
+            };
+            assert_eq!(frame[5], written, "join {join} and request {request} written");
+        }
+    }
+}
+
+/// heartbeats with every first byte and right checks, on each channel alone and both together: only two that are good and the same count
+fn every_two_first_bytes(compare: &mut Compare) {
+    let quiet = compare.press_mode().is_quiet();
+    let header = heartbeat_header(1, false, false, 1, 9);
+    let copies: Vec<[Vec<u8>; 2]> = (0..=255).map(|first| [0, 1].map(|channel| frame(&header, &[first, 0], channel))).collect();
+    let heard = |first: usize| match first {
+        0 => 1,
+        0x80 => 2,
+        0x40 if quiet => 3,
+        _ => 0,
+    };
+    for (a, [on_a, alone]) in copies.iter().enumerate() {
+        compare.read_filled(place(0), on_a);
+        let read = compare.read_filled(place(1), alone);
+        let said = [u64::from(a == 0x80), u64::from(a == 0x40)];
+        assert!(if heard(a) == 0 { read.status == 10 } else { read.is(&said, &[]) }, "first byte {a} read");
+        for (b, [_, on_b]) in copies.iter().enumerate() {
+            let received = compare.receive_filled(SENDER, [on_a, on_b]);
+            let due = match (heard(a), heard(b)) {
+                (0, other) | (other, 0) => other,
+                (one, other) if one == other => one,
+                _ => 0,
+            };
+            assert!(received.is(&[due], &[]), "first bytes {a} and {b} received");
+        }
+    }
+}
+
+/// what an entry is lent: right, or with one thing that is refused
+#[derive(Clone, Copy, PartialEq)]
+enum Wrong {
+    Nothing,
+    Count,
+    Number,
+    Length,
+    State,
+    Later,
+}
+
+/// every entry with the mode that is set, all else being right or refused for one reason: the number of the mode has its place among them
+fn every_entry(compare: &mut Compare) {
+    for wrong in [Wrong::Nothing, Wrong::Count, Wrong::Number, Wrong::Length, Wrong::State, Wrong::Later] {
+        let lent = |bytes: &[u8]| if wrong == Wrong::Length { bytes[1..].to_vec() } else { bytes.to_vec() };
+        let n = if wrong == Wrong::Count { 1 } else { 5 };
+        let (node, cycle) = if wrong == Wrong::Number { (5, 64) } else { (1, 9) };
+        let mut row = row_image(&beginning_from(5, 0x1f, 3));
+        // the reason of node 1: a member that will request in a quiet press, malformed in any other
+        row[24 + 1] = u8::from(wrong == Wrong::State);
+        let state = lent(&row[24..48]);
+        let (beat, votes) = (heartbeat(1, Sign::Request, false, false, 9, 0, &[]), lent(&[0; VOTES_BYTES]));
+        for requests in [0, 4, u64::MAX] {
+            let heard = Heard { requests, ..members(0x1f) };
+            compare.send_vote(&state, heard, [cycle, 0], &[7; 36], 9);
+            compare.decide(&row[24..48], heard, &votes, 0);
+            compare.decide(&state, heard, &[0; VOTES_BYTES], 0);
+        }
+        compare.stop(&state);
+        compare.start(&state);
+        compare.state(&state, FILLED_NUMBERS, FILLED_MASKS);
+        compare.view(&state, members(3), 7);
+        compare.send_heartbeat(&state, [0, 0, cycle, 0], &[], &[7; 10], 9);
+        for (join, request) in [(0, 0), (1, 0), (0, 1), (1, 1)] {
+            compare.write_heartbeat([n, node, join, request, 0, 0, cycle, 0], &[], &lent(&[7; 10]));
+        }
+        compare.read_heartbeat([n, node, cycle, 0], &beat, &lent(FILLED_DRIVE), FILLED_READ);
+        compare.receive_heartbeat([n, node, cycle], &beat, &[], &lent(FILLED_DRIVE), FILLED_HEARD);
+        every_entry_on_a_block(compare, &row[24..48], wrong);
+        every_entry_on_a_row(compare, n, &row, wrong);
+    }
+}
+
+fn every_entry_on_a_block(compare: &mut Compare, state: &[u8], wrong: Wrong) {
+    let mut block = [state, &[0; 40]].concat();
+    block.truncate(if wrong == Wrong::Length { 63 } else { 64 });
+    let address = if wrong == Wrong::Later { 64 } else { ENABLES as u32 };
+    for (requests, votes) in [0, 4, u64::MAX].into_iter().flat_map(|requests| [VOTES_BYTES, 0].map(|votes| (requests, votes))) {
+        let offer = make::Offer { heard: Heard { requests, ..members(0x1f) }, slots: vec![0; votes], arrived: 0 };
+        compare.step(&block, &Step::Cycle(offer.clone()));
+        compare.step(&block, &Step::WriteCycle(address, 7, offer));
+    }
+    compare.step(&block, &Step::Read(address));
+    compare.step(&block, &Step::Write(address, 7));
+}
+
+/// a table's run gives 2 before a byte of the table is looked at
+fn every_entry_on_a_row(compare: &mut Compare, n: u32, row: &[u8], wrong: Wrong) {
+    let row = if wrong == Wrong::Length { &row[1..] } else { row };
+    let record = write_cycle(&Faults { lost_heartbeat: 2, ..Faults::none() });
+    let record = if wrong == Wrong::Later { &record[1..] } else { &record };
+    compare.cycle(n, row, record);
+    let whole = [&write_first(n as u8, 0x1f)[..], record].concat();
+    for table in [&whole[..], &[], &whole[1..], &write_first(5, 0)] {
+        compare.run(row, table);
+        compare.run_frames(row, table, &FILLED_FRAMES);
+        compare.run_frames(row, table, &FILLED_FRAMES[1..]);
     }
 }
 
@@ -850,7 +1039,8 @@ fn cut_at_each_byte(compare: &mut Compare) {
                 compare.run_frames(&row, &table[..len], &FILLED_FRAMES);
             }
         }
-        let press = Press::new(&mut compare.random, n);
+        let mode = compare.press_mode();
+        let press = Press::new(&mut compare.random, mode, n);
         let lent = row_image(&press.before);
         for &start in &starts {
             for len in (0..=table.len() - start).filter(|len| *len < 100 || len % step == 0) {
@@ -885,11 +1075,11 @@ fn every_bit_of_a_mask(compare: &mut Compare) {
             let vote = Vote { group: Group { number: 5, set: part(0, 2), base: part(1, part(0, 3)) }, view: part(2, 2) };
             compare.write_vote([n as u32, 1, 9, 1], &vote, &[7; 36]);
             compare.read_vote([n as u32, 1, 9, 1], &vote_frame(1, &vote, 9, 1), &[7; 28]);
-            let member = image(&Unit { n, node: 1, state: State::Member(vote.group) });
+            let member = image(&Unit { n, node: 1, state: State::Member { group: vote.group, request: false } });
             compare.stop(&member);
             compare.state(&member, FILLED_NUMBERS, FILLED_MASKS);
-            compare.view(&member, Heard { join0: bit, join1: 0 }, 7);
-            compare.view(&member, Heard { join0: 0, join1: bit }, 7);
+            compare.view(&member, members(bit), 7);
+            compare.view(&member, Heard { join1: bit, ..Heard::default() }, 7);
             let masks = [part(0, 0), part(1, 0), part(2, 0), part(3, 0)];
             let mut faults = Faults { stop: masks[0], start: masks[1], lost_heartbeat: masks[2], lost_vote: masks[3], ..Faults::none() };
             faults.missed_vote[1] = part(4, 0);
@@ -937,7 +1127,7 @@ fn every_count_and_entry(compare: &mut Compare) {
 fn decisions_of_two(compare: &mut Compare) {
     let numbers = [u32::MAX, 0];
     let groups = [1, 2, 3].into_iter().flat_map(|set| [1, 2, 3].map(|base| Group { number: u32::MAX, set, base }));
-    let members = groups.map(State::Member);
+    let members = groups.map(|group| State::Member { group, request: false });
     let others = [State::Joining, State::Out(Reason::Stopped), State::Out(Reason::NoQuorum), State::Out(Reason::Outvoted)];
     for (state, node) in members.chain(others).flat_map(|state| [(state, 0), (state, 1)]) {
         let state = image(&Unit { n: 2, node, state });
@@ -946,14 +1136,60 @@ fn decisions_of_two(compare: &mut Compare) {
             let mut slots = vec![0xff; VOTES_BYTES];
             make::put_vote(&mut slots, 1 - node, &Vote { group, view: vote as u64 >> 4 & 3 });
             for masks in 0..64 {
-                compare.decide(&state, Heard { join0: masks & 3, join1: masks >> 2 & 3 }, &slots, masks >> 4);
+                compare.decide(&state, Heard { join0: masks & 3, join1: masks >> 2 & 3, requests: 0 }, &slots, masks >> 4);
             }
         }
     }
 }
 
+/// every decision and vote of a member of two or three nodes: all sets and bases, whether it requests, all masks that it heard, and of each other node no vote,
+/// one with its own view or one with another
+fn decisions_of_two_and_three(compare: &mut Compare) {
+    let requests = if compare.press_mode().is_quiet() { &[false, true][..] } else { &[false] };
+    for (n, node) in [(2, 0), (2, 1), (3, 0), (3, 1), (3, 2)] {
+        let pairs = (1..1_u64 << n).flat_map(|set| (set..1 << n).map(move |base| (set, base)));
+        for (set, base) in pairs.filter(|(set, base)| has(*set, node) && inside(*set, *base)) {
+            for &request in requests {
+                decisions_of(compare, &Unit { n, node, state: State::Member { group: Group { number: 9, set, base }, request } });
+            }
+        }
+    }
+}
+
+fn decisions_of(compare: &mut Compare, unit: &Unit) {
+    let State::Member { group, .. } = unit.state else { unreachable!() };
+    let (n, state) = (unit.n, image(unit));
+    // where requests are not looked at, none and all are enough
+    let requests: Vec<u64> = if compare.press_mode().is_quiet() { (0..1 << n).collect() } else { vec![0, all(n)] };
+    for masks in 0..1_u64 << (2 * n) {
+        let (join0, join1) = (masks & all(n), masks >> n);
+        let view = make::view(unit, &group, Heard { join0, join1, requests: 0 });
+        for &requests in &requests {
+            let heard = Heard { join0, join1, requests };
+            compare.send_vote(&state, heard, [9, 1], &[7; 36], 9);
+            for choice in 0..3_usize.pow(n as u32 - 1) {
+                let (slots, arrived) = chosen_votes(unit, &group, view, choice);
+                compare.decide(&state, heard, &slots, arrived);
+            }
+        }
+    }
+}
+
+/// of each other node, by a digit of the choice: no vote, one with this view, or one with another that holds its sender
+fn chosen_votes(unit: &Unit, group: &Group, view: u64, choice: usize) -> (Vec<u8>, u64) {
+    let (mut slots, mut arrived, mut choice) = (vec![0; VOTES_BYTES], 0, choice);
+    for q in (0..unit.n).filter(|&q| q != unit.node) {
+        let other = view ^ only((q + 1) % unit.n);
+        make::put_vote(&mut slots, q, &Vote { group: *group, view: if choice % 3 == 2 { other } else { view } });
+        arrived |= if choice % 3 == 0 { 0 } else { only(q) };
+        choice /= 3;
+    }
+    (slots, arrived)
+}
+
 /// a single cycle from every state that kept cycles reach at N 2 and 3, under every fault record that keeps the promise
 fn cycles_of_two_and_three(compare: &mut Compare) {
+    let rules = Rules::of(compare.press_mode());
     for n in [2, 3] {
         let mut level: Vec<Standing> = (1..1_u64 << n).map(|founding| Standing::beginning(n, founding)).collect();
         let mut seen: HashSet<Standing> = level.iter().cloned().collect();
@@ -961,7 +1197,7 @@ fn cycles_of_two_and_three(compare: &mut Compare) {
             let row = row_image(&at.row);
             each_kept_record(&at, &mut |faults| {
                 compare.cycle(n as u32, &row, &write_cycle(faults));
-                let after = at.step(faults, None).expect("demand 3").canonical();
+                let after = at.step(faults, rules).expect("demand 3").canonical();
                 if seen.insert(after.clone()) {
                     level.push(after);
                 }
@@ -995,13 +1231,23 @@ fn broken_cycles_of_two(compare: &mut Compare) {
     }
 }
 
-/// machines with each kind of state, their flags and enables in several ways
-fn machines() -> Vec<Machine> {
+/// machines with each kind of state, their flags and enables in several ways; in a quiet press a member that requests and one that does not
+fn machines(mode: Mode) -> Vec<Machine> {
     let group = Group { number: u32::MAX, set: 0x1e, base: 0x1f };
-    let members = [group, Group { base: group.set, ..group }].map(State::Member);
-    let others = [State::Joining, State::Out(Reason::Stopped), State::Out(Reason::NoQuorum), State::Out(Reason::Outvoted)];
-    let states = members.into_iter().chain(others);
+    let based = Group { base: group.set, ..group };
+    let states = match mode {
+        Mode::Always => vec![
+            State::Member { group, request: false },
+            State::Member { group: based, request: false },
+            State::Joining,
+            State::Out(Reason::Stopped),
+            State::Out(Reason::NoQuorum),
+            State::Out(Reason::Outvoted),
+        ],
+        Mode::Quiet => vec![State::Member { group, request: true }, State::Member { group: based, request: false }],
+    };
     states
+        .into_iter()
         .flat_map(|state| [(0, 0), (7, 7), (5, 2)].map(|(flags, enables)| (state, Flags::of(flags), Flags::of(enables))))
         .map(|(state, flags, enables)| Machine { unit: Unit { n: 5, node: 1, state }, flags, enables })
         .collect()
@@ -1009,7 +1255,7 @@ fn machines() -> Vec<Machine> {
 
 /// every address of a block and some above it, written with every value, alone and together with a cycle, and read
 fn every_address_and_value(compare: &mut Compare) {
-    for machine in machines() {
+    for machine in machines(compare.press_mode()) {
         let block = block_of(&machine);
         for address in (0..=70).chain([u32::MAX]) {
             let offer = make::offer(&mut compare.random, &machine.unit);
@@ -1025,7 +1271,8 @@ fn every_address_and_value(compare: &mut Compare) {
 /// every flag and enable, and every value written to the registers behind the state
 fn every_flag_and_enable(compare: &mut Compare) {
     for (flags, enables) in (0..8).flat_map(|flags| (0..8).map(move |enables| (flags, enables))) {
-        let unit = make::unit(&mut compare.random, 5);
+        let mode = compare.press_mode();
+        let unit = make::unit(&mut compare.random, mode, 5);
         let block = block_of(&Machine { unit, flags: Flags::of(flags), enables: Flags::of(enables) });
         for (address, value) in (FLAGS..=COMMAND).flat_map(|address| (0..=255).map(move |value| (address as u32, value))) {
             let offer = make::offer(&mut compare.random, &unit);
@@ -1043,7 +1290,7 @@ fn each_entry(compare: &mut Compare, unit: &Unit) -> [Step; 4] {
 
 /// every bit of a block, and every value of each byte behind the state
 fn every_bit_of_a_block(compare: &mut Compare) {
-    for machine in machines() {
+    for machine in machines(compare.press_mode()) {
         let block = block_of(&machine);
         let steps = each_entry(compare, &machine.unit);
         for bit in 0..8 * BLOCK_BYTES {
@@ -1061,7 +1308,7 @@ fn every_bit_of_a_block(compare: &mut Compare) {
 
 /// blocks and votes of other lengths, alone and with what is refused after them
 fn lengths_of_blocks(compare: &mut Compare) {
-    for machine in machines() {
+    for machine in machines(compare.press_mode()) {
         let right = block_of(&machine);
         let mut malformed = right;
         malformed[40] = 1;
@@ -1088,13 +1335,13 @@ fn a_node(compare: &mut Compare, press: &Press) {
     let node = random.below(press.n);
     let (n, unit) = if random.once_in(4) {
         let n = make::count(random);
-        (n, make::unit(random, n))
+        (n, make::unit(random, press.mode, n))
     } else {
         (press.n, press.unit(node))
     };
     let node = unit.node;
     let state = make::any_image(random, &unit);
-    let given = press.heard.get(node).copied().unwrap_or_default();
+    let given = press.cycle.heard.get(node).copied().unwrap_or_default();
     let heard = heard(random, given);
     let (lent_n, lent_node) = (lent_count(random, n), lent_number(random, node as u32, n as u32));
     let cycle = random.below(64) as u32;
@@ -1104,6 +1351,8 @@ fn a_node(compare: &mut Compare, press: &Press) {
     if flags[2] == 1 && !random.once_in(8) {
         flags[1] = 1;
     }
+    let request = random.below(2) as u32;
+    let request = lent_number(random, request, 2);
     let junk = random.bits();
     let halves = [junk as u32, (junk >> 32) as u32];
     match random.below(21) {
@@ -1117,7 +1366,7 @@ fn a_node(compare: &mut Compare, press: &Press) {
         3 => {
             let drive = lent_drive(random);
             let frame = lent_buffer(random, HEARTBEAT_BYTES + drive.len());
-            compare.write_heartbeat([lent_n, lent_node, flags[0], flags[1], flags[2], cycle, channel], &drive, &frame);
+            compare.write_heartbeat([lent_n, lent_node, flags[0], request, flags[1], flags[2], cycle, channel], &drive, &frame);
         }
         4 => {
             let drive = lent_drive(random);
@@ -1139,9 +1388,9 @@ fn a_node(compare: &mut Compare, press: &Press) {
         }
         8 | 9 => {
             let drive = make::drive(random);
-            let good = make::good_heartbeat(random, node, cycle & 63, channel & 1, &drive);
+            let good = make::good_heartbeat(random, press.mode, node, cycle & 63, channel & 1, &drive);
             let (frame, buffer) = (make::any_frame(random, &good, channel & 1), lent_buffer(random, DRIVE_BYTES));
-            compare.read_heartbeat([lent_n, lent_node, cycle, channel], &frame, &buffer, halves);
+            compare.read_heartbeat([lent_n, lent_node, cycle, channel], &frame, &buffer, [halves[0], halves[1], !halves[0]]);
         }
         10 | 11 => {
             let good = make::good_vote(random, n, node, cycle & 63, channel & 1);
@@ -1150,7 +1399,7 @@ fn a_node(compare: &mut Compare, press: &Press) {
             compare.read_vote([lent_n, lent_node, cycle, channel], &frame, &vote);
         }
         12 => {
-            let copies = make::two_heartbeats(random, node, cycle & 63);
+            let copies = make::two_heartbeats(random, press.mode, node, cycle & 63);
             let [a, b] = [0, 1].map(|channel| make::any_frame(random, &copies[channel], channel as u32));
             let buffer = lent_buffer(random, DRIVE_BYTES);
             compare.receive_heartbeat([lent_n, lent_node, cycle], &a, &b, &buffer, halves);
@@ -1173,8 +1422,8 @@ fn a_node(compare: &mut Compare, press: &Press) {
 /// a decision on the votes that a press gives, on those changed, or on votes around the quorum
 fn a_decision(compare: &mut Compare, press: &Press, unit: &Unit, state: &[u8], given: Heard) {
     let random = &mut compare.random;
-    let heard = if random.once_in(3) { given } else { press.heard.get(unit.node).copied().unwrap_or_default() };
-    let (mut slots, mut mask) = if unit.n == press.n && unit.state == press.row[unit.node] && !random.once_in(3) {
+    let heard = if random.once_in(3) { given } else { press.cycle.heard.get(unit.node).copied().unwrap_or_default() };
+    let (mut slots, mut mask) = if unit.n == press.n && unit.state == press.cycle.stood[unit.node] && !random.once_in(3) {
         press.arrived(random, unit.node)
     } else {
         make::votes_for(random, unit, heard)
@@ -1196,47 +1445,88 @@ fn a_decision(compare: &mut Compare, press: &Press, unit: &Unit, state: &[u8], g
 
 /// counts how near to the quorum the votes for a unit are
 fn note_edges(compare: &mut Compare, unit: &Unit, heard: Heard, slots: &[u8], mask: u64) {
-    if slots.len() != VOTES_BYTES {
-        return;
-    }
+    let Some(mode) = Mode::of(compare.mode).filter(|_| slots.len() == VOTES_BYTES) else { return };
     let votes = arrived_votes(unit.n, unit.node, slots, mask);
-    let text = match unit.state {
-        State::Member(group) => {
-            let own = Vote { group, view: rule3(unit.n, unit.node, &group, heard, None) };
-            let same = (0..unit.n).filter(|&q| has(group.set, q) && votes[q] == Some(own)).count() as i64 + 1;
-            match 2 * same - i64::from(size(group.base)) {
-                0 => "the own view has just half of the base",
-                1 => "the own view has half a vote more than half of the base",
-                2 => "the own view has one vote more than half of the base",
-                -1 => "the own view has half a vote less than half of the base",
+    let own = rule4(unit.n, unit.node, unit.state, heard, Rules::of(mode));
+    let text = match (unit.state, own) {
+        (State::Member { group, .. }, own) => {
+            // of a member that did not vote, the votes for the view that it has
+            let vote = Vote { group, view: make::view(unit, &group, heard) };
+            let same = (0..unit.n).filter(|&q| has(group.set, q) && votes[q] == Some(vote)).count() as i64 + i64::from(own.is_some());
+            let edge = match 2 * same - i64::from(size(group.base)) {
+                0 => "just half of the base",
+                1 => "half a vote more than half of the base",
+                2 => "one vote more than half of the base",
+                -1 => "half a vote less than half of the base",
                 _ => return,
-            }
+            };
+            format!("the own view{} has {edge}", if own.is_some() { "" } else { " of a member that did not vote" })
         }
-        State::Joining => {
+        (State::Joining, _) => {
             let mut fitting: Vec<Vote> = Vec::new();
-            for vote in votes.iter().flatten().filter(|vote| fits(unit.node, vote, &votes, None)) {
+            for vote in votes.iter().flatten().filter(|vote| fits(unit.node, vote, &votes, Rules::of(mode))) {
                 if !fitting.contains(vote) {
                     fitting.push(*vote);
                 }
             }
-            ["no vote value fits a joiner", "one vote value fits a joiner", "several vote values fit a joiner"][fitting.len().min(2)]
+            ["no vote value fits a joiner", "one vote value fits a joiner", "several vote values fit a joiner"][fitting.len().min(2)].to_string()
         }
-        State::Out(_) => return,
+        (State::Out(_), _) => return,
     };
     *compare.given.entry(format!("gm_decide, votes: {text}")).or_default() += 1;
 }
 
-/// every node of a press for one cycle by the entries of the node end: what is heard and what arrives is what the entries give
-fn whole_cycle_of_nodes(compare: &mut Compare, press: &Press) {
-    let cycle = compare.random.below(64) as u32;
-    let (n, to) = (press.n, compare.random.below(press.n));
-    let (mut votes, mut arrived) = (vec![0; VOTES_BYTES], compare.random.bits());
-    for from in 0..n {
-        let Some(vote) = press.votes[from] else { continue };
-        let [a, b] = [0, 1].map(|channel| if press.faults.vote_reaches(from, to) { vote_frame(from, &vote, cycle, channel) } else { Vec::new() });
-        (arrived, votes) = compare.receive_vote([n as u32, from as u32, cycle], &a, &b, &votes, arrived);
+/// both copies of a frame that an entry writes, if it says that there is one to be sent
+fn sent_on_both(mut write: impl FnMut(u32) -> (u64, Vec<u8>)) -> Option<[Vec<u8>; 2]> {
+    let [(on_a, a), (on_b, b)] = [0, 1].map(&mut write);
+    assert_eq!(on_a, on_b, "a node sends on both channels or on none");
+    (on_a == 1).then_some([a, b])
+}
+
+/// the copies where the frame reaches, else none
+fn reaching(sent: &Option<[Vec<u8>; 2]>, reaches: bool) -> [&[u8]; 2] {
+    match sent {
+        Some([a, b]) if reaches => [a, b],
+        _ => [&[], &[]],
     }
-    compare.decide(&image(&press.unit(to)), press.heard[to], &votes, arrived);
+}
+
+/// what a node hears of the frames of all others
+fn hears(compare: &mut Compare, press: &Press, to: usize, cycle: u32, beats: &[Option<[Vec<u8>; 2]>]) -> Heard {
+    let mut heard = Heard::default();
+    for from in (0..press.n).filter(|&from| from != to) {
+        let copies = reaching(&beats[from], press.faults.heartbeat_reaches(from, to));
+        let received = compare.receive_filled([press.n as u32, from as u32, cycle], copies);
+        match received.results[0] {
+            1 => heard.hear(from, Sign::Member),
+            2 => heard.hear(from, Sign::Joining),
+            3 => heard.hear(from, Sign::Request),
+            _ => {}
+        }
+    }
+    heard
+}
+
+/// all nodes of a press for one cycle by the entries of the node end, each from what the entries gave before: they hold what gm_cycle gives
+fn whole_cycle_of_nodes(compare: &mut Compare, press: &Press) {
+    let (n, cycle) = (press.n, compare.random.below(64) as u32);
+    let states: Vec<[u8; 24]> = (0..n).map(|q| image(&press.unit(q))).collect();
+    let beats: Vec<_> =
+        (0..n).map(|q| sent_on_both(|channel| compare.send_heartbeat(&states[q], [0, 0, cycle, channel], &[], &[7; 10], 9))).collect();
+    let heard: Vec<Heard> = (0..n).map(|to| hears(compare, press, to, cycle, &beats)).collect();
+    let votes: Vec<_> = (0..n).map(|q| sent_on_both(|channel| compare.send_vote(&states[q], heard[q], [cycle, channel], &[7; 36], 9))).collect();
+    let decided: Vec<u8> = (0..n).flat_map(|to| decides(compare, press, to, cycle, heard[to], &votes)).collect();
+    let (status, row) = compare.cycle(n as u32, &row_image(&press.before), &write_cycle(&press.faults));
+    assert!(status == 0 && row == decided, "the entries of one node give another row than gm_cycle");
+}
+
+fn decides(compare: &mut Compare, press: &Press, to: usize, cycle: u32, heard: Heard, sent: &[Option<[Vec<u8>; 2]>]) -> Vec<u8> {
+    let (mut votes, mut arrived) = (compare.random.bytes(VOTES_BYTES), 0);
+    for from in (0..press.n).filter(|&from| from != to) {
+        let [a, b] = reaching(&sent[from], press.faults.vote_reaches(from, to));
+        (arrived, votes) = compare.receive_vote([press.n as u32, from as u32, cycle], a, b, &votes, arrived);
+    }
+    compare.decide(&image(&press.unit(to)), heard, &votes, arrived)
 }
 
 fn a_single_cycle(compare: &mut Compare, press: &Press) {
@@ -1302,16 +1592,18 @@ fn a_table(compare: &mut Compare) {
 
 /// a series of steps on one block; now and then a damaged one is lent between two of them
 fn a_series(compare: &mut Compare) {
-    let mut machine = make::machine(&mut compare.random);
+    let mode = compare.press_mode();
+    let mut machine = make::machine(&mut compare.random, mode);
     let mut block = block_of(&machine).to_vec();
     for _ in 0..1 + compare.random.below(40) {
         let step = make::step(&mut compare.random, &machine);
         if compare.random.once_in(25) {
             let damaged = make::damaged_block(&mut compare.random, &machine);
-            compare.step(&damaged, &step);
+            let lent = lent_mode(&mut compare.random, mode);
+            compare.with_mode(lent, |compare| compare.step(&damaged, &step));
         }
         let (status, left) = compare.step(&block, &step);
-        let after = read_block(&left).expect("a step leaves a block that the next one accepts");
+        let after = read_block(mode, &left).expect("a step leaves a block that the next one accepts");
         if status == 0 {
             note_flags(compare, &machine, &step, &after);
         }
@@ -1334,28 +1626,42 @@ fn note_flags(compare: &mut Compare, before: &Machine, step: &Step, after: &Mach
     }
 }
 
+/// what does not hang on the mode is done in one of them
+const IN_MODE_0: [fn(&mut Compare); 9] = [
+    lengths_of_frames,
+    every_number_of_drive_bytes,
+    every_length_of_a_heartbeat,
+    every_length_of_a_drive_buffer,
+    every_byte_of_a_copy,
+    copies_of_every_two_lengths,
+    one_good_copy_of_every_length,
+    every_count_and_entry,
+    decisions_of_two,
+];
+const IN_BOTH_MODES: [fn(&mut Compare); 15] = [
+    counts_and_numbers,
+    lengths,
+    every_bit_of_an_image,
+    every_bit_of_a_frame,
+    every_length_field,
+    every_first_byte_written,
+    every_two_first_bytes,
+    cut_at_each_byte,
+    every_bit_of_a_mask,
+    decisions_of_two_and_three,
+    broken_cycles_of_two,
+    cycles_of_two_and_three,
+    every_address_and_value,
+    every_flag_and_enable,
+    every_bit_of_a_block,
+];
+
 fn in_turn(compare: &mut Compare) {
-    counts_and_numbers(compare);
-    lengths(compare);
-    lengths_of_frames(compare);
-    every_bit_of_an_image(compare);
-    every_bit_of_a_frame(compare);
-    every_number_of_drive_bytes(compare);
-    every_length_of_a_heartbeat(compare);
-    every_length_field(compare);
-    every_length_of_a_drive_buffer(compare);
-    every_byte_of_a_copy(compare);
-    copies_of_every_two_lengths(compare);
-    one_good_copy_of_every_length(compare);
-    cut_at_each_byte(compare);
-    every_bit_of_a_mask(compare);
-    every_count_and_entry(compare);
-    decisions_of_two(compare);
-    broken_cycles_of_two(compare);
-    cycles_of_two_and_three(compare);
-    every_address_and_value(compare);
-    every_flag_and_enable(compare);
-    every_bit_of_a_block(compare);
+    IN_MODE_0.iter().for_each(|part| part(compare));
+    for mode in Mode::BOTH {
+        IN_BOTH_MODES.iter().for_each(|part| compare.with_mode(mode.number(), part));
+    }
+    Mode::BOTH.iter().map(|mode| mode.number()).chain(NO_MODES).for_each(|mode| compare.with_mode(mode, every_entry));
     lengths_of_blocks(compare);
     println!("compare: {} calls with every length, number, bit and cut in turn agree", compare.total());
 }
@@ -1363,26 +1669,42 @@ fn in_turn(compare: &mut Compare) {
 fn random_calls(compare: &mut Compare, calls: u64) {
     let before = compare.total();
     while compare.total() < before + calls {
-        let n = make::count(&mut compare.random);
-        let mut press = Press::new(&mut compare.random, n);
-        for _ in 0..1 + compare.random.below(12) {
-            for _ in 0..24 {
-                a_node(compare, &press);
-            }
-            a_single_cycle(compare, &press);
-            if compare.random.once_in(20) {
-                whole_cycle_of_nodes(compare, &press);
-            }
-            press = press.next(&mut compare.random);
-        }
-        a_table(compare);
+        let mode = compare.random.pick(&Mode::BOTH);
+        compare.with_mode(mode.number(), a_press);
     }
+}
+
+/// calls on the nodes and the row of a press from cycle to cycle, and with a table
+fn a_press(compare: &mut Compare) {
+    let (mode, n) = (compare.press_mode(), make::count(&mut compare.random));
+    let mut press = Press::new(&mut compare.random, mode, n);
+    for _ in 0..1 + compare.random.below(12) {
+        for _ in 0..24 {
+            with_lent_mode(compare, mode, |compare| a_node(compare, &press));
+        }
+        with_lent_mode(compare, mode, |compare| a_single_cycle(compare, &press));
+        // of many nodes every one hears every other: few of these
+        if compare.random.once_in(if n < 10 { 4 } else { 5 * n }) {
+            whole_cycle_of_nodes(compare, &press);
+        }
+        press = press.next(&mut compare.random);
+    }
+    with_lent_mode(compare, mode, a_table);
+}
+
+/// what is done with the mode of a press as a caller gives it
+fn with_lent_mode(compare: &mut Compare, mode: Mode, done: impl FnOnce(&mut Compare)) {
+    let lent = lent_mode(&mut compare.random, mode);
+    compare.with_mode(lent, done);
 }
 
 /// ends the program if some flag was not raised, cleared, or both at once often enough
 fn random_series(compare: &mut Compare, series: u64) {
     let before = compare.total();
-    (0..series).for_each(|_| a_series(compare));
+    for k in 0..series {
+        let mode = Mode::BOTH[k as usize % 2].number();
+        compare.with_mode(mode, a_series);
+    }
     println!("compare: {series} series of steps on a register block, {} steps, agree", compare.total() - before);
     for (name, turns) in FLAG_NAMES.iter().zip(&compare.flags) {
         let told: Vec<String> = FLAG_TURNS.iter().zip(turns).map(|(turn, count)| format!("{turn} {count} times")).collect();
@@ -1407,6 +1729,7 @@ fn main() {
         random: Random::new(seed),
         counts: [[0; STATUSES]; ENTRIES.len()],
         shift: 0,
+        mode: 0,
         given: BTreeMap::new(),
         flags: [[0; FLAG_TURNS.len()]; FLAG_NAMES.len()],
     };

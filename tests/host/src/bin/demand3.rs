@@ -1,11 +1,13 @@
-//! Demand 3 and the worked examples by the paper's implementation: over all reachable states at N 2 and 3, over few marks and cycles to N 5, over random
-//! histories to N 64; and each of the paper's four mistakes is found by one of them. SEED and HISTORIES choose the random part.
-use host::claims::{each_kept_record, each_small_record, worked_examples, Standing};
+//! Demand 3 and the worked examples by the paper's implementation, in both modes: over all reachable states at N 2 and 3, over few marks and cycles to N 5,
+//! over random histories to N 64. That a quiet press which nobody touches sends no vote. And wrong rules: each is shown by an example, and those that break a
+//! claim are found by a search. SEED and HISTORIES choose the random part.
+use host::claims::{each_kept_record, each_small_record, is_silent, worked_examples, Resting, Standing};
 use host::generate::{count, founding, group_number, mark};
 use host::paper::checks::{bits, frame_check, header_check, header_remainder};
-use host::paper::faults::Faults;
+use host::paper::faults::{cycle, Faults};
 use host::paper::frames::vote_frame;
-use host::paper::rules::{Mistake, Vote};
+use host::paper::mode::Mode;
+use host::paper::rules::{Mistake, Rules, Vote};
 use host::paper::sets::{all, only, size};
 use host::paper::state::{Group, State};
 use host::random::Random;
@@ -26,6 +28,7 @@ struct Search {
     states: usize,
     records: u64,
     depth: usize,
+    resting: Resting,
     failed: Option<(&'static str, Standing, Faults)>,
 }
 
@@ -39,10 +42,10 @@ enum Tried {
 }
 
 /// The states that kept cycles reach from every founding set, breadth first. Every step is checked.
-fn search(n: usize, tried: Tried, mistake: Option<Mistake>) -> Search {
+fn search(n: usize, tried: Tried, rules: Rules) -> Search {
     let mut level: Vec<Standing> = (1..1_u64 << n).map(|founding| Standing::beginning(n, founding)).collect();
     let mut seen: HashSet<Standing> = level.iter().cloned().collect();
-    let mut result = Search { states: 0, records: 0, depth: 0, failed: None };
+    let mut result = Search { states: 0, records: 0, depth: 0, resting: Resting::default(), failed: None };
     while !level.is_empty() && result.failed.is_none() {
         let marks = match tried {
             Tried::All => None,
@@ -56,7 +59,11 @@ fn search(n: usize, tried: Tried, mistake: Option<Mistake>) -> Search {
                     return;
                 }
                 result.records += 1;
-                match at.step(faults, mistake) {
+                let passed = cycle(&at.row, faults, rules);
+                if rules.mode.is_quiet() {
+                    result.resting += at.resting(&passed, rules);
+                }
+                match at.step_of(passed, faults) {
                     Err(claim) => result.failed = Some((claim, at.clone(), faults.clone())),
                     Ok(after) => {
                         let after = after.canonical();
@@ -79,11 +86,12 @@ fn search(n: usize, tried: Tried, mistake: Option<Mistake>) -> Search {
     result
 }
 
-fn report(n: usize, tried: Tried) {
+fn report(n: usize, tried: Tried, mode: Mode) -> Resting {
     let began = std::time::Instant::now();
-    let result = search(n, tried, None);
+    let result = search(n, tried, Rules::of(mode));
+    let press = format!("mode {}, N {n}", mode.number());
     if let Some((claim, at, faults)) = result.failed {
-        println!("demand3: N {n}: {claim}\n  from {at:?}\n  under {}", shown(n, &faults));
+        println!("demand3: {press}: {claim}\n  from {at:?}\n  under {}", shown(n, &faults));
         std::process::exit(1);
     }
     let reach = match tried {
@@ -91,7 +99,8 @@ fn report(n: usize, tried: Tried) {
         Tried::Marks(marks) => format!("histories of {} cycles, all fault records of at most {marks:?} marks", marks.len()),
     };
     let seconds = began.elapsed().as_secs_f64();
-    println!("demand3: N {n}: {reach} that keep the promise: {} states, {} cycles checked, {seconds:.1} s", result.states, result.records);
+    println!("demand3: {press}: {reach} that keep the promise: {} states, {} cycles checked, {seconds:.1} s", result.states, result.records);
+    result.resting
 }
 
 fn shown(n: usize, faults: &Faults) -> String {
@@ -100,9 +109,18 @@ fn shown(n: usize, faults: &Faults) -> String {
     format!("stop {stop:x} start {start:x} lost {lost_heartbeat:x} {lost_vote:x} missed heartbeats {heartbeats:x?} votes {votes:x?}")
 }
 
+/// what random histories met: kept cycles, strays after them, nodes that were joining and untouched, and members that rest
+#[derive(Default)]
+struct Met {
+    kept: u64,
+    strays: u64,
+    joined: u64,
+    resting: Resting,
+}
+
 /// random histories of presses to N 64, with as many marks as the promise bears; a claim that failed, or counts of what was met
-fn histories(random: &mut Random, histories: usize, mistake: Option<Mistake>) -> Result<[u64; 3], String> {
-    let [mut kept, mut strays, mut joined] = [0; 3];
+fn histories(random: &mut Random, histories: usize, rules: Rules) -> Result<Met, String> {
+    let mut met = Met::default();
     for _ in 0..histories {
         let n = count(random);
         let (founding, number) = (founding(random, n), group_number(random));
@@ -113,14 +131,16 @@ fn histories(random: &mut Random, histories: usize, mistake: Option<Mistake>) ->
             if !at.record.keeps(faults.touched(n)) {
                 break;
             }
-            at = at.step(&faults, mistake).map_err(|claim| format!("N {n}: {claim}"))?;
-            kept += 1;
+            let passed = cycle(&at.row, &faults, rules);
+            met.resting += at.resting(&passed, rules);
+            at = at.step_of(passed, &faults).map_err(|claim| format!("N {n}: {claim}"))?;
+            met.kept += 1;
             let group = at.record.group.expect("a kept cycle");
-            strays += at.row.iter().filter(|state| matches!(state, State::Member(held) if *held != group)).count() as u64;
-            joined += u64::from(size(at.joiners));
+            met.strays += at.row.iter().filter(|state| matches!(state, State::Member { group: held, .. } if *held != group)).count() as u64;
+            met.joined += u64::from(size(at.joiners));
         }
     }
-    Ok([kept, strays, joined])
+    Ok(met)
 }
 
 /// faults that keep the promise: marks are added until the next would break it, or it is enough
@@ -152,21 +172,87 @@ fn kept_faults(random: &mut Random, at: &Standing) -> Faults {
     faults
 }
 
-/// the checks that find a mistake
-fn finders(mistake: Mistake) -> Vec<String> {
+/// The search that finds a mistake, and in which cycle; none for those that break no claim and that an example must show: with them the press goes on otherwise
+/// than the rules say, or its members vote more often, and demand 3 still holds.
+fn breaks(mistake: Mistake) -> Option<(Mode, (usize, Tried), usize)> {
+    let [two, three, four, _, five] = SEARCHES;
+    match mistake {
+        Mistake::QuorumOverSet => Some((Mode::Always, five, 2)),
+        Mistake::SetFromHeartbeats => Some((Mode::Quiet, four, 3)),
+        Mistake::JoinIsSignOfLife => Some((Mode::Quiet, three, 3)),
+        Mistake::JoinerBelievesFirst => Some((Mode::Always, four, 1)),
+        // with all three as founders a fourth cycle is needed, in which one leaves first
+        Mistake::OwnRequestIgnored => Some((Mode::Quiet, three, 3)),
+        Mistake::ChangedSetWithoutRequest => Some((Mode::Quiet, three, 3)),
+        Mistake::ViewDoesNotWake => Some((Mode::Quiet, two, 2)),
+        Mistake::SilentCountsItself => Some((Mode::Quiet, two, 1)),
+        Mistake::SilentInNewSet => Some((Mode::Quiet, four, 1)),
+        _ => None,
+    }
+}
+
+/// the checks that find a mistake, or one that should and does not
+fn finders(mistake: Mistake) -> Result<String, String> {
     let mut found: Vec<String> =
         worked_examples(Some(mistake)).iter().filter(|(_, right)| !right).map(|(name, _)| format!("example {name}")).collect();
-    for (n, tried) in SEARCHES {
-        let result = search(n, tried, Some(mistake));
-        if let Some((claim, _, faults)) = result.failed {
-            found.push(format!("demand 3 at N {n}, cycle {} ({claim}; last faults: {})", result.depth, shown(n, &faults)));
-            break;
+    if found.is_empty() {
+        return Err("no example".to_string());
+    }
+    if let Some((mode, (n, tried), cycle)) = breaks(mistake) {
+        let result = search(n, tried, Rules { mode, mistake: Some(mistake) });
+        let place = format!("demand 3 in mode {} at N {n}, cycle {}", mode.number(), result.depth);
+        match result.failed {
+            Some((claim, _, faults)) if result.depth == cycle => found.push(format!("{place} ({claim}; last faults: {})", shown(n, &faults))),
+            _ => return Err(format!("{place}, and not where it is due, in cycle {cycle}")),
         }
     }
-    if let Err(failed) = histories(&mut Random::new(1), 500, Some(mistake)) {
-        found.push(format!("demand 3 over random histories ({failed})"));
+    Ok(found.join(", "))
+}
+
+/// Request 3. "A quiet press with no unit touched or started since its beginning sends no vote at all": so many presses
+fn silence(random: &mut Random) -> Result<usize, String> {
+    let small = (2..=6).flat_map(|n| (1..1_u64 << n).map(move |founding| (n, founding)));
+    let any: Vec<(usize, u64)> = (2..=64).flat_map(|n| [(n, all(n)), (n, founding(random, n))]).collect();
+    let mut presses = 0;
+    for (n, founding) in small.chain(any) {
+        if !is_silent(n, founding, 70, Rules::of(Mode::Quiet)) {
+            return Err(format!("N {n}, founding set {founding:x}: a vote is sent, or the row changes"));
+        }
+        // the check itself: a press that votes in every cycle is not silent
+        if is_silent(n, founding, 1, Rules::of(Mode::Always)) {
+            return Err(format!("N {n}, founding set {founding:x}: no vote is sent in mode 0"));
+        }
+        presses += 1;
     }
-    found
+    Ok(presses)
+}
+
+/// all searches and random histories of a mode, and whether the claims hold and nothing is missing that was to be met
+fn claims_of(mode: Mode, seed: u64, length: u64) -> bool {
+    let mut resting = Resting::default();
+    for (n, tried) in SEARCHES {
+        resting += report(n, tried, mode);
+    }
+    let number = mode.number();
+    match histories(&mut Random::new(seed), length as usize, Rules::of(mode)) {
+        Ok(met) => {
+            let Met { kept, strays, joined, .. } = met;
+            println!("demand3: mode {number}, {length} random histories to N 64: {kept} kept cycles checked, with {strays} strays and {joined} untouched joiners");
+            quiet_counts("searches", mode, resting) && quiet_counts("random histories", mode, met.resting)
+        }
+        Err(claim) => {
+            println!("demand3: mode {number}, a random history: {claim}");
+            false
+        }
+    }
+}
+
+/// of a quiet press none of these counts is 0, of one that votes in every cycle all are
+fn quiet_counts(of: &str, mode: Mode, resting: Resting) -> bool {
+    let Resting { silent, halted, own_request } = resting;
+    let number = mode.number();
+    println!("demand3: mode {number}, {of}: {silent} members did not vote, {halted} of them halted; {own_request} strays voted because of their own request alone");
+    [silent, halted, own_request].iter().all(|count| (*count > 0) == mode.is_quiet())
 }
 
 /// "Published check vectors": CRC-11/FLEXRAY, CRC-24/FLEXRAY-A and CRC-24/FLEXRAY-B over the digits 1 to 9
@@ -210,22 +296,24 @@ fn main() {
         failed = true;
     }
     println!("demand3: {} examples and the published and stored check values come out", examples.iter().filter(|(_, right)| *right).count());
-    for (n, tried) in SEARCHES {
-        report(n, tried);
-    }
-    match histories(&mut Random::new(seed), length as usize, None) {
-        Ok([kept, strays, joined]) => {
-            println!("demand3: {length} random histories to N 64: {kept} kept cycles checked, with {strays} strays and {joined} untouched joiners");
-        }
-        Err(claim) => {
-            println!("demand3: a random history: {claim}");
+    for mode in Mode::BOTH {
+        if !claims_of(mode, seed, length) {
+            println!("demand3: a claim of mode {} fails, or a count is not what it must be", mode.number());
             failed = true;
         }
     }
-    for mistake in [Mistake::QuorumOverSet, Mistake::SetFromHeartbeats, Mistake::JoinIsSignOfLife, Mistake::JoinerBelievesFirst] {
+    match silence(&mut Random::new(seed)) {
+        Ok(presses) => println!("demand3: {presses} quiet presses that nobody touches send no vote in 70 cycles"),
+        Err(what) => {
+            println!("demand3: silence: {what}");
+            failed = true;
+        }
+    }
+    for mistake in Mistake::OF_PAPER.into_iter().chain(Mistake::OF_QUIET) {
         let found = finders(mistake);
-        println!("demand3: mistake {mistake:?} is found by {}", if found.is_empty() { "nothing".to_string() } else { found.join(", ") });
-        failed |= found.is_empty();
+        let (Ok(by) | Err(by)) = &found;
+        println!("demand3: mistake {mistake:?} is found by {by}");
+        failed |= found.is_err();
     }
     if failed {
         std::process::exit(1);

@@ -1,5 +1,5 @@
-//! Whole presses by the node entries of the archive, each unit for itself, over a bus that damages copies. After each cycle all units hold what gm_cycle
-//! gives for the cycle's record, and after some the frames that they wrote are those that gm_run_frames shows. Of a heartbeat heard, a unit gets the drive
+//! Whole presses by the node entries of the archive, in both modes, each unit for itself, over a bus that damages copies. After each cycle all units hold what
+//! gm_cycle gives for the cycle's record, and after some the frames that they wrote are those that gm_run_frames shows. Of a heartbeat heard, a unit gets the drive
 //! bytes that were sent, and of one missed none. A host with a mistake must be noticed.
 //! SEED (or the first argument) chooses the presses, PRESSES their number.
 use host::archive::Archive;
@@ -8,7 +8,8 @@ use host::paper::faults::Faults;
 use host::paper::frames::{
     frame, heartbeat, parts_of, vote_frame, vote_payload, DRIVE_BYTES, HEARTBEAT_BYTES, VOTES_BYTES, VOTE_BYTES, VOTE_FRAME_BYTES,
 };
-use host::paper::rules::Heard;
+use host::paper::mode::Mode;
+use host::paper::rules::{Heard, Sign};
 use host::paper::run::{Sent, SentFrames, FRAMES_BYTES};
 use host::paper::sets::{all, has, only, those, Set};
 use host::paper::state::IMAGE_BYTES;
@@ -38,9 +39,17 @@ enum Mistake {
     OtherDriveOnB,
     /// the bus changes a drive byte in both copies alike, and their checks fit
     DriveChangedAlike,
+    /// a request that is heard goes into heard0 alone
+    RequestsForgotten,
+    /// a request that is heard goes into the requests alone
+    RequestsAlone,
+    /// a decision gets no requests
+    DecidesWithoutRequests,
+    /// one unit is given the other mode
+    OtherMode,
 }
 
-const MISTAKES: [Mistake; 9] = [
+const MISTAKES: [Mistake; 13] = [
     Mistake::DamageOnBothChannels,
     Mistake::SenderSkipped,
     Mistake::MasksKept,
@@ -50,6 +59,10 @@ const MISTAKES: [Mistake; 9] = [
     Mistake::BeginsAsFounder,
     Mistake::OtherDriveOnB,
     Mistake::DriveChangedAlike,
+    Mistake::RequestsForgotten,
+    Mistake::RequestsAlone,
+    Mistake::DecidesWithoutRequests,
+    Mistake::OtherMode,
 ];
 
 #[derive(Clone, Copy)]
@@ -97,12 +110,17 @@ struct Counts {
     /// units that a decision put out, and that it made members
     halted: u64,
     entered: u64,
+    /// cycles in which a member of a quiet press sent no vote, those of them in which it halted, and requests that were heard
+    silent: u64,
+    silent_halted: u64,
+    requests: u64,
     /// damaged copies by the number that refuses them
     refusals: BTreeMap<u32, u64>,
 }
 
 /// what one unit keeps
 struct Unit {
+    mode: u32,
     state: Vec<u8>,
     heard: Heard,
     votes: Vec<u8>,
@@ -111,6 +129,8 @@ struct Unit {
     drive: Vec<u8>,
     /// switched off in this cycle: it makes no calls
     off: bool,
+    /// whether it sent a vote in this cycle
+    voted: bool,
 }
 
 /// the copies of one frame that come to a unit, whether one of them is as sent, and whether just one was damaged
@@ -122,6 +142,7 @@ struct Come {
 
 struct Press<'a> {
     n: usize,
+    mode: Mode,
     units: Vec<Unit>,
     /// the row that gm_cycle works on, and the table of the cycles so far
     row: Vec<u8>,
@@ -145,15 +166,15 @@ fn must(status: u32, entry: &str) {
 }
 
 /// a payload that would count for something else, were the frame taken for one of `node`
-fn other_payload(random: &mut Random, n: usize, node: usize, phase: Phase, payload: &[u8]) -> Vec<u8> {
+fn other_payload(random: &mut Random, mode: Mode, n: usize, node: usize, phase: Phase, payload: &[u8]) -> Vec<u8> {
     match phase {
-        Phase::Heartbeats => [&[payload[0] ^ 0x80], &payload[1..]].concat(),
+        Phase::Heartbeats => [&[make::other_first_byte(random, mode, payload[0])], &payload[1..]].concat(),
         Phase::Votes => vote_payload(&make::vote(random, n, node)).to_vec(),
     }
 }
 
 /// the copy of a frame of `node` after its way
-fn damaged(random: &mut Random, n: usize, node: usize, phase: Phase, copy: &[u8], channel: u32) -> Vec<u8> {
+fn damaged(random: &mut Random, mode: Mode, n: usize, node: usize, phase: Phase, copy: &[u8], channel: u32) -> Vec<u8> {
     let (mut header, payload) = parts_of(copy);
     match random.pick(&DAMAGES) {
         Damage::Lost => Vec::new(),
@@ -169,12 +190,12 @@ fn damaged(random: &mut Random, n: usize, node: usize, phase: Phase, copy: &[u8]
         }
         Damage::OfAnotherCycle => {
             header.cycle = (header.cycle + 1 + random.below(63) as u32) % 64;
-            frame(&header, &other_payload(random, n, node, phase, payload), channel)
+            frame(&header, &other_payload(random, mode, n, node, phase, payload), channel)
         }
         Damage::OfAnotherNode => {
             let other = (node + 1 + random.below(n - 1)) % n;
             header.frame_number = header.frame_number - node as u32 + other as u32;
-            frame(&header, &other_payload(random, n, other, phase, payload), channel)
+            frame(&header, &other_payload(random, mode, n, other, phase, payload), channel)
         }
     }
 }
@@ -197,14 +218,19 @@ fn with_other_drive(copy: &[u8], channel: u32) -> Vec<u8> {
 
 /// the frame that a unit writes for a channel, and whether it sends it
 fn write(unit: &Unit, phase: Phase, count: u32, channel: u32, [sync, startup]: [u32; 2], drive: &[u8]) -> (u32, Vec<u8>) {
-    let (mut sent, heard) = (9, unit.heard);
+    let (mut sent, mode, heard) = (9, unit.mode, unit.heard);
     let mut frame = match phase {
         Phase::Heartbeats => vec![0xa5; HEARTBEAT_BYTES + drive.len()],
         Phase::Votes => vec![0xa5; VOTE_FRAME_BYTES],
     };
     match phase {
-        Phase::Heartbeats => must(Archive.send_heartbeat(&unit.state, sync, startup, count, channel, drive, &mut frame, &mut sent), "send_heartbeat"),
-        Phase::Votes => must(Archive.send_vote(&unit.state, heard.join0, heard.join1, count, channel, &mut frame, &mut sent), "send_vote"),
+        Phase::Heartbeats => {
+            must(Archive.send_heartbeat(mode, &unit.state, sync, startup, count, channel, drive, &mut frame, &mut sent), "send_heartbeat");
+        }
+        Phase::Votes => {
+            let status = Archive.send_vote(mode, &unit.state, heard.join0, heard.join1, heard.requests, count, channel, &mut frame, &mut sent);
+            must(status, "send_vote");
+        }
     }
     (sent, frame)
 }
@@ -212,20 +238,24 @@ fn write(unit: &Unit, phase: Phase, count: u32, channel: u32, [sync, startup]: [
 impl Press<'_> {
     fn new(seed: u64, mistake: Option<Mistake>, counts: &mut Counts) -> Press<'_> {
         let mut random = Random::new(seed);
-        let n = make::count(&mut random);
+        let (mode, n) = (random.pick(&Mode::BOTH), make::count(&mut random));
         let founding = make::founding(&mut random, n);
+        // a unit that is given the other mode is the last one
+        let unit_mode = |node: usize| if mistake == Some(Mistake::OtherMode) && node + 1 == n { 1 - mode.number() } else { mode.number() };
         let (damage_rate, style, indicators) = (random.pick(&[2, 4, 10, 100]), random.below(3), random.once_in(4));
         let drive_words = random.pick(&[0, 0, 1, 4, 12, 126]);
         let begun = |node: usize| {
             let mut state = vec![0; IMAGE_BYTES];
             must(Archive.begin(n as u32, node as u32, founding, &mut state), "begin");
-            Unit { state, heard: Heard::default(), votes: vec![0; VOTES_BYTES], arrived: 0, drive: Vec::new(), off: false }
+            let (votes, drive) = (vec![0; VOTES_BYTES], Vec::new());
+            Unit { mode: unit_mode(node), state, heard: Heard::default(), votes, arrived: 0, drive, off: false, voted: false }
         };
         let units: Vec<Unit> = (0..n).map(begun).collect();
         let row = units.iter().flat_map(|unit| unit.state.clone()).collect();
         counts.presses += 1;
         Press {
             n,
+            mode,
             units,
             row,
             table: write_first(n as u8, founding),
@@ -285,10 +315,10 @@ impl Press<'_> {
         if stop && self.random.once_in(3) {
             self.forget(q);
         } else if stop {
-            must(Archive.stop(&mut unit.state), "stop");
+            must(Archive.stop(unit.mode, &mut unit.state), "stop");
         }
         if start {
-            must(Archive.start(&mut self.units[q].state), "start");
+            must(Archive.start(self.units[q].mode, &mut self.units[q].state), "start");
         }
         let off = self.units[q].state[0] == 0 && !start && self.random.once_in(2);
         self.units[q].off = off;
@@ -328,14 +358,17 @@ impl Press<'_> {
     fn read(&self, phase: Phase, p: usize, copy: &[u8], channel: usize) -> u32 {
         let (n, node, count, channel) = (self.n as u32, p as u32, self.count(), channel as u32);
         match phase {
-            Phase::Heartbeats => Archive.read_heartbeat(n, node, count, channel, copy, &mut [0; DRIVE_BYTES], &mut 0, &mut 0),
+            Phase::Heartbeats => {
+                let mode = self.mode.number();
+                Archive.read_heartbeat(n, mode, node, count, channel, copy, &mut [0; DRIVE_BYTES], &mut 0, &mut 0, &mut 0)
+            }
             Phase::Votes => Archive.read_vote(n, node, count, channel, copy, &mut [0; VOTE_BYTES]),
         }
     }
 
     /// a copy that is damaged; reading must refuse it, else it would be no damage
     fn damage(&mut self, phase: Phase, p: usize, copy: &[u8], channel: usize) -> Vec<u8> {
-        let bytes = damaged(&mut self.random, self.n, p, phase, copy, channel as u32);
+        let bytes = damaged(&mut self.random, self.mode, self.n, p, phase, copy, channel as u32);
         let refusal = self.read(phase, p, &bytes, channel);
         assert_ne!(refusal, 0, "a damaged copy is read");
         *self.counts.refusals.entry(refusal).or_default() += 1;
@@ -347,7 +380,7 @@ impl Press<'_> {
         let (header, payload) = parts_of(copy);
         let mut copies = [0, 1].map(|channel| frame(&header, payload, channel));
         let channel = self.random.below(2);
-        copies[channel] = make::other_heartbeat(&mut self.random, &copies[channel], channel as u32);
+        copies[channel] = make::other_heartbeat(&mut self.random, self.mode, &copies[channel], channel as u32);
         let refusals = [0, 1].map(|channel| self.read(Phase::Heartbeats, p, &copies[channel], channel));
         assert_eq!(refusals, [0, 0], "a good copy is not read");
         self.counts.differing += 1;
@@ -356,9 +389,9 @@ impl Press<'_> {
 
     /// a frame that node p could send now
     fn due(&mut self, phase: Phase, p: usize) -> [Vec<u8>; 2] {
-        let (count, join, vote) = (self.count(), self.random.once_in(2), make::vote(&mut self.random, self.n, p));
+        let (count, sign, vote) = (self.count(), self.random.pick(make::signs(self.mode)), make::vote(&mut self.random, self.n, p));
         [0, 1].map(|channel| match phase {
-            Phase::Heartbeats => heartbeat(p, join, false, false, count, channel, &self.units[p].drive),
+            Phase::Heartbeats => heartbeat(p, sign, false, false, count, channel, &self.units[p].drive),
             Phase::Votes => vote_frame(p, &vote, count, channel),
         })
     }
@@ -420,10 +453,9 @@ impl Press<'_> {
     fn receive_heartbeat(&mut self, q: usize, p: usize, [a, b]: &[Vec<u8>; 2]) -> Result<bool, String> {
         let before = [self.random.bits() as u8; DRIVE_BYTES];
         let (mut drive, mut heard, mut number) = (before, 9, 9);
-        must(Archive.receive_heartbeat(self.n as u32, p as u32, self.count(), a, b, &mut drive, &mut heard, &mut number), "receive_heartbeat");
-        let unit = &mut self.units[q];
-        unit.heard.join0 |= if heard == 1 { only(p) } else { 0 };
-        unit.heard.join1 |= if heard == 2 { only(p) } else { 0 };
+        let (n, mode) = (self.n as u32, self.units[q].mode);
+        must(Archive.receive_heartbeat(n, mode, p as u32, self.count(), a, b, &mut drive, &mut heard, &mut number), "receive_heartbeat");
+        self.note_heard(q, p, heard);
         let sent = if heard == 0 { &[] } else { &self.units[p].drive[..] };
         let due = [sent, &before[sent.len()..]].concat();
         if number as usize != sent.len() || drive[..] != due {
@@ -437,6 +469,24 @@ impl Press<'_> {
         self.counts.drive_bytes += u64::from(number);
         self.counts.missed += u64::from(heard == 0);
         Ok(heard != 0)
+    }
+
+    /// the bits of p that the host sets after a heartbeat
+    fn note_heard(&mut self, q: usize, p: usize, heard: u32) {
+        let before = self.units[q].heard;
+        let noted = &mut self.units[q].heard;
+        match heard {
+            1 => noted.hear(p, Sign::Member),
+            2 => noted.hear(p, Sign::Joining),
+            3 => noted.hear(p, Sign::Request),
+            _ => {}
+        }
+        match self.mistake {
+            Some(Mistake::RequestsForgotten) => noted.requests = before.requests,
+            Some(Mistake::RequestsAlone) if heard == 3 => noted.join0 = before.join0,
+            _ => {}
+        }
+        self.counts.requests += u64::from(heard == 3);
     }
 
     /// unit q listens to all others, in any order
@@ -468,16 +518,23 @@ impl Press<'_> {
     }
 
     fn decide(&mut self, q: usize) {
-        let other_masks = self.mistaken(Mistake::OtherMasksDecide);
+        let mistake = self.mistake;
         let unit = &mut self.units[q];
-        let heard = if other_masks { Heard { join0: unit.heard.join1, join1: unit.heard.join0 } } else { unit.heard };
+        let heard = match mistake {
+            Some(Mistake::OtherMasksDecide) => Heard { join0: unit.heard.join1, join1: unit.heard.join0, ..unit.heard },
+            Some(Mistake::DecidesWithoutRequests) => Heard { requests: 0, ..unit.heard },
+            _ => unit.heard,
+        };
         if unit.off {
             return;
         }
         let before = unit.state[0];
-        must(Archive.decide(&mut unit.state, heard.join0, heard.join1, &unit.votes, unit.arrived), "decide");
-        self.counts.halted += u64::from((before, unit.state[0]) == (2, 0));
+        must(Archive.decide(unit.mode, &mut unit.state, heard.join0, heard.join1, heard.requests, &unit.votes, unit.arrived), "decide");
+        let (halted, silent) = ((before, unit.state[0]) == (2, 0), before == 2 && !unit.voted);
+        self.counts.halted += u64::from(halted);
         self.counts.entered += u64::from((before, unit.state[0]) == (1, 2));
+        self.counts.silent += u64::from(silent);
+        self.counts.silent_halted += u64::from(silent && halted);
     }
 
     /// one cycle of all units, and of the row by the record
@@ -486,9 +543,10 @@ impl Press<'_> {
         (0..self.n).for_each(|q| self.begin_cycle(q, &faults));
         let heartbeats = self.exchange(Phase::Heartbeats, &faults)?;
         let votes = self.exchange(Phase::Votes, &faults)?;
+        (0..self.n).for_each(|q| self.units[q].voted = votes[q].is_some());
         (0..self.n).for_each(|q| self.decide(q));
         let record = write_cycle(&faults);
-        must(Archive.cycle(self.n as u32, &mut self.row, &record), "cycle");
+        must(Archive.cycle(self.n as u32, self.mode.number(), &mut self.row, &record), "cycle");
         self.table.extend(record);
         self.cycles += 1;
         self.counts.cycles += 1;
@@ -502,7 +560,8 @@ impl Press<'_> {
             None => Ok(()),
             Some(q) => {
                 let (held, given) = (hex(&self.units[q].state), hex(&self.row[IMAGE_BYTES * q..IMAGE_BYTES * (q + 1)]));
-                Err(format!("N {}, cycle {}: unit {q} holds {held} and gm_cycle gives {given}", self.n, self.cycles))
+                let mode = self.mode.number();
+                Err(format!("mode {mode}, N {}, cycle {}: unit {q} holds {held} and gm_cycle gives {given}", self.n, self.cycles))
             }
         }
     }
@@ -511,7 +570,7 @@ impl Press<'_> {
     /// drive bytes only the votes
     fn same_frames(&mut self, written: &SentFrames) -> Result<(), String> {
         let (mut row, mut frames) = (self.random.bytes(self.row.len()), self.random.bytes(FRAMES_BYTES));
-        must(Archive.run_frames(&mut row, &self.table, &mut frames), "run_frames");
+        must(Archive.run_frames(self.mode.number(), &mut row, &self.table, &mut frames), "run_frames");
         self.counts.shown += 1;
         if row != self.row {
             return Err(format!("N {}, cycle {}: gm_run_frames leaves another row", self.n, self.cycles));
@@ -553,7 +612,7 @@ fn presses(seed: u64, number: u64, mistake: Option<Mistake>) -> Result<Counts, S
 
 fn print_counts(counts: &Counts) {
     let Counts { presses, cycles, shown, damaged, saved, both_damaged, differing, driven, drive_bytes, missed, .. } = counts;
-    let Counts { left_out, off, gone, forgotten, halted, entered, refusals, .. } = counts;
+    let Counts { left_out, off, gone, forgotten, halted, entered, silent, silent_halted, requests, refusals, .. } = counts;
     let refusals: Vec<String> = refusals.iter().map(|(number, count)| format!("{number}: {count}")).collect();
     println!("press: {presses} presses of 2 to 64 units, {cycles} cycles: all units hold what gm_cycle gives; frames of {shown} cycles as gm_run_frames shows");
     println!(
@@ -564,6 +623,7 @@ fn print_counts(counts: &Counts) {
     println!("press: {missed} heartbeats missed and no drive bytes given, {differing} of them with two good copies that differ");
     println!("press: {left_out} receive calls left out, {off} cycles of units switched off, {gone} that went off as they were stopped, {forgotten} that lost their memory");
     println!("press: {halted} units halted, {entered} entered a group");
+    println!("press: in quiet presses {silent} times a member sent no vote, {silent_halted} times it halted; {requests} requests were heard");
 }
 
 fn main() {
@@ -577,6 +637,10 @@ fn main() {
             print_counts(&counts);
             if counts.saved != counts.damaged {
                 println!("press: a frame was missed though one copy came as sent");
+                failed = true;
+            }
+            if [counts.silent, counts.silent_halted, counts.requests].contains(&0) {
+                println!("press: no member of a quiet press was silent, halted so, or was heard to request");
                 failed = true;
             }
         }

@@ -1,20 +1,21 @@
-//! One table of times: the archive and grouprun beside the paper's implementation in Rust and beside plain C, in the same run on the same data.
-//! Usage: speed GROUPRUN PLAINRUN TABLEGEN MEASURE FOLDER, the last one for the tables that the programs read.
+//! One table of times: the archive, grouprun and quietrun beside the paper's implementation in Rust and beside plain C, in the same run on the same data.
+//! Usage: speed GROUPRUN QUIETRUN PLAINRUN TABLEGEN MEASURE FOLDER, the last one for the tables that the programs read.
 use host::archive::{Archive, Plain};
 use host::clock::processor_time;
 use host::paper::entries::Paper;
 use host::paper::frames::{
     frame, heartbeat, vote_frame, vote_header, vote_payload, Header, DRIVE_BYTES, HEARTBEAT_BYTES, VOTES_BYTES, VOTE_BYTES, VOTE_FRAME_BYTES,
 };
+use host::paper::mode::Mode;
 use host::paper::registers::{block_of, Flags, Machine, BLOCK_BYTES, FLAGS, PENDING};
-use host::paper::rules::Vote;
+use host::paper::rules::{Sign, Vote};
 use host::paper::run::FRAMES_BYTES;
 use host::paper::sets::{all, only, Set};
 use host::paper::state::{beginning, image, row_image, Group, State, Unit, IMAGE_BYTES};
 use host::paper::table::{cycle_length, FIRST_BYTES};
 use host::NodeEnd;
 use std::fs::{self, File};
-use std::path::{Path, PathBuf};
+use std::path::PathBuf;
 use std::process::{Command, Stdio};
 
 /// the archive, the paper's implementation and plain C
@@ -61,7 +62,7 @@ fn row(name: &str, n: usize, shown: Shown, times: [f64; 3]) -> String {
         Shown::CyclesPerSecond => format!("{:.0} cycles/s", 1e9 / time),
     };
     let [ours, rust, c] = times;
-    format!("{name:<42} {n:>3} {:>18} {:>18} {:>18} {:>8.2} {:>8.2}", cell(ours), cell(rust), cell(c), ours / rust, ours / c)
+    format!("{name:<50} {n:>3} {:>18} {:>18} {:>18} {:>8.2} {:>8.2}", cell(ours), cell(rust), cell(c), ours / rust, ours / c)
 }
 
 /// a row, and ours to another operation of ours
@@ -134,26 +135,37 @@ fn checks() {
     call("frame check of 259 bytes (frame not due)", 64, 9, VOTE_BYTES, &|hand, left| hand.read_vote(64, 0, CYCLE, CHANNEL, &longest, left));
 }
 
-/// a heartbeat of so many words written, read, and received on two channels
-fn heartbeats(words: usize) {
+/// how a press of a mode is called in a row
+fn press(mode: Mode) -> &'static str {
+    if mode.is_quiet() {
+        "quiet "
+    } else {
+        ""
+    }
+}
+
+/// a heartbeat of so many words written, read, and received on two channels; in a quiet press one that requests
+fn heartbeats(mode: Mode, words: usize) {
+    let (quiet, mode) = (press(mode), mode.number());
+    let sign = if mode == 0 { Sign::Member } else { Sign::Request };
     let drive: Vec<u8> = (0..2 * words - 2).map(|k| k as u8).collect();
-    let [a, b] = [0, 1].map(|channel| heartbeat(9, false, true, false, CYCLE, channel, &drive));
-    let write = |hand: &dyn NodeEnd, left: &mut [u8]| hand.write_heartbeat(64, 9, 0, 1, 0, CYCLE, 1, &drive, left);
+    let [a, b] = [0, 1].map(|channel| heartbeat(9, sign, true, false, CYCLE, channel, &drive));
+    let write = |hand: &dyn NodeEnd, left: &mut [u8]| hand.write_heartbeat(64, mode, 9, 0, mode, 1, 0, CYCLE, 1, &drive, left);
     let read = |hand: &dyn NodeEnd, left: &mut [u8]| {
         let (numbers, buffer) = left.split_at_mut(8);
-        let [mut join, mut drive_bytes] = [2; 2];
-        let status = hand.read_heartbeat(64, 9, CYCLE, 1, &b, buffer, &mut join, &mut drive_bytes);
-        numbers.copy_from_slice(&(u64::from(join) << 32 | u64::from(drive_bytes)).to_be_bytes());
+        let [mut join, mut request, mut drive_bytes] = [2; 3];
+        let status = hand.read_heartbeat(64, mode, 9, CYCLE, 1, &b, buffer, &mut join, &mut request, &mut drive_bytes);
+        numbers.copy_from_slice(&(u64::from(join | request << 1) << 32 | u64::from(drive_bytes)).to_be_bytes());
         status
     };
     let receive = |hand: &dyn NodeEnd, left: &mut [u8]| {
         let (numbers, buffer) = left.split_at_mut(8);
-        let [mut heard, mut drive_bytes] = [3; 2];
-        let status = hand.receive_heartbeat(64, 9, CYCLE, &a, &b, buffer, &mut heard, &mut drive_bytes);
+        let [mut heard, mut drive_bytes] = [9; 2];
+        let status = hand.receive_heartbeat(64, mode, 9, CYCLE, &a, &b, buffer, &mut heard, &mut drive_bytes);
         numbers.copy_from_slice(&(u64::from(heard) << 32 | u64::from(drive_bytes)).to_be_bytes());
         status
     };
-    let names = ["write heartbeat", "read heartbeat", "receive heartbeat, two channels"].map(|call| format!("{call}, words {words}"));
+    let names = ["write heartbeat", "read heartbeat", "receive heartbeat, two channels"].map(|call| format!("{quiet}{call}, words {words}"));
     let on_drive = |name, call| Operation { name, n: 64, status: 0, len: 8 + DRIVE_BYTES, call };
     let written = Operation { name: &names[0], n: 64, status: 0, len: b.len(), call: &write };
     let [written, read, received] = times([&written, &on_drive(&names[1], &read), &on_drive(&names[2], &receive)]);
@@ -167,7 +179,7 @@ fn states() {
     call("take a state apart", 64, 0, 8, &|hand, left| {
         let [mut kind, mut reason, mut node, mut n, mut number] = [9; 5];
         let [mut set, mut base] = [9; 2];
-        let status = hand.state(&held[..IMAGE_BYTES], &mut kind, &mut reason, &mut node, &mut n, &mut number, &mut set, &mut base);
+        let status = hand.state(0, &held[..IMAGE_BYTES], &mut kind, &mut reason, &mut node, &mut n, &mut number, &mut set, &mut base);
         left.copy_from_slice(&(set ^ base ^ u64::from(kind + reason + node + n + number)).to_be_bytes());
         status
     });
@@ -200,39 +212,62 @@ fn with_last(n: usize) -> Vote {
     Vote { group: group(all(n - 1)), view: all(n) }
 }
 
-/// a decision of the last node of N on the votes of the others
+/// how many of the others' votes arrive
+#[derive(Clone, Copy)]
+enum Come {
+    All,
+    LessThanHalf,
+    None,
+}
+
+/// a decision of the last node of N on the votes of the others, of whom the first requests in a quiet press
 struct Decision {
     name: &'static str,
+    mode: Mode,
     joining: bool,
-    /// less than half of the others' votes arrive
-    too_few: bool,
+    requested: bool,
+    come: Come,
     /// of N and the sender
     vote: fn(usize, usize) -> Vote,
 }
 
-const DECISIONS: [Decision; 6] = [
-    Decision { name: "member, all agree", joining: false, too_few: false, vote: |n, _| agreeing(n) },
-    Decision { name: "member, outvoted", joining: false, too_few: false, vote: |n, _| without_last(n) },
-    Decision { name: "member, too few votes", joining: false, too_few: true, vote: |n, _| without_last(n) },
-    Decision { name: "member, all votes differ", joining: false, too_few: false, vote: |n, q| Vote { view: all(n) & !only(q + 1), ..agreeing(n) } },
-    Decision { name: "joiner, all agree", joining: true, too_few: false, vote: |n, _| with_last(n) },
-    Decision { name: "joiner, too few votes", joining: true, too_few: true, vote: |n, _| with_last(n) },
+const ALWAYS: Decision = Decision { name: "", mode: Mode::Always, joining: false, requested: false, come: Come::All, vote: |n, _| agreeing(n) };
+const QUIET: Decision = Decision { mode: Mode::Quiet, ..ALWAYS };
+const DECISIONS: [Decision; 9] = [
+    Decision { name: "member, all agree", ..ALWAYS },
+    Decision { name: "member, outvoted", vote: |n, _| without_last(n), ..ALWAYS },
+    Decision { name: "member, too few votes", come: Come::LessThanHalf, vote: |n, _| without_last(n), ..ALWAYS },
+    Decision { name: "member, all votes differ", vote: |n, q| Vote { view: all(n) & !only(q + 1), ..agreeing(n) }, ..ALWAYS },
+    Decision { name: "joiner, all agree", joining: true, vote: |n, _| with_last(n), ..ALWAYS },
+    Decision { name: "joiner, too few votes", joining: true, come: Come::LessThanHalf, vote: |n, _| with_last(n), ..ALWAYS },
+    Decision { name: "quiet member, nobody votes", come: Come::None, ..QUIET },
+    Decision { name: "quiet member, all agree", requested: true, ..QUIET },
+    Decision { name: "quiet member, silent and outvoted", vote: |n, _| without_last(n), ..QUIET },
 ];
 
 impl Decision {
     /// the unit that decides
     fn unit(&self, n: usize) -> Unit {
-        Unit { n, node: n - 1, state: if self.joining { State::Joining } else { State::Member(group(all(n))) } }
+        let member = State::Member { group: group(all(n)), request: false };
+        Unit { n, node: n - 1, state: if self.joining { State::Joining } else { member } }
+    }
+
+    fn requests(&self) -> Set {
+        u64::from(self.requested)
     }
 
     /// the votes lent to it, and whose they are
     fn votes(&self, n: usize) -> (Vec<u8>, Set) {
-        let voters = if self.too_few { (n - 1) / 2 } else { n - 1 };
+        let voters = match self.come {
+            Come::All => n - 1,
+            Come::LessThanHalf => (n - 1) / 2,
+            Come::None => 0,
+        };
         let mut slots = vec![0; VOTES_BYTES];
         for q in 0..voters {
             slots[VOTE_BYTES * q..VOTE_BYTES * (q + 1)].copy_from_slice(&vote_payload(&(self.vote)(n, q)));
         }
-        (slots, all(voters))
+        (slots, if voters == 0 { 0 } else { all(voters) })
     }
 }
 
@@ -241,8 +276,16 @@ fn decide(decision: &Decision, n: usize) {
     let (slots, arrived) = decision.votes(n);
     call(&format!("decide: {}", decision.name), n, 0, IMAGE_BYTES, &|hand, left| {
         left.copy_from_slice(&begun);
-        hand.decide(left, all(n), 0, &slots, arrived)
+        hand.decide(decision.mode.number(), left, all(n), 0, decision.requests(), &slots, arrived)
     });
+}
+
+/// the vote that a member sends who heard all; in a quiet press because of a request, or it rests
+fn sends(n: usize) {
+    let state = image(&ALWAYS.unit(n));
+    for (name, mode, requests) in [("send vote", 0, 0), ("quiet send vote, requested", 1, 1), ("quiet send vote, rests", 1, 0)] {
+        call(name, n, 0, VOTE_FRAME_BYTES, &|hand, left| hand.send_vote(mode, &state, all(n), 0, requests, CYCLE, 1, left, &mut 0));
+    }
 }
 
 /// the block of a unit of which a card has not yet taken an enabled flag
@@ -252,35 +295,36 @@ fn pending_block(unit: Unit) -> [u8; BLOCK_BYTES] {
 
 /// the card asks whether a flag is pending, and clears it
 fn registers(n: usize) {
-    let block = pending_block(Unit { n, node: n - 1, state: State::Member(group(all(n))) });
+    let block = pending_block(ALWAYS.unit(n));
     call("register read", n, 0, 4, &|hand, left| {
         let mut value = 9;
-        let status = hand.register_read(&block, PENDING as u32, &mut value);
+        let status = hand.register_read(0, &block, PENDING as u32, &mut value);
         left.copy_from_slice(&value.to_ne_bytes());
         status
     });
     call("register write", n, 0, BLOCK_BYTES, &|hand, left| {
         left.copy_from_slice(&block);
-        hand.register_write(left, FLAGS as u32, 1)
+        hand.register_write(0, left, FLAGS as u32, 1)
     });
 }
 
 /// a cycle of a block, alone and together with a write, beside a decision on the same state and votes
 fn register_cycles(decision: &Decision, n: usize) {
     let block = pending_block(decision.unit(n));
+    let (mode, requests) = (decision.mode.number(), decision.requests());
     let (slots, arrived) = decision.votes(n);
     let on_block = |name, call| Operation { name, n, status: 0, len: BLOCK_BYTES, call };
     let cycle = |hand: &dyn NodeEnd, left: &mut [u8]| {
         left.copy_from_slice(&block);
-        hand.register_cycle(left, all(n), 0, &slots, arrived)
+        hand.register_cycle(mode, left, all(n), 0, requests, &slots, arrived)
     };
     let write_cycle = |hand: &dyn NodeEnd, left: &mut [u8]| {
         left.copy_from_slice(&block);
-        hand.register_write_cycle(left, FLAGS as u32, 1, all(n), 0, &slots, arrived)
+        hand.register_write_cycle(mode, left, FLAGS as u32, 1, all(n), 0, requests, &slots, arrived)
     };
     let decide = |hand: &dyn NodeEnd, left: &mut [u8]| {
         left.copy_from_slice(&block);
-        hand.decide(&mut left[..IMAGE_BYTES], all(n), 0, &slots, arrived)
+        hand.decide(mode, &mut left[..IMAGE_BYTES], all(n), 0, requests, &slots, arrived)
     };
     let names = ["cycle", "write and cycle", "decide, in a block"].map(|step| format!("{step}: {}", decision.name));
     let [cycled, joint, decided] = times([&on_block(&names[0], &cycle), &on_block(&names[1], &write_cycle), &on_block(&names[2], &decide)]);
@@ -304,8 +348,8 @@ impl UnitCycle {
         let copies = |frame: &dyn Fn(usize, u32) -> Vec<u8>| (0..n - 1).map(|q| [0, 1].map(|channel| frame(q, channel))).collect();
         UnitCycle {
             n,
-            state: image(&Unit { n, node: n - 1, state: State::Member(group(all(n))) }).to_vec(),
-            heartbeats: copies(&|q, channel| heartbeat(q, false, false, false, CYCLE, channel, &[])),
+            state: image(&ALWAYS.unit(n)).to_vec(),
+            heartbeats: copies(&|q, channel| heartbeat(q, Sign::Member, false, false, CYCLE, channel, &[])),
             votes: copies(&|q, channel| vote_frame(q, &agreeing(n), CYCLE, channel)),
         }
     }
@@ -315,7 +359,7 @@ impl UnitCycle {
         let (mut members, mut drive) = (0, [0; DRIVE_BYTES]);
         for (q, [a, b]) in self.heartbeats.iter().enumerate() {
             let mut heard = 0;
-            assert_eq!(hand.receive_heartbeat(self.n as u32, q as u32, CYCLE, a, b, &mut drive, &mut heard, &mut 0), 0);
+            assert_eq!(hand.receive_heartbeat(self.n as u32, 0, q as u32, CYCLE, a, b, &mut drive, &mut heard, &mut 0), 0);
             members |= Set::from(heard == 1) << q;
         }
         members
@@ -338,15 +382,15 @@ impl UnitCycle {
         let mut sent = [0; 4];
         state.copy_from_slice(&self.state);
         let (a, b) = heartbeats.split_at_mut(HEARTBEAT_BYTES);
-        hand.send_heartbeat(state, 0, 0, CYCLE, 0, &[], a, &mut sent[0]);
-        hand.send_heartbeat(state, 0, 0, CYCLE, 1, &[], b, &mut sent[1]);
+        hand.send_heartbeat(0, state, 0, 0, CYCLE, 0, &[], a, &mut sent[0]);
+        hand.send_heartbeat(0, state, 0, 0, CYCLE, 1, &[], b, &mut sent[1]);
         let heard = self.heard(hand);
         let (a, b) = votes.split_at_mut(VOTE_FRAME_BYTES);
-        hand.send_vote(state, heard, 0, CYCLE, 0, a, &mut sent[2]);
-        hand.send_vote(state, heard, 0, CYCLE, 1, b, &mut sent[3]);
+        hand.send_vote(0, state, heard, 0, 0, CYCLE, 0, a, &mut sent[2]);
+        hand.send_vote(0, state, heard, 0, 0, CYCLE, 1, b, &mut sent[3]);
         assert_eq!(sent, [1; 4]);
         let arrived = self.arrived(hand, slots);
-        hand.decide(state, heard, 0, slots, arrived)
+        hand.decide(0, state, heard, 0, 0, slots, arrived)
     }
 }
 
@@ -355,10 +399,16 @@ fn unit_cycle(n: usize) {
     call("cycle of one unit by the node entries", n, 0, UnitCycle::LEN, &|hand, left| cycle.run(hand, left));
 }
 
+/// a program and its arguments
+struct Program {
+    path: PathBuf,
+    arguments: &'static [&'static str],
+}
+
 /// where things are
 struct Places {
-    /// grouprun, the paper's run and plain C's
-    programs: [PathBuf; 3],
+    /// of each mode the delivered program, the paper's run and plain C's
+    programs: [[Program; 3]; 2],
     tablegen: PathBuf,
     measure: PathBuf,
     table: PathBuf,
@@ -367,10 +417,12 @@ struct Places {
 impl Places {
     fn of_arguments() -> Places {
         let arguments: Vec<PathBuf> = std::env::args_os().skip(1).map(PathBuf::from).collect();
-        let [grouprun, plainrun, tablegen, measure, folder] = &arguments[..] else { panic!("five paths") };
+        let [grouprun, quietrun, plainrun, tablegen, measure, folder] = &arguments[..] else { panic!("six paths") };
         let paperrun = std::env::current_exe().expect("this program has a path").with_file_name("paperrun");
+        let program = |path: &PathBuf, arguments| Program { path: path.clone(), arguments };
+        let of_mode = |delivered, arguments| [program(delivered, &[]), program(&paperrun, arguments), program(plainrun, arguments)];
         Places {
-            programs: [grouprun.clone(), paperrun, plainrun.clone()],
+            programs: [of_mode(grouprun, &[]), of_mode(quietrun, &["quiet"])],
             tablegen: tablegen.clone(),
             measure: measure.clone(),
             table: folder.join("speed.tab"),
@@ -378,8 +430,8 @@ impl Places {
     }
 
     /// a table with all nodes as founders, and clean or mixed cycles
-    fn make_table(&self, n: usize, cycles: usize, mode: usize) -> Vec<u8> {
-        let arguments = [n, cycles, 1, mode].map(|number| number.to_string());
+    fn make_table(&self, n: usize, cycles: usize, faults: usize) -> Vec<u8> {
+        let arguments = [n, cycles, 1, faults].map(|number| number.to_string());
         let made = Command::new(&self.tablegen).args(arguments).output().expect("the table's program runs");
         assert!(made.status.success(), "a table is made");
         made.stdout
@@ -390,30 +442,33 @@ impl Places {
     }
 
     /// what a program prints for the table
-    fn printed(&self, program: &Path) -> Vec<u8> {
-        let answer = Command::new(program).stdin(self.open_table()).output().expect("the program runs");
-        assert!(answer.status.success(), "{} ends well", program.display());
+    fn printed(&self, program: &Program) -> Vec<u8> {
+        let answer = Command::new(&program.path).args(program.arguments).stdin(self.open_table()).output().expect("the program runs");
+        assert!(answer.status.success(), "{} ends well", program.path.display());
         answer.stdout
     }
 
     /// processor seconds and KiB of memory of one turn
-    fn measured(&self, program: &Path) -> (f64, u64) {
-        let answer = Command::new(&self.measure).arg(program).stdin(self.open_table()).stdout(Stdio::null()).output().expect("measure runs");
-        assert!(answer.status.success(), "{} ends well", program.display());
+    fn measured(&self, program: &Program) -> (f64, u64) {
+        let mut command = Command::new(&self.measure);
+        command.arg(&program.path).args(program.arguments).stdin(self.open_table()).stdout(Stdio::null());
+        let answer = command.output().expect("measure runs");
+        assert!(answer.status.success(), "{} ends well", program.path.display());
         let text = String::from_utf8_lossy(&answer.stderr).into_owned();
         let (seconds, memory) = text.trim().split_once(' ').expect("two numbers");
         (seconds.parse().expect("seconds"), memory.parse().expect("KiB"))
     }
 
     /// nanoseconds of a cycle
-    fn time_programs(&self, n: usize, cycles: usize, mode: usize) -> [f64; 3] {
-        fs::write(&self.table, self.make_table(n, cycles, mode)).expect("the table is written");
-        let runs = self.programs.each_ref().map(|program| self.printed(program));
-        assert!(runs[0] == runs[1] && runs[0] == runs[2], "N {n}, {}: other runs", FAULTS[mode]);
+    fn time_programs(&self, mode: Mode, n: usize, cycles: usize, faults: usize) -> [f64; 3] {
+        let programs = &self.programs[mode.number() as usize];
+        fs::write(&self.table, self.make_table(n, cycles, faults)).expect("the table is written");
+        let runs = programs.each_ref().map(|program| self.printed(program));
+        assert!(runs[0] == runs[1] && runs[0] == runs[2], "mode {}, N {n}, {}: other runs", mode.number(), FAULTS[faults]);
         let (mut least, mut total) = ([f64::INFINITY; 3], [0.0; 3]);
         for k in (0..TURNS).flat_map(|_| 0..HANDS.len()) {
             if total[k] < PROGRAM_SECONDS {
-                let (seconds, _) = self.measured(&self.programs[k]);
+                let (seconds, _) = self.measured(&programs[k]);
                 least[k] = least[k].min(seconds);
                 total[k] += seconds;
             }
@@ -433,37 +488,39 @@ fn records(table: &[u8]) -> Vec<&[u8]> {
     found
 }
 
-fn single_cycles(places: &Places, n: usize, mode: usize) {
-    let table = places.make_table(n, CYCLES, mode);
+fn single_cycles(places: &Places, mode: Mode, n: usize, faults: usize) {
+    let table = places.make_table(n, CYCLES, faults);
     let begun = row_image(&beginning(n, all(n)));
     let records = records(&table);
-    cycles(&format!("cycle, {}", FAULTS[mode]), n, CYCLES, n * IMAGE_BYTES, &|hand, row| {
+    cycles(&format!("{}cycle, {}", press(mode), FAULTS[faults]), n, CYCLES, n * IMAGE_BYTES, &|hand, row| {
         row.copy_from_slice(&begun);
-        records.iter().map(|record| hand.cycle(n as u32, row, record)).max().unwrap_or(0)
+        records.iter().map(|record| hand.cycle(n as u32, mode.number(), row, record)).max().unwrap_or(0)
     });
 }
 
-fn run(places: &Places, n: usize, mode: usize) {
-    let table = places.make_table(n, CYCLES, mode);
-    cycles(&format!("run, {}", FAULTS[mode]), n, CYCLES, n * IMAGE_BYTES, &|hand, row| hand.run(row, &table));
+fn run(places: &Places, mode: Mode, n: usize, faults: usize) {
+    let table = places.make_table(n, CYCLES, faults);
+    let name = format!("{}run, {}", press(mode), FAULTS[faults]);
+    cycles(&name, n, CYCLES, n * IMAGE_BYTES, &|hand, row| hand.run(mode.number(), row, &table));
 }
 
-fn framed_run(places: &Places, n: usize, mode: usize) {
-    let table = places.make_table(n, FRAMED_CYCLES, mode);
-    cycles(&format!("run through frames, {}", FAULTS[mode]), n, FRAMED_CYCLES, n * IMAGE_BYTES + FRAMES_BYTES, &|hand, left| {
+fn framed_run(places: &Places, mode: Mode, n: usize, faults: usize) {
+    let table = places.make_table(n, FRAMED_CYCLES, faults);
+    cycles(&format!("{}run through frames, {}", press(mode), FAULTS[faults]), n, FRAMED_CYCLES, n * IMAGE_BYTES + FRAMES_BYTES, &|hand, left| {
         let (row, frames) = left.split_at_mut(n * IMAGE_BYTES);
-        hand.run_frames(row, &table, frames)
+        hand.run_frames(mode.number(), row, &table, frames)
     });
 }
 
-fn programs(places: &Places, n: usize, mode: usize) {
+fn programs(places: &Places, mode: Mode, n: usize, faults: usize) {
     let cycles = PROGRAM_CYCLES / n;
-    println!("{}", row(&format!("grouprun, {}", FAULTS[mode]), n, Shown::CyclesPerSecond, places.time_programs(n, cycles, mode)));
+    let name = format!("{}, {}", if mode.is_quiet() { "quietrun" } else { "grouprun" }, FAULTS[faults]);
+    println!("{}", row(&name, n, Shown::CyclesPerSecond, places.time_programs(mode, n, cycles, faults)));
 }
 
-fn on_tables(places: &Places, operation: fn(&Places, usize, usize)) {
-    for mode in 0..FAULTS.len() {
-        COUNTS.into_iter().for_each(|n| operation(places, n, mode));
+fn on_tables(places: &Places, operation: fn(&Places, Mode, usize, usize)) {
+    for (mode, faults) in Mode::BOTH.into_iter().flat_map(|mode| (0..FAULTS.len()).map(move |faults| (mode, faults))) {
+        COUNTS.into_iter().for_each(|n| operation(places, mode, n, faults));
     }
 }
 
@@ -471,18 +528,20 @@ fn on_tables(places: &Places, operation: fn(&Places, usize, usize)) {
 fn memory(places: &Places) {
     const LONG: usize = 1_000_000;
     fs::write(&places.table, places.make_table(64, LONG, 0)).expect("the table is written");
-    let [ours, _, c] = places.programs.each_ref();
+    let [ours, _, c] = places.programs[0].each_ref();
     println!("peak memory at 64 nodes and {LONG} clean cycles: grouprun {} KiB, C {} KiB", places.measured(ours).1, places.measured(c).1);
     fs::remove_file(&places.table).expect("the table is removed");
 }
 
 fn main() {
     let places = Places::of_arguments();
-    println!("{:<42} {:>3} {:>18} {:>18} {:>18} {:>8} {:>8} {:>9}", "operation", "N", "ours", "Rust", "C", "to Rust", "to C", "to ours");
+    println!("{:<50} {:>3} {:>18} {:>18} {:>18} {:>8} {:>8} {:>9}", "operation", "N", "ours", "Rust", "C", "to Rust", "to C", "to ours");
     checks();
-    WORDS.into_iter().for_each(heartbeats);
+    WORDS.into_iter().for_each(|words| heartbeats(Mode::Always, words));
+    heartbeats(Mode::Quiet, 1);
     states();
     votes();
+    COUNTS.into_iter().for_each(sends);
     for decision in &DECISIONS {
         COUNTS.into_iter().for_each(|n| decide(decision, n));
     }

@@ -1,5 +1,5 @@
 //! "Faults", and a cycle of all nodes under them.
-use super::rules::{decide, rule1, rule2, rule4, Heard, Mistake, Vote};
+use super::rules::{decide, rule1, rule2, rule4, Heard, Rules, Vote};
 use super::sets::{has, only, those, Set};
 use super::state::State;
 
@@ -43,13 +43,19 @@ pub fn after_rule1(row: &[State], faults: &Faults) -> Vec<State> {
 
 /// rule 2: what each node hears
 pub fn all_heard(row: &[State], faults: &Faults) -> Vec<Heard> {
-    let with_join = |to: usize, join: bool| those(row.len(), |from| rule2(row[from]) == Some(join) && faults.heartbeat_reaches(from, to));
-    (0..row.len()).map(|to| Heard { join0: with_join(to, false), join1: with_join(to, true) }).collect()
+    let hears = |to: usize| {
+        let mut heard = Heard::default();
+        for from in (0..row.len()).filter(|&from| faults.heartbeat_reaches(from, to)) {
+            rule2(row[from]).into_iter().for_each(|sign| heard.hear(from, sign));
+        }
+        heard
+    };
+    (0..row.len()).map(hears).collect()
 }
 
-/// rules 3 and 4: the vote of each node
-pub fn all_votes(row: &[State], heard: &[Heard], mistake: Option<Mistake>) -> Vec<Option<Vote>> {
-    (0..row.len()).map(|q| rule4(row.len(), q, row[q], heard[q], mistake)).collect()
+/// rules 3 and 4: the vote of each node that votes
+pub fn all_votes(row: &[State], heard: &[Heard], rules: Rules) -> Vec<Option<Vote>> {
+    (0..row.len()).map(|q| rule4(row.len(), q, row[q], heard[q], rules)).collect()
 }
 
 /// the votes that arrive at a node
@@ -57,10 +63,19 @@ pub fn arriving(votes: &[Option<Vote>], faults: &Faults, to: usize) -> Vec<Optio
     votes.iter().enumerate().map(|(from, vote)| vote.filter(|_| faults.vote_reaches(from, to))).collect()
 }
 
+/// a cycle of all nodes: the row after rule 1, what each node hears and votes, and the row at the end
+pub struct Cycle {
+    pub stood: Vec<State>,
+    pub heard: Vec<Heard>,
+    pub votes: Vec<Option<Vote>>,
+    pub after: Vec<State>,
+}
+
 /// rules 1 to 6 of all nodes
-pub fn cycle(row: &[State], faults: &Faults, mistake: Option<Mistake>) -> Vec<State> {
-    let row = after_rule1(row, faults);
-    let heard = all_heard(&row, faults);
-    let votes = all_votes(&row, &heard, mistake);
-    (0..row.len()).map(|q| decide(row.len(), q, row[q], heard[q], &arriving(&votes, faults, q), mistake)).collect()
+pub fn cycle(row: &[State], faults: &Faults, rules: Rules) -> Cycle {
+    let stood = after_rule1(row, faults);
+    let heard = all_heard(&stood, faults);
+    let votes = all_votes(&stood, &heard, rules);
+    let after = (0..row.len()).map(|q| decide(row.len(), q, stood[q], heard[q], &arriving(&votes, faults, q), rules)).collect();
+    Cycle { stood, heard, votes, after }
 }

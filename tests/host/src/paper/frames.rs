@@ -1,6 +1,7 @@
 //! "Frames"
 use super::checks::{frame_check, header_check};
-use super::rules::{decide, Heard, Vote};
+use super::mode::Mode;
+use super::rules::{decide, Heard, Rules, Sign, Vote};
 use super::sets::{all, has, inside, number};
 use super::state::{Group, State, Unit};
 use super::Answer;
@@ -83,9 +84,28 @@ pub fn heartbeat_header(node: usize, sync: bool, startup: bool, words: u32, cycl
     Header { reserved: false, preamble: false, null_frame: true, sync, startup, frame_number: node as u32 + 1, words, cycle }
 }
 
-/// "bit 7 of the first byte is join, all else 0"; request 2: "the first is ours, the others belong to the drive"
-pub fn heartbeat(node: usize, join: bool, sync: bool, startup: bool, cycle: u32, channel: u32, drive: &[u8]) -> Vec<u8> {
-    let payload = [&[if join { 0x80 } else { 0 }, 0], drive].concat();
+/// "bit 7 of the first byte is join, all else 0"; request 3: "In a quiet press bit 6 of a heartbeat's first byte becomes a request."
+fn first_byte(sign: Sign) -> u8 {
+    match sign {
+        Sign::Member => 0,
+        Sign::Joining => 0x80,
+        Sign::Request => 0x40,
+    }
+}
+
+/// what the two bits say, read or to be written; request 3: "it gives 10 together with the join bit, and in mode 0 also alone"
+pub fn sign_of(mode: Mode, join: bool, request: bool) -> Answer<Sign> {
+    match (join, request) {
+        (false, false) => Ok(Sign::Member),
+        (true, false) => Ok(Sign::Joining),
+        (false, true) if mode.is_quiet() => Ok(Sign::Request),
+        _ => Err(10),
+    }
+}
+
+/// request 2: "the first is ours, the others belong to the drive"
+pub fn heartbeat(node: usize, sign: Sign, sync: bool, startup: bool, cycle: u32, channel: u32, drive: &[u8]) -> Vec<u8> {
+    let payload = [&[first_byte(sign), 0], drive].concat();
     frame(&heartbeat_header(node, sync, startup, payload.len() as u32 / 2, cycle), &payload, channel)
 }
 
@@ -148,12 +168,12 @@ fn opened(channel: u32, bytes: &[u8]) -> Answer<(Header, &[u8])> {
 /// what the payload of a heartbeat says
 #[derive(Clone, Copy, PartialEq, Eq)]
 pub struct Heartbeat<'a> {
-    pub join: bool,
+    pub sign: Sign,
     pub drive: &'a [u8],
 }
 
 /// the heartbeat of `node`, or 5 to 10
-pub fn read_heartbeat(node: usize, cycle: u32, channel: u32, bytes: &[u8]) -> Answer<Heartbeat<'_>> {
+pub fn read_heartbeat(mode: Mode, node: usize, cycle: u32, channel: u32, bytes: &[u8]) -> Answer<Heartbeat<'_>> {
     let (header, payload) = opened(channel, bytes)?;
     // 9: "another frame number, cycle count, payload length, indicator or reserved bit than due"; "sync and startup free, but startup only with sync";
     // request 2: "Of a heartbeat's lengths refusal 9 now covers only 0"
@@ -162,8 +182,7 @@ pub fn read_heartbeat(node: usize, cycle: u32, channel: u32, bytes: &[u8]) -> An
     }
     // 10: "heartbeat bits that must be 0"; request 2: "10 looks at the first word alone"
     match payload {
-        [0x80, 0, drive @ ..] => Ok(Heartbeat { join: true, drive }),
-        [0, 0, drive @ ..] => Ok(Heartbeat { join: false, drive }),
+        [first, 0, drive @ ..] if first & 0x3f == 0 => Ok(Heartbeat { sign: sign_of(mode, first & 0x80 != 0, first & 0x40 != 0)?, drive }),
         _ => Err(10),
     }
 }
@@ -194,8 +213,8 @@ fn of_two<T: PartialEq>(a: Answer<T>, b: Answer<T>) -> Option<T> {
     }
 }
 
-pub fn receive_heartbeat<'a>(node: usize, cycle: u32, a: &'a [u8], b: &'a [u8]) -> Option<Heartbeat<'a>> {
-    of_two(read_heartbeat(node, cycle, 0, a), read_heartbeat(node, cycle, 1, b))
+pub fn receive_heartbeat<'a>(mode: Mode, node: usize, cycle: u32, a: &'a [u8], b: &'a [u8]) -> Option<Heartbeat<'a>> {
+    of_two(read_heartbeat(mode, node, cycle, 0, a), read_heartbeat(mode, node, cycle, 1, b))
 }
 
 pub fn receive_vote(n: usize, node: usize, cycle: u32, a: &[u8], b: &[u8]) -> Option<Vote> {
@@ -210,6 +229,6 @@ pub fn arrived_votes(n: usize, node: usize, slots: &[u8], mask: u64) -> Vec<Opti
 }
 
 /// the state of a unit after rules 5 and 6, on votes as they are lent
-pub fn decide_on_slots(unit: &Unit, heard: Heard, slots: &[u8], mask: u64) -> State {
-    decide(unit.n, unit.node, unit.state, heard, &arrived_votes(unit.n, unit.node, slots, mask), None)
+pub fn decide_on_slots(mode: Mode, unit: &Unit, heard: Heard, slots: &[u8], mask: u64) -> State {
+    decide(unit.n, unit.node, unit.state, heard, &arrived_votes(unit.n, unit.node, slots, mask), Rules::of(mode))
 }

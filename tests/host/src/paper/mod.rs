@@ -5,6 +5,7 @@ pub mod checks;
 pub mod entries;
 pub mod faults;
 pub mod frames;
+pub mod mode;
 pub mod printed;
 pub mod record;
 pub mod registers;

@@ -31,7 +31,7 @@ impl Record {
     pub fn after(&self, row: &[State], faults: &Faults) -> Record {
         let touched = faults.touched(row.len());
         let given = |group: Group| match nodes(Record::steady(&group, touched, self.touched_before)).next().map(|q| row[q]) {
-            Some(State::Member(group)) => Some(group),
+            Some(State::Member { group, .. }) => Some(group),
             _ => None,
         };
         let group = self.group.filter(|_| self.keeps(touched)).and_then(given);

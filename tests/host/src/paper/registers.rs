@@ -1,6 +1,7 @@
 //! "A register block for the drive card", the first request made after the paper: "a plain machine of state, flags and enables", and the 64 bytes that it
 //! shows.
 use super::frames::decide_on_slots;
+use super::mode::Mode;
 use super::rules::{rule1, Heard};
 use super::state::{image, read_image, Reason, State, Unit, IMAGE_BYTES};
 use super::Answer;
@@ -61,11 +62,11 @@ pub fn block_of(machine: &Machine) -> [u8; BLOCK_BYTES] {
 }
 
 /// 3 for another length; then 4 for an image that is not well formed, and: "A lent block whose bytes 24 to 63 could not read so gives 4."
-pub fn read_block(bytes: &[u8]) -> Answer<Machine> {
+pub fn read_block(mode: Mode, bytes: &[u8]) -> Answer<Machine> {
     if bytes.len() != BLOCK_BYTES {
         return Err(3);
     }
-    let unit = read_image(&bytes[..IMAGE_BYTES])?;
+    let unit = read_image(mode, &bytes[..IMAGE_BYTES])?;
     let machine = Machine { unit, flags: Flags::of(bytes[FLAGS]), enables: Flags::of(bytes[ENABLES]) };
     if block_of(&machine)[..] == *bytes {
         Ok(machine)
@@ -104,19 +105,19 @@ pub fn raised(before: State, after: State) -> Flags {
     let none = Flags::default();
     match (before, after) {
         // "bit 0 the set changed in a cycle in which the node stayed a member"
-        (State::Member(before), State::Member(after)) => Flags { changed: before.set != after.set, ..none },
+        (State::Member { group: before, .. }, State::Member { group: after, .. }) => Flags { changed: before.set != after.set, ..none },
         // "bit 1 halted"
-        (State::Member(_), State::Out(Reason::NoQuorum | Reason::Outvoted)) => Flags { halted: true, ..none },
+        (State::Member { .. }, State::Out(Reason::NoQuorum | Reason::Outvoted)) => Flags { halted: true, ..none },
         // "bit 2 entered"
-        (State::Joining, State::Member(_)) => Flags { entered: true, ..none },
+        (State::Joining, State::Member { .. }) => Flags { entered: true, ..none },
         _ => none,
     }
 }
 
 /// "a cycle"; after a write in the same step: "A flag raised in the same step as it is cleared stays set."
-pub fn cycled(machine: &Machine, heard: Heard, votes: &[u8], arrived: u64) -> Machine {
+pub fn cycled(mode: Mode, machine: &Machine, heard: Heard, votes: &[u8], arrived: u64) -> Machine {
     let Machine { unit, flags, enables } = *machine;
-    let state = decide_on_slots(&unit, heard, votes, arrived);
+    let state = decide_on_slots(mode, &unit, heard, votes, arrived);
     let up = raised(unit.state, state);
     let flags = Flags { changed: flags.changed || up.changed, halted: flags.halted || up.halted, entered: flags.entered || up.entered };
     Machine { unit: Unit { state, ..unit }, flags, enables }

@@ -3,13 +3,14 @@ use super::faults::{after_rule1, cycle, Faults};
 use super::frames::{
     decide_on_slots, heartbeat, receive_heartbeat, receive_vote, vote_frame, vote_payload, VOTES_BYTES, VOTE_BYTES, VOTE_FRAME_BYTES,
 };
-use super::rules::{rule2, rule4, Heard};
+use super::mode::Mode;
+use super::rules::{rule2, rule4, Heard, Rules};
 use super::sets::{only, Set};
 use super::state::{beginning, State, Unit};
 
 /// "a table's run first sets it to the beginning"
-pub fn run(n: usize, founding: Set, cycles: &[Faults]) -> Vec<State> {
-    cycles.iter().fold(beginning(n, founding), |row, faults| cycle(&row, faults, None))
+pub fn run(mode: Mode, n: usize, founding: Set, cycles: &[Faults]) -> Vec<State> {
+    cycles.iter().fold(beginning(n, founding), |row, faults| cycle(&row, faults, Rules::of(mode)).after)
 }
 
 /// the frame of a node in one phase, as it goes out on A and on B
@@ -44,29 +45,30 @@ fn shown_slot(sent: Option<&Sent>, channel: usize) -> Vec<u8> {
 }
 
 /// the same, every heartbeat and vote written and read on both channels; and what was sent in the last cycle, if there is one
-pub fn run_frames(n: usize, founding: Set, cycles: &[Faults]) -> (Vec<State>, Option<SentFrames>) {
+pub fn run_frames(mode: Mode, n: usize, founding: Set, cycles: &[Faults]) -> (Vec<State>, Option<SentFrames>) {
     let (mut row, mut last) = (beginning(n, founding), None);
     for (k, faults) in cycles.iter().enumerate() {
-        let (after, sent) = frames_cycle(&row, faults, k + 1);
+        let (after, sent) = frames_cycle(mode, &row, faults, k + 1);
         (row, last) = (after, Some(sent));
     }
     (row, last)
 }
 
 /// cycle number `cycle_number` through frames
-fn frames_cycle(row: &[State], faults: &Faults, cycle_number: usize) -> (Vec<State>, SentFrames) {
+fn frames_cycle(mode: Mode, row: &[State], faults: &Faults, cycle_number: usize) -> (Vec<State>, SentFrames) {
     let n = row.len();
     let row = after_rule1(row, faults);
     // "Cycle n of a run has cycle count n - 1 modulo 64, and its heartbeats have sync and startup 0."; request 2: "A run's heartbeats keep one word."
     let count = ((cycle_number - 1) % 64) as u32;
     let heartbeats: Vec<Sent> =
-        (0..n).map(|q| rule2(row[q]).map(|join| [0, 1].map(|channel| heartbeat(q, join, false, false, count, channel, &[])))).collect();
-    let heard: Vec<Heard> = (0..n).map(|to| hear(&heartbeats, faults, to, count)).collect();
-    let votes: Vec<Sent> =
-        (0..n).map(|q| rule4(n, q, row[q], heard[q], None).map(|vote| [0, 1].map(|channel| vote_frame(q, &vote, count, channel)))).collect();
+        (0..n).map(|q| rule2(row[q]).map(|sign| [0, 1].map(|channel| heartbeat(q, sign, false, false, count, channel, &[])))).collect();
+    let heard: Vec<Heard> = (0..n).map(|to| hear(mode, &heartbeats, faults, to, count)).collect();
+    let votes: Vec<Sent> = (0..n)
+        .map(|q| rule4(n, q, row[q], heard[q], Rules::of(mode)).map(|vote| [0, 1].map(|channel| vote_frame(q, &vote, count, channel))))
+        .collect();
     let decided = |to: usize| {
         let (slots, mask) = collect(n, &votes, faults, to, count);
-        decide_on_slots(&Unit { n, node: to, state: row[to] }, heard[to], &slots, mask)
+        decide_on_slots(mode, &Unit { n, node: to, state: row[to] }, heard[to], &slots, mask)
     };
     ((0..n).map(decided).collect(), SentFrames { heartbeats, votes })
 }
@@ -79,14 +81,12 @@ fn copies(frames: &Sent, reaches: bool) -> [&[u8]; 2] {
     }
 }
 
-fn hear(heartbeats: &[Sent], faults: &Faults, to: usize, count: u32) -> Heard {
+fn hear(mode: Mode, heartbeats: &[Sent], faults: &Faults, to: usize, count: u32) -> Heard {
     let mut heard = Heard::default();
     for (from, frames) in heartbeats.iter().enumerate() {
         let [a, b] = copies(frames, faults.heartbeat_reaches(from, to));
-        match receive_heartbeat(from, count, a, b).map(|heartbeat| heartbeat.join) {
-            Some(false) => heard.join0 |= only(from),
-            Some(true) => heard.join1 |= only(from),
-            None => {}
+        if let Some(heartbeat) = receive_heartbeat(mode, from, count, a, b) {
+            heard.hear(from, heartbeat.sign);
         }
     }
     heard

@@ -1,4 +1,5 @@
 //! "State"
+use super::mode::Mode;
 use super::sets::{all, has, inside, number, Set};
 use super::Answer;
 
@@ -25,7 +26,11 @@ pub struct Group {
 pub enum State {
     Out(Reason),
     Joining,
-    Member(Group),
+    /// request 3: "A member's reason byte is 1 when it will request, else 0"
+    Member {
+        group: Group,
+        request: bool,
+    },
 }
 
 /// a node of N, in its state
@@ -43,7 +48,7 @@ pub fn image(unit: &Unit) -> [u8; IMAGE_BYTES] {
         State::Out(Reason::NoQuorum) => (0, 1, None),
         State::Out(Reason::Outvoted) => (0, 2, None),
         State::Joining => (1, 0, None),
-        State::Member(group) => (2, 0, Some(group)),
+        State::Member { group, request } => (2, request.into(), Some(group)),
     };
     let group = group.unwrap_or(Group { number: 0, set: 0, base: 0 });
     let mut bytes = [0; IMAGE_BYTES];
@@ -58,7 +63,7 @@ pub fn image(unit: &Unit) -> [u8; IMAGE_BYTES] {
 }
 
 /// "It is well formed if .."; 3 for another length, then 4
-pub fn read_image(bytes: &[u8]) -> Answer<Unit> {
+pub fn read_image(mode: Mode, bytes: &[u8]) -> Answer<Unit> {
     if bytes.len() != IMAGE_BYTES {
         return Err(3);
     }
@@ -68,18 +73,19 @@ pub fn read_image(bytes: &[u8]) -> Answer<Unit> {
         return Err(4);
     }
     let group = Group { number: number(&bytes[4..8]) as u32, set: number(&bytes[8..16]), base: number(&bytes[16..24]) };
-    // "kind and reason are known", "the reason is 0 unless out"
+    // "kind and reason are known", "the reason is 0 unless out"; request 3, of a quiet press: "A member's reason byte is 1 when it will request, else 0"
     let state = match (bytes[0], bytes[1]) {
         (0, 0) => State::Out(Reason::Stopped),
         (0, 1) => State::Out(Reason::NoQuorum),
         (0, 2) => State::Out(Reason::Outvoted),
         (1, 0) => State::Joining,
-        (2, 0) => State::Member(group),
+        (2, 0) => State::Member { group, request: false },
+        (2, 1) if mode.is_quiet() => State::Member { group, request: true },
         _ => return Err(4),
     };
     let formed = match state {
         // "for a member M holds the node itself, B holds M, and no bit stands at N or above"
-        State::Member(group) => has(group.set, node) && inside(group.set, group.base) && inside(group.base, all(n)),
+        State::Member { group, .. } => has(group.set, node) && inside(group.set, group.base) && inside(group.base, all(n)),
         // "G, M and B are 0 unless member"
         _ => group == Group { number: 0, set: 0, base: 0 },
     };
@@ -90,14 +96,15 @@ pub fn read_image(bytes: &[u8]) -> Answer<Unit> {
     }
 }
 
-/// "At the beginning the nodes of the founding set are members with G 0 and M and B the founding set; the others are out with reason 0."
+/// "At the beginning the nodes of the founding set are members with G 0 and M and B the founding set; the others are out with reason 0."; request 3:
+/// "founding members begin with 0", so that this is the beginning in both modes
 pub fn beginning(n: usize, founding: Set) -> Vec<State> {
     beginning_from(n, founding, 0)
 }
 
 /// the same with another G, as P10 has it
 pub fn beginning_from(n: usize, founding: Set, number: u32) -> Vec<State> {
-    let member = State::Member(Group { number, set: founding, base: founding });
+    let member = State::Member { group: Group { number, set: founding, base: founding }, request: false };
     (0..n).map(|q| if has(founding, q) { member } else { State::Out(Reason::Stopped) }).collect()
 }
 
@@ -108,12 +115,12 @@ pub fn row_image(row: &[State]) -> Vec<u8> {
 }
 
 /// 3 for "a row not of N entries"; 4 for "a state image not well formed, or in a row an entry q that is not node q of that N"
-pub fn read_row(n: usize, bytes: &[u8]) -> Answer<Vec<State>> {
+pub fn read_row(mode: Mode, n: usize, bytes: &[u8]) -> Answer<Vec<State>> {
     if bytes.len() != n * IMAGE_BYTES {
         return Err(3);
     }
     let entry = |(q, bytes): (usize, &[u8])| {
-        let unit = read_image(bytes)?;
+        let unit = read_image(mode, bytes)?;
         if unit.n == n && unit.node == q {
             Ok(unit.state)
         } else {
