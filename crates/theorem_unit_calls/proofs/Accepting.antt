@@ -18,7 +18,6 @@ use Rattle.state.specs.Image.{refusal}
 use Rattle.state.proofs.RoundTrip.{image-length}
 use Rattle.rules.specs.OneCycle.{wrongMode, quietIn}
 use Rattle.entry_lent.specs.Refusals.{wrongCount, wrongNode, wrongCycle, wrongChannel, wrongIndicators, wrongLength, wrongFounding, malformed}
-use Rattle.entry_lent.specs.declared.Lent.{Lent}
 use Rattle.entry_lent.specs.Found.{statusOf, imageStatus}
 use Rattle.entry_begin.specs.Begin.{beginStatus}
 use Rattle.entry_send_heartbeat.specs.Beating.{wrongSending, sendHeartbeatStatus}

@@ -7,7 +7,7 @@ use mathlib.Core.Option.{Option, none, some}
 use Prim.Native.Nat.{ℕ, _^_, _<_}
 use native.Mathlib.Omega.{arith}
 use lib.Dec.{eqb, lit<}
-use Rattle.sets.specs.Sets.{has, single, _∩_, _∖_}
+use Rattle.sets.specs.Sets.{has, single, _∩_}
 use Rattle.sets.proofs.Membership.{set-ext, has-inter, has-diff, has-single}
 use Rattle.refusal.proofs.Laws.{unless-done}
 use Rattle.state.specs.declared.Group.{Group}

@@ -23,7 +23,7 @@ use Rattle.rules.specs.declared.Config.{Config}
 use Rattle.rules.specs.OneCycle.{wrongMode, quietIn, stopped, stopAndStart}
 use Rattle.frames.specs.declared.HeartbeatReceived.{HeartbeatReceived}
 use Rattle.frames.specs.declared.HeartbeatReceived.the-variants as beats
-use Rattle.frames.specs.Written.{heartbeatFrame, wrongDrive, voteFrame}
+use Rattle.frames.specs.Written.{wrongDrive, voteFrame}
 use Rattle.bus_units.specs.Units.{Copies, heartbeatSent, heartbeatGot, isAlive, isJoin, isRequest, unitHears, voteFramed}
 use Rattle.bus_units.specs.Carried.{isSome, sendsHeartbeat}
 use Rattle.entry_lent.specs.declared.Lent.{Lent}

@@ -16,7 +16,7 @@ use Rattle.state.specs.declared.Reason.{Reason}
 use Rattle.state.specs.declared.State.{State}
 use Rattle.state.specs.declared.State.the-variants.{Out, Joining, Member}
 use Rattle.state.specs.Image.{imageOf}
-use Rattle.state.specs.State.{formedPlace, formedState, initial}
+use Rattle.state.specs.State.{formedPlace, initial}
 use Rattle.rules.specs.declared.Vote.{Vote}
 use Rattle.rules.specs.declared.Faults.{Faults}
 use Rattle.rules.specs.declared.Config.{Config}

@@ -15,7 +15,7 @@ use Rattle.sets.proofs.Booleans.{eqb-true}
 use Rattle.refusal.proofs.Laws.{unless-done}
 use Rattle.state.specs.declared.Reason.{Reason}
 use Rattle.state.specs.declared.State.{State}
-use Rattle.state.specs.declared.State.the-variants.{Out, Joining, Member}
+use Rattle.state.specs.declared.State.the-variants.{Out, Member}
 use Rattle.state.specs.State.{formedPlace, formedState, foundingGroup, initial}
 use Rattle.state.specs.Image.{imageOf}
 use Rattle.rules.specs.declared.Faults.{Faults}
@@ -29,7 +29,7 @@ use Rattle.frames.specs.declared.VoteReceived.{VoteReceived}
 use Rattle.frames.specs.declared.VoteReceived.the-variants.{Missed, Whole}
 use Rattle.frames.specs.Written.{wrongDrive, votePayload}
 use Rattle.frames.proofs.Lengths.{length-payload}
-use Rattle.bus_units.specs.Units.{Bus, Copies, heartbeatSent, voteSent, heartbeatGot, isAlive, isJoin, isRequest, unitHears, voteCast, voteFramed}
+use Rattle.bus_units.specs.Units.{Bus, heartbeatSent, voteSent, heartbeatGot, isAlive, isJoin, isRequest, unitHears, voteCast, voteFramed}
 use Rattle.bus_units.specs.Faulty.{copyIf, heartbeatsOf, votesOf, busWith}
 use Rattle.bus_units.specs.Carried.{Came, on-both, on-none, HeartbeatRefused, VoteRefused, sendsHeartbeat, isSome}
 use Rattle.bus_units.specs.Run.{cycleCount}
