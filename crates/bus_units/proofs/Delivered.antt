@@ -67,12 +67,12 @@ formed-vote quiet n q h0 h1 g a l w =
     let low : eqb (below n view) view ≡ true = eq-eqb (below n view) view (view-below n q (g .set) h0 h1 l) in
     (ltb-lt (and-l (ltb (g .number) (2 ^ 32)) (formedSets q n (g .set) (g .base)) k), rw (set, own, b, d, low))
 
-pub unit-vote-formed : (C : Config) (count : ℕ) (h : Copies) (q : ℕ) (g : Group) (a : Bool) → q < C .nodes → formedState (C .quiet) q (C .nodes) (Member g a) ≡ true
+unit-vote-formed : (C : Config) (count : ℕ) (h : Copies) (q : ℕ) (g : Group) (a : Bool) → q < C .nodes → formedState (C .quiet) q (C .nodes) (Member g a) ≡ true
     → (unitVote C count h q g .group .number < 2 ^ 32) × (formedVote (C .nodes) q (unitVote C count h q g) ≡ true)
 unfolding unitVote
 unit-vote-formed C count h q g a l w = formed-vote (C .quiet) (C .nodes) q (unitHears C count h isAlive q) (unitHears C count h isJoin q) g a l w
 
-cast-formed : (C : Config) (count : ℕ) (h : Copies) (q : ℕ) (s : State) → q < C .nodes → formedState (C .quiet) q (C .nodes) s ≡ true → (v : Vote) → voteCast C count h q s ≡ some v
+pub cast-formed : (C : Config) (count : ℕ) (h : Copies) (q : ℕ) (s : State) → q < C .nodes → formedState (C .quiet) q (C .nodes) s ≡ true → (v : Vote) → voteCast C count h q s ≡ some v
     → (v .group .number < 2 ^ 32) × (formedVote (C .nodes) q v ≡ true)
 cast-formed C count h q (Out z) l w v e = absurd (none-some e)
 cast-formed C count h q Joining l w v e = absurd (none-some e)

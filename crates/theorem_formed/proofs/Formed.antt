@@ -82,6 +82,10 @@ sound-group quiet n q g a f =
       bound = bound-of n (g .base) (eqb-true (and-r (has q (g .set) && subset (g .set) (g .base)) (eqb (below n (g .base)) (g .base)) sets));
     }
 
+-- a member's set has no node at n or above
+pub set-bound : (quiet : Bool) (n q : ℕ) (g : Group) (a : Bool) → formedState quiet q n (Member g a) ≡ true → Bound n (g .set)
+set-bound quiet n q g a f x h = let s = sound-group quiet n q g a f in s .bound x (s .inside x h)
+
 formed-group : (quiet : Bool) (n q : ℕ) (g : Group) (a : Bool) → Sound n q g → Allowed quiet (Member g a) → formedState quiet q n (Member g a) ≡ true
 unfolding formedSets
 formed-group quiet n q g a s w =

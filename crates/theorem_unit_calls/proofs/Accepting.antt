@@ -16,14 +16,16 @@ use Rattle.state.specs.declared.Decoded.{Decoded}
 use Rattle.state.specs.State.{formedPlace, formedState}
 use Rattle.state.specs.Image.{refusal}
 use Rattle.state.proofs.RoundTrip.{image-length}
-use Rattle.entry_lent.specs.Refusals.{wrongCount, wrongNode, wrongCycle, wrongChannel, wrongIndicators, wrongLength, wrongFounding, malformed, imageStatus}
+use Rattle.rules.specs.OneCycle.{wrongMode, quietIn}
+use Rattle.entry_lent.specs.Refusals.{wrongCount, wrongNode, wrongCycle, wrongChannel, wrongIndicators, wrongLength, wrongFounding, malformed}
+use Rattle.entry_lent.specs.Found.{statusOf, imageStatus}
 use Rattle.entry_begin.specs.Begin.{beginStatus}
-use Rattle.entry_send_heartbeat.specs.Beating.{sendHeartbeatStatus}
+use Rattle.entry_send_heartbeat.specs.Beating.{wrongSending, sendHeartbeatStatus}
 use Rattle.entry_receive_heartbeat.specs.Hearing.{receiveHeartbeatStatus}
 use Rattle.entry_send_vote.specs.Voting.{sendVoteStatus}
 use Rattle.entry_receive_vote.specs.Arrivals.{receiveVoteStatus}
 use Rattle.entry_decide.specs.Decide.{decideStatus}
-use Rattle.theorem_unit_calls.proofs.Calls.{imageIn, image-back}
+use Rattle.theorem_unit_calls.proofs.Calls.{imageIn, image-back, image-lent}
 
 not-long : (k : ℕ) (s : List ℕ) → length s ≡ k → wrongLength k s ≡ false
 not-long k s e = ap not (eq-eqb (length s) k e)
@@ -43,41 +45,43 @@ none-of-three : (a b c : Bool) (i j k : ℕ) → a ≡ false → b ≡ false →
 unfolding first
 none-of-three a b c i j k e f g = rw (e, f, g)
 
-module _ (n q : ℕ) (s : State) (place : formedPlace q n ≡ true) (w : formedState q n s ≡ true) where
-  good-image : malformed (imageIn n q s) ≡ false
-  good-image = ap (λ (d : Decoded). eqb (refusal d) 4) (image-back n q s place w)
+module _ (mode n q : ℕ) (s : State) (accepted : wrongMode mode ≡ false) (place : formedPlace q n ≡ true) (w : formedState (quietIn mode) q n s ≡ true) where
+  good-image : malformed (quietIn mode) (imageIn n q s) ≡ false
+  good-image = ap (λ (d : Decoded). eqb (refusal d) 4) (image-back mode n q s place w)
 
-  pub image-good : 0 ≡ imageStatus (imageIn n q s)
+  pub image-good : 0 ≡ imageStatus mode (imageIn n q s)
   unfolding imageStatus
-  image-good = sym (ap refusal (image-back n q s place w))
+  image-good = sym (ap statusOf (image-lent mode n q s place w accepted))
 
   image-size : wrongLength 24 (imageIn n q s) ≡ false
   image-size = not-long 24 (imageIn n q s) (image-length _)
 
+  sent-good : (count channel : ℕ) → count < 64 → channel < 2 → (wrongCycle count || wrongChannel channel) ≡ false
+  sent-good count channel a b = or-no (wrongCycle count) (wrongChannel channel) (le-ltb 63 count (omega arith)) (le-ltb 1 channel (omega arith))
+
   pub beat-good : (count channel : ℕ) (drive : List ℕ) → count < 64 → channel < 2 → wrongDrive drive ≡ false
-      → 0 ≡ sendHeartbeatStatus (imageIn n q s) 0 0 count channel drive (replicate (10 + length drive) 0)
+      → 0 ≡ sendHeartbeatStatus mode (imageIn n q s) 0 0 count channel drive (replicate (10 + length drive) 0)
   unfolding sendHeartbeatStatus wrongIndicators first
   beat-good count channel drive a b writable =
-      let numbers = or-no (wrongIndicators 0 0 || wrongCycle count) (wrongChannel channel) (le-ltb 63 count (omega arith)) (le-ltb 1 channel (omega arith)) in
+      let numbers : wrongSending mode 0 0 count channel ≡ false = or-no (wrongMode mode) (wrongCycle count || wrongChannel channel) accepted (sent-good count channel a b) in
       let sized = not-long (10 + length drive) (replicate (10 + length drive) 0) (length-replicate {A = ℕ} (10 + length drive) 0) in
       rw (numbers, writable) (none-of-two _ _ 3 4 (or-no _ _ image-size sized) good-image)
 
-  pub vote-good : (count channel : ℕ) → count < 64 → channel < 2 → 0 ≡ sendVoteStatus (imageIn n q s) count channel (replicate 36 0)
+  pub vote-good : (count channel : ℕ) → count < 64 → channel < 2 → 0 ≡ sendVoteStatus mode (imageIn n q s) count channel (replicate 36 0)
   unfolding sendVoteStatus
-  vote-good count channel a b =
-      none-of-three _ _ _ 2 3 4 (or-no (wrongCycle count) (wrongChannel channel) (le-ltb 63 count (omega arith)) (le-ltb 1 channel (omega arith))) (or-no _ _ image-size refl) good-image
+  vote-good count channel a b = none-of-three _ _ _ 2 3 4 (or-no _ _ accepted (sent-good count channel a b)) (or-no _ _ image-size refl) good-image
 
-  pub decide-good : (votes : List ℕ) → length votes ≡ 1792 → 0 ≡ decideStatus (imageIn n q s) votes
+  pub decide-good : (votes : List ℕ) → length votes ≡ 1792 → 0 ≡ decideStatus mode (imageIn n q s) votes
   unfolding decideStatus
-  decide-good votes l = none-of-two _ _ 3 4 (or-no _ _ image-size (not-long 1792 votes l)) good-image
+  decide-good votes l = none-of-three _ _ _ 2 3 4 accepted (or-no _ _ image-size (not-long 1792 votes l)) good-image
 
 module _ (n p count : ℕ) (two : 2 ≤ n) (few : n ≤ 64) (l : p < n) (counted : count < 64) where
   slot-good : (wrongNode n p || wrongCycle count) ≡ false
   slot-good = or-no (wrongNode n p) (wrongCycle count) (lt-leb n p l) (le-ltb 63 count (omega arith))
 
-  pub hear-good : 0 ≡ receiveHeartbeatStatus n p count (replicate 252 0)
+  pub hear-good : (mode : ℕ) → wrongMode mode ≡ false → 0 ≡ receiveHeartbeatStatus n mode p count (replicate 252 0)
   unfolding receiveHeartbeatStatus
-  hear-good = none-of-three _ _ _ 1 2 3 (count-good n two few) slot-good refl
+  hear-good mode accepted = none-of-three _ _ _ 1 2 3 (count-good n two few) (or-no _ _ accepted slot-good) refl
 
   pub arrive-good : (s : List ℕ) → length s ≡ 1792 → 0 ≡ receiveVoteStatus n p count s
   unfolding receiveVoteStatus

@@ -16,23 +16,23 @@ use Rattle.state.specs.declared.Reason.{Reason}
 use Rattle.state.specs.declared.State.{State}
 use Rattle.state.specs.declared.State.the-variants.{Out, Joining, Member}
 use Rattle.state.specs.Image.{imageOf}
-use Rattle.state.specs.State.{formedPlace, formedState, initial}
+use Rattle.state.specs.State.{formedPlace, initial}
 use Rattle.rules.specs.declared.Vote.{Vote}
 use Rattle.rules.specs.declared.Faults.{Faults}
 use Rattle.rules.specs.declared.Config.{Config}
-use Rattle.rules.specs.OneCycle.{ofNodes, stopped, stopIf, startIf, stopAndStart, sendsMember}
+use Rattle.rules.specs.OneCycle.{quietIn, inMode, stopped, stopIf, startIf, stopAndStart}
 use Rattle.rules.specs.Faults.{Row, at, founding, ruleOne, heartbeatReaches, voteReaches, arriveIf, cycle}
 use Rattle.rules.specs.Reference.{Cluster, beginning, step, after}
 use Rattle.rules.proofs.Rows.{get-tabulate}
-use Rattle.rules.proofs.States.{none-some, some-inj}
+use Rattle.rules.proofs.States.{none-some}
 use Rattle.theorem_agreement.proofs.Histories.{demand3}
 use Rattle.theorem_formed.proofs.Formed.{FormedRow, rule-one-formed, founding-formed, cycle-formed}
 use Rattle.frames.specs.declared.VoteReceived.the-variants.{Whole}
 use Rattle.bus_units.specs.Units.{Bus, driveGot, voteCast, voteGot, received, unitDecides, unitsCycle}
-use Rattle.bus_units.specs.Carried.{Came, on-both, on-a, on-b, on-none, HeartbeatSent, HeartbeatRefused, VoteSent, VoteRefused, sendsHeartbeat, Carries, Delivers}
+use Rattle.bus_units.specs.Carried.{Came, on-both, on-a, on-b, on-none, HeartbeatSent, HeartbeatRefused, VoteSent, VoteRefused, sendsHeartbeat, sendsVote, Carries, Delivers}
 use Rattle.bus_units.specs.Recorded.{Sound, beatHeard, recordOf}
 use Rattle.bus_units.proofs.Follow.{units-follow}
-use Rattle.bus_units.proofs.Delivered.{unit-vote-formed, delivers-carries}
+use Rattle.bus_units.proofs.Delivered.{cast-formed, delivers-carries}
 use Rattle.bus_units.proofs.Recorded.{bus-recorded, drives-recorded}
 use Rattle.entry_lent.specs.Refusals.{wrongCount, wrongNode, wrongLength, wrongFounding}
 use Rattle.entry_lent.proofs.Bounds.{count-bounds}
@@ -99,25 +99,25 @@ rests-out : (n q : ℕ) (stop start : Bool) (s : State) (x : List ℕ) → x ≡
 unfolding imageOf stopAndStart
 rests-out n q stop start (Out r) x e k a b = (r, refl, ap₂ (λ (u v : Bool). startIf v (stopIf u (Out r))) a b)
 rests-out n q stop start Joining x e k a b = absurd (let z : 1 ≡ 0 = sym (ap (λ (y : List ℕ). getD y 0 0) e) ∙ k in omega arith)
-rests-out n q stop start (Member g) x e k a b = absurd (let z : 2 ≡ 0 = sym (ap (λ (y : List ℕ). getD y 0 0) e) ∙ k in omega arith)
+rests-out n q stop start (Member g t) x e k a b = absurd (let z : 2 ≡ 0 = sym (ap (λ (y : List ℕ). getD y 0 0) e) ∙ k in omega arith)
 
 -- one that is out sends nothing
 rests-as : (Sent : State → ℕ → List ℕ → Type 0) (speaks : State → Bool) (s : State) → speaks s ≡ false → As Sent speaks noFrames s
 rests-as Sent speaks s o = ((λ channel l y k. absurd (let z : 0 ≡ 1 = k .0 in omega arith)), sym o)
 
-module _ (E : Entries) (told : Within E byDefinition) (n : ℕ) (two : 2 ≤ n) (few : n ≤ 64) where
+module _ (E : Entries) (told : Within E byDefinition) (mode n : ℕ) (two : 2 ≤ n) (few : n ≤ 64) where
   abbrev pub C : Config
-  C = ofNodes n
+  C = inMode mode n
 
   abbrev pub Holds : (ℕ → List ℕ) → Row → Type 0
   Holds x row = (q : ℕ) → q < n → x q ≡ imageIn n q (at row q)
 
-  module _ (count : ℕ) (c : Faults) (bus : Bus) (x z : ℕ → List ℕ) (row : Row) (w : FormedRow n row) (e : Holds x row) where
+  module _ (count : ℕ) (c : Faults) (bus : Bus) (x z : ℕ → List ℕ) (row : Row) (w : FormedRow C row) (e : Holds x row) where
     abbrev r : Row
     r = ruleOne n c row
 
     abbrev OnePart : ℕ → Type 1
-    OnePart p = Part E n count (c .stop) (c .start) bus p (x p) (z p)
+    OnePart p = Part E mode n count (c .stop) (c .start) bus p (x p) (z p)
 
     -- one that makes no calls was out, and is out after rule 1
     out : (p : ℕ) → p < n → getD (x p) 0 0 ≡ 0 → has p (c .stop) ≡ false → has p (c .start) ≡ false → (y : Reason) × (at row p ≡ Out y) × (at r p ≡ Out y)
@@ -134,63 +134,67 @@ module _ (E : Entries) (told : Within E byDefinition) (n : ℕ) (two : 2 ≤ n) 
     part-beats : (p : ℕ) → p < n → (u : OnePart p) → As (HeartbeatSent count p (driveIn u)) sendsHeartbeat (beatsWritten u) (at r p)
     part-beats p l (calls d) =
         subst (As (HeartbeatSent count p (d .drive)) sendsHeartbeat (d .heartbeat)) (ruled n c row p l)
-        (unit-beats E told n p (placed n p two few l) count (c .stop) (c .start) bus (at row p) (x p) (z p) (w p l) (e p l) d)
+        (unit-beats E told mode n p (placed n p two few l) count (c .stop) (c .start) bus (at row p) (x p) (z p) (w p l) (e p l) d)
     part-beats p l (rests k a b o) = rests-as (HeartbeatSent count p []) sendsHeartbeat (at r p) (ap sendsHeartbeat (out p l k a b .2))
     part-beats p l (leaves a b k) = rests-as (HeartbeatSent count p []) sendsHeartbeat (at r p) (ap sendsHeartbeat (gone p l a b))
 
-    part-votes : (p : ℕ) → p < n → (u : OnePart p) → As (VoteSent n count (bus .heartbeats) p) sendsMember (votesWritten u) (at r p)
+    abbrev VotesAs : ℕ → (ℕ → Frame) → State → Type 0
+    VotesAs p = As (VoteSent C count (bus .heartbeats) p) (sendsVote C count (bus .heartbeats) p)
+
+    no-votes : (p : ℕ) → sendsVote C count (bus .heartbeats) p (at r p) ≡ false → VotesAs p noFrames (at r p)
+    no-votes p o = rests-as (VoteSent C count (bus .heartbeats) p) (sendsVote C count (bus .heartbeats) p) (at r p) o
+
+    part-votes : (p : ℕ) → p < n → (u : OnePart p) → VotesAs p (votesWritten u) (at r p)
     part-votes p l (calls d) =
-        subst (As (VoteSent n count (bus .heartbeats) p) sendsMember (d .vote)) (ruled n c row p l)
-        (unit-votes E told n p (placed n p two few l) count (c .stop) (c .start) bus (at row p) (x p) (z p) (w p l) (e p l) d)
-    part-votes p l (rests k a b o) = rests-as (VoteSent n count (bus .heartbeats) p) sendsMember (at r p) (ap sendsMember (out p l k a b .2))
-    part-votes p l (leaves a b k) = rests-as (VoteSent n count (bus .heartbeats) p) sendsMember (at r p) (ap sendsMember (gone p l a b))
+        subst (VotesAs p (d .vote)) (ruled n c row p l)
+        (unit-votes E told mode n p (placed n p two few l) count (c .stop) (c .start) bus (at row p) (x p) (z p) (w p l) (e p l) d)
+    part-votes p l (rests k a b o) = no-votes p (ap (sendsVote C count (bus .heartbeats) p) (out p l k a b .2))
+    part-votes p l (leaves a b k) = no-votes p (ap (sendsVote C count (bus .heartbeats) p) (gone p l a b))
 
     module _ (carries : Carries C count bus c r) where
       -- a vote that arrives is one that was cast, and so its number fits
       small : (q : ℕ) → q < n → (p : ℕ) → p < n → eqb p q ≡ false → (v : Vote) → voteGot n count (bus .votes) q p ≡ Whole v → v .group .number < 2 ^ 32
-      small q lq p lp o v k = cast (voteReaches c p q) (at r p) (rule-one-formed n c row w p lp) (sym (carries .ballots p q lp lq o) ∙ ap received k)
+      small q lq p lp o v k = cast (voteReaches c p q) (sym (carries .ballots p q lp lq o) ∙ ap received k)
         where
-          cast : (t : Bool) (s : State) → formedState p n s ≡ true → arriveIf t (voteCast n count (bus .heartbeats) p s) ≡ some v → v .group .number < 2 ^ 32
-          cast true (Out y) f h = absurd (none-some h)
-          cast true Joining f h = absurd (none-some h)
-          cast true (Member g) f h = subst (λ (u : Vote). u .group .number < 2 ^ 32) (some-inj h) (unit-vote-formed n count (bus .heartbeats) p g lp f .0)
-          cast false s f h = absurd (none-some h)
+          cast : (t : Bool) → arriveIf t (voteCast C count (bus .heartbeats) p (at r p)) ≡ some v → v .group .number < 2 ^ 32
+          cast true h = cast-formed C count (bus .heartbeats) p (at r p) lp (rule-one-formed C c row w p lp) v h .0
+          cast false h = absurd (none-some h)
 
       part-decides : (q : ℕ) → q < n → OnePart q → z q ≡ imageIn n q (unitDecides C count bus q (at r q))
       unfolding stopAndStart
       part-decides q l (calls d) =
-          unit-alone E told n q (placed n q two few l) count (c .stop) (c .start) bus (at row q) (x q) (z q) (w q l) (e q l) d (small q l)
+          unit-alone E told mode n q (placed n q two few l) count (c .stop) (c .start) bus (at row q) (x q) (z q) (w q l) (e q l) d (small q l)
           ∙ ap (λ (s : State). imageIn n q (unitDecides C count bus q s)) (ruled n c row q l)
       part-decides q l (rests k a b o) =
           let t = out q l k a b in
           o ∙ e q l ∙ ap (imageIn n q) (t .1) ∙ sym (ap (λ (s : State). imageIn n q (unitDecides C count bus q s)) (t .2))
       part-decides q l (leaves a b k) =
-          stop-call E told n q (placed n q two few l) true (at row q) (x q) (z q) (w q l) (e q l) k
+          stop-call E told mode n q (placed n q two few l) true (at row q) (x q) (z q) (w q l) (e q l) k
           ∙ sym (ap (λ (s : State). imageIn n q (unitDecides C count bus q s)) (gone q l a b))
 
       -- on a bus that carries the record, the images after it are those of the rules' cycle
-      carried-holds : Parts E n count (c .stop) (c .start) bus x z → Holds z (cycle C c row)
+      carried-holds : Parts E mode n count (c .stop) (c .start) bus x z → Holds z (cycle C c row)
       carried-holds u q l = part-decides q l (u q l) ∙ ap (imageIn n q) (units-entry C count bus c row q l ∙ ap (λ (y : Row). at y q) (units-follow C count bus c row carries))
 
-    pub cycle-holds : CycleDone E n count c bus x z → Holds z (cycle C c row)
-    cycle-holds d = carried-holds (delivers-carries C count few (d .counted) bus c r (rule-one-formed n c row w) delivers) (d .parts)
+    pub cycle-holds : CycleDone E mode n count c bus x z → Holds z (cycle C c row)
+    cycle-holds d = carried-holds (delivers-carries C count few (d .counted) bus c r (rule-one-formed C c row w) delivers) (d .parts)
       where
         delivers : Delivers C count bus c r
         delivers =
             record {
               drive = λ p lp. driveIn (d .parts p lp);
               beats = λ p q lp lq o.
-                  came-as (HeartbeatSent count p (driveIn (d .parts p lp))) sendsHeartbeat (beatsWritten (d .parts p lp)) (at r p) (HeartbeatRefused count p) (bus .heartbeats p q 0) (bus .heartbeats p q 1)
+                  came-as (HeartbeatSent count p (driveIn (d .parts p lp))) sendsHeartbeat (beatsWritten (d .parts p lp)) (at r p) (HeartbeatRefused (quietIn mode) count p) (bus .heartbeats p q 0) (bus .heartbeats p q 1)
                   (heartbeatReaches c p q) (part-beats p lp (d .parts p lp)) (d .beats p q lp lq o);
               ballots = λ p q lp lq o.
-                  came-as (VoteSent n count (bus .heartbeats) p) sendsMember (votesWritten (d .parts p lp)) (at r p) (VoteRefused n count p) (bus .votes p q 0) (bus .votes p q 1)
+                  came-as (VoteSent C count (bus .heartbeats) p) (sendsVote C count (bus .heartbeats) p) (votesWritten (d .parts p lp)) (at r p) (VoteRefused n count p) (bus .votes p q 0) (bus .votes p q 1)
                   (voteReaches c p q) (part-votes p lp (d .parts p lp)) (d .ballots p q lp lq o);
             }
 
   -- the same under the record that says what came
-  module _ (count stop start : ℕ) (bus : Bus) (x z : ℕ → List ℕ) (row : Row) (w : FormedRow n row) (e : Holds x row) (d : SoundDone E n count stop start bus x z) where
+  module _ (count stop start : ℕ) (bus : Bus) (x z : ℕ → List ℕ) (row : Row) (w : FormedRow C row) (e : Holds x row) (d : SoundDone E mode n count stop start bus x z) where
     abbrev came-record : Faults
-    came-record = recordOf n count bus stop start row
+    came-record = recordOf C count bus stop start row
 
     sound-bus : Sound C count bus (ruleOne n came-record row)
     unfolding recordOf
@@ -207,18 +211,18 @@ module _ (E : Entries) (told : Within E byDefinition) (n : ℕ) (two : 2 ≤ n) 
 
     -- a unit that hears another finds exactly the drive bytes that the other gave with its calls, and none of one that it does not hear
     pub drives-found : (p q : ℕ) (l : p < n) → q < n → eqb p q ≡ false
-        → driveGot count (bus .heartbeats) q p ≡ cond (beatHeard count bus q p) (driveIn (d .parts p l)) []
+        → driveGot (quietIn mode) count (bus .heartbeats) q p ≡ cond (beatHeard (quietIn mode) count bus q p) (driveIn (d .parts p l)) []
     unfolding sound-bus
     drives-found p q l lq o = drives-recorded C count few (d .counted) bus stop start row w sound-bus p q l lq o
 
   -- ---- cycles, one after the other
 
-  pressed : (k : Cluster) (cs : List Faults) (x z : ℕ → List ℕ) → FormedRow n (k .row) → Holds x (k .row) → Pressed E n cs x z → Holds z (after C k cs .row)
+  pressed : (k : Cluster) (cs : List Faults) (x z : ℕ → List ℕ) → FormedRow C (k .row) → Holds x (k .row) → Pressed E mode n cs x z → Holds z (after C k cs .row)
   unfolding after step
   pressed k [] x z w e no-cycle = e
   pressed k (c ∷ cs) x z w e (next {y = y} count bus d rest) = pressed (step C k c) cs y z (cycle-formed C c (k .row) w) (cycle-holds count c bus x y (k .row) w e d) rest
 
-  sound-pressed : (k : Cluster) (cs : List Faults) (x z : ℕ → List ℕ) → FormedRow n (k .row) → Holds x (k .row) → SoundPressed E n (k .row) cs x z → Holds z (after C k cs .row)
+  sound-pressed : (k : Cluster) (cs : List Faults) (x z : ℕ → List ℕ) → FormedRow C (k .row) → Holds x (k .row) → SoundPressed E mode n (k .row) cs x z → Holds z (after C k cs .row)
   unfolding after step
   sound-pressed k [] x z w e no-cycle = e
   sound-pressed k (c ∷ cs) x z w e (next {y = y} count stop start bus d rest) =
@@ -226,12 +230,12 @@ module _ (E : Entries) (told : Within E byDefinition) (n : ℕ) (two : 2 ≤ n) 
 
 -- ---- the theorems
 
-module _ (E : Entries) (told : Within E byDefinition) (n F : ℕ) (cs : List Faults) (x z : ℕ → List ℕ) (begins : Begins E n F x) where
+module _ (E : Entries) (told : Within E byDefinition) (mode n F : ℕ) (cs : List Faults) (x z : ℕ → List ℕ) (begins : Begins E n F x) where
   -- if every unit's image follows the rules from the beginning, all that is promised holds
-  promised : ((two : 2 ≤ n) (few : n ≤ 64) → FormedRow n (founding n 0 F) → Holds E told n two few x (founding n 0 F)
-      → Holds E told n two few z (after (ofNodes n) (beginning (ofNodes n) 0 F) cs .row)) → UnitsPromised n F cs z
+  promised : ((two : 2 ≤ n) (few : n ≤ 64) → FormedRow (inMode mode n) (founding n 0 F) → Holds E told mode n two few x (founding n 0 F)
+      → Holds E told mode n two few z (after (inMode mode n) (beginning (inMode mode n) 0 F) cs .row)) → UnitsPromised mode n F cs z
   unfolding beginning founding
-  promised follow = record { states = λ q l. follow (bound q l .two) (bound q l .few) (founding-formed n 0 F (lit< tt) (bound q l .founders)) first q l; claims = demand3 (ofNodes n) 0 F }
+  promised follow = record { states = λ q l. follow (bound q l .two) (bound q l .few) (founding-formed (inMode mode n) 0 F (lit< tt) (bound q l .founders)) first q l; claims = demand3 (inMode mode n) 0 F }
     where
       bound : (q : ℕ) → q < n → Bounds n F
       bound q l = bounds E told n F q (x q) (begins q l)
@@ -241,10 +245,10 @@ module _ (E : Entries) (told : Within E byDefinition) (n F : ℕ) (cs : List Fau
 
 pub over-units : (E : Entries) → Within E byDefinition → OverUnits E
 unfolding beginning
-over-units E told n F cs x z begins press =
-    promised E told n F cs x z begins (λ two few w e. pressed E told n two few (beginning (ofNodes n) 0 F) cs x z w e press)
+over-units E told mode n F cs x z begins press =
+    promised E told mode n F cs x z begins (λ two few w e. pressed E told mode n two few (beginning (inMode mode n) 0 F) cs x z w e press)
 
 pub over-any-bus : (E : Entries) → Within E byDefinition → OverAnyBus E
 unfolding beginning
-over-any-bus E told n F cs x z begins press =
-    promised E told n F cs x z begins (λ two few w e. sound-pressed E told n two few (beginning (ofNodes n) 0 F) cs x z w e press)
+over-any-bus E told mode n F cs x z begins press =
+    promised E told mode n F cs x z begins (λ two few w e. sound-pressed E told mode n two few (beginning (inMode mode n) 0 F) cs x z w e press)

@@ -6,7 +6,7 @@ use mathlib.Core.List.{List, [], _∷_, map}
 use Prim.Native.Nat.{ℕ, zero, suc, _<_}
 use native.Mathlib.Omega.{arith}
 use Rattle.rules.specs.declared.Faults.{Faults}
-use Rattle.rules.specs.OneCycle.{ofNodes}
+use Rattle.rules.specs.OneCycle.{quietIn, inMode}
 use Rattle.rules.specs.Faults.{Row, heartbeatReaches, voteReaches, cycle}
 use Rattle.bus_units.specs.Units.{Bus}
 use Rattle.bus_units.specs.Carried.{Came, on-both, on-a, on-b, on-none, HeartbeatRefused, VoteRefused}
@@ -27,13 +27,13 @@ came-copies Sent Refused copies false (on-none a b) zero l = inr a
 came-copies Sent Refused copies false (on-none a b) (suc zero) l = inr b
 came-copies Sent Refused copies t k (suc (suc channel)) l = absurd (omega arith)
 
-cycle-sound : (E : Entries) (n count : ℕ) (c : Faults) (bus : Bus) (x z : ℕ → List ℕ) → CycleDone E n count c bus x z → SoundDone E n count (c .stop) (c .start) bus x z
-cycle-sound E n count c bus x z d =
+cycle-sound : (E : Entries) (mode n count : ℕ) (c : Faults) (bus : Bus) (x z : ℕ → List ℕ) → CycleDone E mode n count c bus x z → SoundDone E mode n count (c .stop) (c .start) bus x z
+cycle-sound E mode n count c bus x z d =
     record {
       counted = d .counted;
       parts = d .parts;
       beats = λ p q channel lp lq o.
-          came-copies (Wrote (beatsWritten (d .parts p lp))) (HeartbeatRefused count p) (bus .heartbeats p q) (sends (beatsWritten (d .parts p lp)) && heartbeatReaches c p q) (d .beats p q lp lq o) channel;
+          came-copies (Wrote (beatsWritten (d .parts p lp))) (HeartbeatRefused (quietIn mode) count p) (bus .heartbeats p q) (sends (beatsWritten (d .parts p lp)) && heartbeatReaches c p q) (d .beats p q lp lq o) channel;
       ballots = λ p q channel lp lq o.
           came-copies (Wrote (votesWritten (d .parts p lp))) (VoteRefused n count p) (bus .votes p q) (sends (votesWritten (d .parts p lp)) && voteReaches c p q) (d .ballots p q lp lq o) channel;
     }
@@ -42,14 +42,14 @@ cycle-sound E n count c bus x z d =
 abbrev pub SameRuleOne : List Faults → List Faults → Type 0
 SameRuleOne cs ds = (map (λ (c : Faults). c .stop) ds ≡ map (λ (c : Faults). c .stop) cs) × (map (λ (c : Faults). c .start) ds ≡ map (λ (c : Faults). c .start) cs)
 
-pub pressed-sound : (E : Entries) (n : ℕ) (row : Row) (cs : List Faults) (x z : ℕ → List ℕ) → Pressed E n cs x z
-    → (ds : List Faults) × SameRuleOne cs ds × SoundPressed E n row ds x z
+pub pressed-sound : (E : Entries) (mode n : ℕ) (row : Row) (cs : List Faults) (x z : ℕ → List ℕ) → Pressed E mode n cs x z
+    → (ds : List Faults) × SameRuleOne cs ds × SoundPressed E mode n row ds x z
 unfolding recordOf
-pressed-sound E n row [] x z none = ([], (refl, refl), none)
-pressed-sound E n row (c ∷ cs) x z (next {y = y} count bus d rest) =
-    let e = recordOf n count bus (c .stop) (c .start) row in
-    let more = pressed-sound E n (cycle (ofNodes n) e row) cs y z rest in (
+pressed-sound E mode n row [] x z none = ([], (refl, refl), none)
+pressed-sound E mode n row (c ∷ cs) x z (next {y = y} count bus d rest) =
+    let e = recordOf (inMode mode n) count bus (c .stop) (c .start) row in
+    let more = pressed-sound E mode n (cycle (inMode mode n) e row) cs y z rest in (
       e ∷ more .0,
       (ap (λ (masks : List ℕ). c .stop ∷ masks) (more .1 .0), ap (λ (masks : List ℕ). c .start ∷ masks) (more .1 .1)),
-      next count (c .stop) (c .start) bus (cycle-sound E n count c bus x y d) (more .2),
+      next count (c .stop) (c .start) bus (cycle-sound E mode n count c bus x y d) (more .2),
     )
