@@ -11,7 +11,7 @@ use Rattle.entry_stop_start.proofs.Answers as ruled
 use Rattle.entry_state.proofs.Whole as apart
 use Rattle.entry_write_heartbeat.specs.Heartbeats.{writeHeartbeatLeft}
 use Rattle.entry_send_heartbeat.specs.Beating.{sendHeartbeatLeft, sendHeartbeatSent}
-use Rattle.entry_receive_heartbeat.specs.Hearing.{readHeartbeatDrive, readHeartbeatJoin, readHeartbeatDriveBytes, receiveHeartbeatDrive, receiveHeartbeatHeard, receiveHeartbeatDriveBytes}
+use Rattle.entry_receive_heartbeat.specs.Hearing.{readHeartbeatDrive, readHeartbeatJoin, readHeartbeatRequest, readHeartbeatDriveBytes, receiveHeartbeatDrive, receiveHeartbeatHeard, receiveHeartbeatDriveBytes}
 use Rattle.entry_write_vote.specs.Votes.{writeVoteLeft}
 use Rattle.entry_send_vote.specs.Voting.{sendVoteLeft, sendVoteSent}
 use Rattle.entry_send_vote.proofs.Kept as viewed
@@ -60,29 +60,30 @@ told : {A : Type 0} {r k : ℕ} {after left before : A} → r ≡ k → after �
 told e l law h = l ∙ law (λ z. h (e ∙ z))
 
 pub refused-kept : RefusedKept
-unfolding beginLeft writeHeartbeatLeft sendHeartbeatLeft sendHeartbeatSent readHeartbeatDrive readHeartbeatJoin readHeartbeatDriveBytes receiveHeartbeatDrive receiveHeartbeatHeard receiveHeartbeatDriveBytes writeVoteLeft sendVoteLeft sendVoteSent receiveVoteLeft receiveVoteArrived decideLeft imagesStatus imagesLeft
+unfolding beginLeft writeHeartbeatLeft sendHeartbeatLeft sendHeartbeatSent readHeartbeatDrive readHeartbeatJoin readHeartbeatRequest readHeartbeatDriveBytes receiveHeartbeatDrive receiveHeartbeatHeard receiveHeartbeatDriveBytes writeVoteLeft sendVoteLeft sendVoteSent receiveVoteLeft receiveVoteArrived decideLeft imagesStatus imagesLeft
 refused-kept =
     record {
       begin = λ κs a r s l. told (l .0) (l .1) (unless-refused _ _ _);
-      stop = λ κs a r s l. told (l .0) (l .1) (λ h. ruled.refused-kept _ h .0);
-      start = λ κs a r s l. told (l .0) (l .1) (λ h. ruled.refused-kept _ h .1);
+      stop = λ κs a r s l. told (l .0) (l .1) (λ h. ruled.refused-kept _ _ h .0);
+      start = λ κs a r s l. told (l .0) (l .1) (λ h. ruled.refused-kept _ _ h .1);
       state = λ κs a r s l h.
-          let k = apart.refused-kept (now (a .0)) (now (a .1 .0)) (now (a .1 .1 .0)) (now (a .1 .1 .1 .0)) (now (a .1 .1 .1 .1 .0)) (now (a .1 .1 .1 .1 .1 .0))
-          (now (a .1 .1 .1 .1 .1 .1 .0)) (now (a .1 .1 .1 .1 .1 .1 .1 .0)) (λ z. h (l .0 ∙ z)) in
+          let k = apart.refused-kept (a .0) (now (a .1 .0)) (now (a .1 .1 .0)) (now (a .1 .1 .1 .0)) (now (a .1 .1 .1 .1 .0)) (now (a .1 .1 .1 .1 .1 .0))
+          (now (a .1 .1 .1 .1 .1 .1 .0)) (now (a .1 .1 .1 .1 .1 .1 .1 .0)) (now (a .1 .1 .1 .1 .1 .1 .1 .1 .0)) (λ z. h (l .0 ∙ z)) in
           (l .1 .0 ∙ k .0, l .1 .1 .0 ∙ k .1, l .1 .1 .1 .0 ∙ k .2, l .1 .1 .1 .1 .0 ∙ k .3, l .1 .1 .1 .1 .1 .0 ∙ k .4, l .1 .1 .1 .1 .1 .1 .0 ∙ k .5, l .1 .1 .1 .1 .1 .1 .1 ∙ k .6);
       write-heartbeat = λ κs a r s l. told (l .0) (l .1) (unless-refused _ _ _);
       send-heartbeat = λ κs a r s l h. (told (l .0) (l .1 .0) (unless-refused _ _ _) h, told (l .0) (l .1 .1) (unless-refused _ _ _) h);
       read-heartbeat = λ κs a r s l h. (
         told (l .0) (l .1 .0) (unless-refused _ _ _) h,
         told (l .0) (l .1 .1 .0) (unless-refused _ _ _) h,
-        told (l .0) (l .1 .1 .1) (unless-refused _ _ _) h,
+        told (l .0) (l .1 .1 .1 .0) (unless-refused _ _ _) h,
+        told (l .0) (l .1 .1 .1 .1) (unless-refused _ _ _) h,
       );
       receive-heartbeat = λ κs a r s l h. (
         told (l .0) (l .1 .0) (unless-refused _ _ _) h,
         told (l .0) (l .1 .1 .0) (unless-refused _ _ _) h,
         told (l .0) (l .1 .1 .1) (unless-refused _ _ _) h,
       );
-      view = λ κs a r s l. told (l .0) (l .1) (viewed.refused-kept _ _ _ _);
+      view = λ κs a r s l. told (l .0) (l .1) (viewed.refused-kept _ _ _ _ _);
       write-vote = λ κs a r s l. told (l .0) (l .1) (unless-refused _ _ _);
       send-vote = λ κs a r s l h. (told (l .0) (l .1 .0) (unless-refused _ _ _) h, told (l .0) (l .1 .1) (unless-refused _ _ _) h);
       read-vote = λ κs a r s l. told (l .0) (l .1) (vote.refused-kept _ _ _ _ _ _);
@@ -92,10 +93,10 @@ refused-kept =
       register-write = λ κs a r s l. told (l .0) (l .1) (register.refused-left _ _);
       register-cycle = λ κs a r s l. told (l .0) (l .1) (register.refused-left _ _);
       register-write-cycle = λ κs a r s l. told (l .0) (l .1) (register.refused-left _ _);
-      cycle = λ κs a r s l. told (l .0) (l .1) (λ h. sym (images-kept Cycle _ _ _ _ h));
-      run = λ κs a r s l. told (l .0) (l .1) (λ h. sym (images-kept Run _ _ _ _ h));
+      cycle = λ κs a r s l. told (l .0) (l .1) (λ h. sym (images-kept Cycle _ _ _ _ _ h));
+      run = λ κs a r s l. told (l .0) (l .1) (λ h. sym (images-kept Run _ _ _ _ _ h));
       run-frames = λ κs a r s l h. (
-        told (l .0) (l .1 .0) (λ h. sym (images-kept FramedRun _ _ _ _ h)) h,
-        told (l .0) (l .1 .1) (frames-kept FramedRun _ _ _ _) h,
+        told (l .0) (l .1 .0) (λ h. sym (images-kept FramedRun _ _ _ _ _ h)) h,
+        told (l .0) (l .1 .1) (frames-kept FramedRun _ _ _ _ _) h,
       );
     }

@@ -40,59 +40,60 @@ Kept before after = now after ≡ now before
 pub record RefusedKept : Type 1 where
   -- gm_begin(n, node, founding, state): the state
   pub begin : (κs : _) (a : _) (r : _) (s : _) → gm-begin.Learnt κs a r s → Refused r → Kept (a .1 .1 .1 .0) (s .1 .1 .1 .0)
-  -- gm_stop(state), gm_start(state): the state
-  pub stop : (κs : _) (a : _) (r : _) (s : _) → gm-stop.Learnt κs a r s → Refused r → Kept (a .0) (s .0)
-  pub start : (κs : _) (a : _) (r : _) (s : _) → gm-start.Learnt κs a r s → Refused r → Kept (a .0) (s .0)
-  -- gm_state(state, kind, reason, node, n, number, set, base): the seven numbers
+  -- gm_stop(mode, state), gm_start(mode, state): the state
+  pub stop : (κs : _) (a : _) (r : _) (s : _) → gm-stop.Learnt κs a r s → Refused r → Kept (a .1 .0) (s .1 .0)
+  pub start : (κs : _) (a : _) (r : _) (s : _) → gm-start.Learnt κs a r s → Refused r → Kept (a .1 .0) (s .1 .0)
+  -- gm_state(mode, state, kind, reason, node, n, number, set, base): the seven numbers
   pub state : (κs : _) (a : _) (r : _) (s : _) → gm-state.Learnt κs a r s → Refused r
-      → Kept (a .1 .0) (s .1 .0)
-      × Kept (a .1 .1 .0) (s .1 .1 .0)
+      → Kept (a .1 .1 .0) (s .1 .1 .0)
       × Kept (a .1 .1 .1 .0) (s .1 .1 .1 .0)
       × Kept (a .1 .1 .1 .1 .0) (s .1 .1 .1 .1 .0)
       × Kept (a .1 .1 .1 .1 .1 .0) (s .1 .1 .1 .1 .1 .0)
       × Kept (a .1 .1 .1 .1 .1 .1 .0) (s .1 .1 .1 .1 .1 .1 .0)
       × Kept (a .1 .1 .1 .1 .1 .1 .1 .0) (s .1 .1 .1 .1 .1 .1 .1 .0)
-  -- gm_write_heartbeat(n, node, join, sync, startup, cycle, channel, drive, frame): the frame
+      × Kept (a .1 .1 .1 .1 .1 .1 .1 .1 .0) (s .1 .1 .1 .1 .1 .1 .1 .1 .0)
+  -- gm_write_heartbeat(n, mode, node, join, request, sync, startup, cycle, channel, drive, frame): the frame
   pub write-heartbeat : (κs : _) (a : _) (r : _) (s : _) → gm-write-heartbeat.Learnt κs a r s → Refused r
-      → Kept (a .1 .1 .1 .1 .1 .1 .1 .1 .0) (s .1 .1 .1 .1 .1 .1 .1 .1 .0)
-  -- gm_send_heartbeat(state, sync, startup, cycle, channel, drive, frame, sent): the frame, and whether it is sent
+      → Kept (a .1 .1 .1 .1 .1 .1 .1 .1 .1 .1 .0) (s .1 .1 .1 .1 .1 .1 .1 .1 .1 .1 .0)
+  -- gm_send_heartbeat(mode, state, sync, startup, cycle, channel, drive, frame, sent): the frame, and whether it is sent
   pub send-heartbeat : (κs : _) (a : _) (r : _) (s : _) → gm-send-heartbeat.Learnt κs a r s → Refused r
-      → Kept (a .1 .1 .1 .1 .1 .1 .0) (s .1 .1 .1 .1 .1 .1 .0) × Kept (a .1 .1 .1 .1 .1 .1 .1 .0) (s .1 .1 .1 .1 .1 .1 .1 .0)
-  -- gm_read_heartbeat(n, node, cycle, channel, frame, drive, join, drive_bytes): the drive bytes, the join bit and the number
+      → Kept (a .1 .1 .1 .1 .1 .1 .1 .0) (s .1 .1 .1 .1 .1 .1 .1 .0) × Kept (a .1 .1 .1 .1 .1 .1 .1 .1 .0) (s .1 .1 .1 .1 .1 .1 .1 .1 .0)
+  -- gm_read_heartbeat(n, mode, node, cycle, channel, frame, drive, join, request, drive_bytes): the drive bytes, the join bit, the request and the number
   pub read-heartbeat : (κs : _) (a : _) (r : _) (s : _) → gm-read-heartbeat.Learnt κs a r s → Refused r
-      → Kept (a .1 .1 .1 .1 .1 .0) (s .1 .1 .1 .1 .1 .0)
-      × Kept (a .1 .1 .1 .1 .1 .1 .0) (s .1 .1 .1 .1 .1 .1 .0)
+      → Kept (a .1 .1 .1 .1 .1 .1 .0) (s .1 .1 .1 .1 .1 .1 .0)
       × Kept (a .1 .1 .1 .1 .1 .1 .1 .0) (s .1 .1 .1 .1 .1 .1 .1 .0)
-  -- gm_receive_heartbeat(n, node, cycle, a, b, drive, heard, drive_bytes): the drive bytes, what was heard and the number
+      × Kept (a .1 .1 .1 .1 .1 .1 .1 .1 .0) (s .1 .1 .1 .1 .1 .1 .1 .1 .0)
+      × Kept (a .1 .1 .1 .1 .1 .1 .1 .1 .1 .0) (s .1 .1 .1 .1 .1 .1 .1 .1 .1 .0)
+  -- gm_receive_heartbeat(n, mode, node, cycle, a, b, drive, heard, drive_bytes): the drive bytes, what was heard and the number
   pub receive-heartbeat : (κs : _) (a : _) (r : _) (s : _) → gm-receive-heartbeat.Learnt κs a r s → Refused r
-      → Kept (a .1 .1 .1 .1 .1 .0) (s .1 .1 .1 .1 .1 .0)
-      × Kept (a .1 .1 .1 .1 .1 .1 .0) (s .1 .1 .1 .1 .1 .1 .0)
+      → Kept (a .1 .1 .1 .1 .1 .1 .0) (s .1 .1 .1 .1 .1 .1 .0)
       × Kept (a .1 .1 .1 .1 .1 .1 .1 .0) (s .1 .1 .1 .1 .1 .1 .1 .0)
-  -- gm_view(state, heard0, heard1, view): the view
-  pub view : (κs : _) (a : _) (r : _) (s : _) → gm-view.Learnt κs a r s → Refused r → Kept (a .1 .1 .1 .0) (s .1 .1 .1 .0)
+      × Kept (a .1 .1 .1 .1 .1 .1 .1 .1 .0) (s .1 .1 .1 .1 .1 .1 .1 .1 .0)
+  -- gm_view(mode, state, heard0, heard1, view): the view
+  pub view : (κs : _) (a : _) (r : _) (s : _) → gm-view.Learnt κs a r s → Refused r → Kept (a .1 .1 .1 .1 .0) (s .1 .1 .1 .1 .0)
   -- gm_write_vote(n, node, number, set, base, view, cycle, channel, frame): the frame
   pub write-vote : (κs : _) (a : _) (r : _) (s : _) → gm-write-vote.Learnt κs a r s → Refused r
       → Kept (a .1 .1 .1 .1 .1 .1 .1 .1 .0) (s .1 .1 .1 .1 .1 .1 .1 .1 .0)
-  -- gm_send_vote(state, heard0, heard1, cycle, channel, frame, sent): the frame, and whether it is sent
+  -- gm_send_vote(mode, state, heard0, heard1, requests, cycle, channel, frame, sent): the frame, and whether it is sent
   pub send-vote : (κs : _) (a : _) (r : _) (s : _) → gm-send-vote.Learnt κs a r s → Refused r
-      → Kept (a .1 .1 .1 .1 .1 .0) (s .1 .1 .1 .1 .1 .0) × Kept (a .1 .1 .1 .1 .1 .1 .0) (s .1 .1 .1 .1 .1 .1 .0)
+      → Kept (a .1 .1 .1 .1 .1 .1 .1 .0) (s .1 .1 .1 .1 .1 .1 .1 .0) × Kept (a .1 .1 .1 .1 .1 .1 .1 .1 .0) (s .1 .1 .1 .1 .1 .1 .1 .1 .0)
   -- gm_read_vote(n, node, cycle, channel, frame, vote): the vote
   pub read-vote : (κs : _) (a : _) (r : _) (s : _) → gm-read-vote.Learnt κs a r s → Refused r → Kept (a .1 .1 .1 .1 .1 .0) (s .1 .1 .1 .1 .1 .0)
   -- gm_receive_vote(n, node, cycle, a, b, votes, arrived): the vote buffer, and the mask of those that arrived
   pub receive-vote : (κs : _) (a : _) (r : _) (s : _) → gm-receive-vote.Learnt κs a r s → Refused r
       → Kept (a .1 .1 .1 .1 .1 .0) (s .1 .1 .1 .1 .1 .0) × Kept (a .1 .1 .1 .1 .1 .1 .0) (s .1 .1 .1 .1 .1 .1 .0)
-  -- gm_decide(state, heard0, heard1, votes, arrived): the state
-  pub decide : (κs : _) (a : _) (r : _) (s : _) → gm-decide.Learnt κs a r s → Refused r → Kept (a .0) (s .0)
-  -- gm_register_read(block, address, value): the value
-  pub register-read : (κs : _) (a : _) (r : _) (s : _) → gm-register-read.Learnt κs a r s → Refused r → Kept (a .1 .1 .0) (s .1 .1 .0)
-  -- gm_register_write(block, address, value): the block
-  pub register-write : (κs : _) (a : _) (r : _) (s : _) → gm-register-write.Learnt κs a r s → Refused r → Kept (a .0) (s .0)
-  -- gm_register_cycle(block, heard0, heard1, votes, arrived): the block
-  pub register-cycle : (κs : _) (a : _) (r : _) (s : _) → gm-register-cycle.Learnt κs a r s → Refused r → Kept (a .0) (s .0)
-  -- gm_register_write_cycle(block, address, value, heard0, heard1, votes, arrived): the block
-  pub register-write-cycle : (κs : _) (a : _) (r : _) (s : _) → gm-register-write-cycle.Learnt κs a r s → Refused r → Kept (a .0) (s .0)
-  -- gm_cycle(n, row, cycle), gm_run(row, table): the row
-  pub cycle : (κs : _) (a : _) (r : _) (s : _) → gm-cycle.Learnt κs a r s → Refused r → Kept (a .1 .0) (s .1 .0)
-  pub run : (κs : _) (a : _) (r : _) (s : _) → gm-run.Learnt κs a r s → Refused r → Kept (a .0) (s .0)
-  -- gm_run_frames(row, table, frames): the row, and the frames
-  pub run-frames : (κs : _) (a : _) (r : _) (s : _) → gm-run-frames.Learnt κs a r s → Refused r → Kept (a .0) (s .0) × Kept (a .1 .1 .0) (s .1 .1 .0)
+  -- gm_decide(mode, state, heard0, heard1, requests, votes, arrived): the state
+  pub decide : (κs : _) (a : _) (r : _) (s : _) → gm-decide.Learnt κs a r s → Refused r → Kept (a .1 .0) (s .1 .0)
+  -- gm_register_read(mode, block, address, value): the value
+  pub register-read : (κs : _) (a : _) (r : _) (s : _) → gm-register-read.Learnt κs a r s → Refused r → Kept (a .1 .1 .1 .0) (s .1 .1 .1 .0)
+  -- gm_register_write(mode, block, address, value): the block
+  pub register-write : (κs : _) (a : _) (r : _) (s : _) → gm-register-write.Learnt κs a r s → Refused r → Kept (a .1 .0) (s .1 .0)
+  -- gm_register_cycle(mode, block, heard0, heard1, requests, votes, arrived): the block
+  pub register-cycle : (κs : _) (a : _) (r : _) (s : _) → gm-register-cycle.Learnt κs a r s → Refused r → Kept (a .1 .0) (s .1 .0)
+  -- gm_register_write_cycle(mode, block, address, value, heard0, heard1, requests, votes, arrived): the block
+  pub register-write-cycle : (κs : _) (a : _) (r : _) (s : _) → gm-register-write-cycle.Learnt κs a r s → Refused r → Kept (a .1 .0) (s .1 .0)
+  -- gm_cycle(n, mode, row, cycle), gm_run(mode, row, table): the row
+  pub cycle : (κs : _) (a : _) (r : _) (s : _) → gm-cycle.Learnt κs a r s → Refused r → Kept (a .1 .1 .0) (s .1 .1 .0)
+  pub run : (κs : _) (a : _) (r : _) (s : _) → gm-run.Learnt κs a r s → Refused r → Kept (a .1 .0) (s .1 .0)
+  -- gm_run_frames(mode, row, table, frames): the row, and the frames
+  pub run-frames : (κs : _) (a : _) (r : _) (s : _) → gm-run-frames.Learnt κs a r s → Refused r → Kept (a .1 .0) (s .1 .0) × Kept (a .1 .1 .1 .0) (s .1 .1 .1 .0)
