@@ -13,12 +13,13 @@ use state::Node;
 use state::Reason;
 use state::State;
 
-// Before the bytes of a call stand its task, N, how many entries of the row are lent, and the length in two bytes.
-const HEAD: usize = 5;
+// Before the bytes of a call stand its task, N, the mode, how many entries of the row are lent, and the length in two bytes.
+const HEAD: usize = 6;
 
 pub struct Head {
     pub task: Task,
     pub nodes: u32,
+    pub mode: u32,
     pub entries: usize,
     pub length: u32,
 }
@@ -30,12 +31,12 @@ pub struct Called {
 }
 
 // A call on the first k entries of the row: the one place that lends them.
-fn lend(task: Task, n: u32, mut row: [Node; 9], k: usize, bytes: &[u8]) -> Called
+fn lend(task: Task, n: u32, mode: u32, mut row: [Node; 9], k: usize, bytes: &[u8]) -> Called
     requires { ⌜ k ≤ 9 ⌝ }
-    ensures { λ r. ⌜ r .status ≡ callStatus task n (take k row) framesLength (now (bytes .entry)) ⌝ }
-    ensures { λ r. ⌜ r .row ≡ callLeft task n (take k row) framesLength (now (bytes .entry)) ++ drop k row ⌝ }
+    ensures { λ r. ⌜ r .status ≡ callStatus task n mode (take k row) framesLength (now (bytes .entry)) ⌝ }
+    ensures { λ r. ⌜ r .row ≡ callLeft task n mode (take k row) framesLength (now (bytes .entry)) ++ drop k row ⌝ }
 {
-    let status = row_press::call(task, n, &mut row[..k], bytes);
+    let status = row_press::call(task, n, mode, &mut row[..k], bytes);
     Called { status, row }
 }
 
@@ -51,13 +52,17 @@ fn show_reason(r: Reason) {
     }
 }
 
-fn show_group(g: Group) {
+// A group, and whether its member requests.
+fn show_group(g: Group, requests: bool) {
     words(b" member ");
     io::print_decimal(STDOUT_FILENO, g.number as u64);
     words(b" ");
     io::print_hex(STDOUT_FILENO, g.set, 16);
     words(b" ");
     io::print_hex(STDOUT_FILENO, g.base, 16);
+    if requests {
+        words(b" requests");
+    }
     words(b"\n");
 }
 
@@ -70,7 +75,7 @@ fn show_node(x: Node) {
     match s {
         State::Out(r) => show_reason(r),
         State::Joining => words(b" joining\n"),
-        State::Member(g) => show_group(g),
+        State::Member(g, a) => show_group(g, a),
     }
 }
 
@@ -123,14 +128,15 @@ fn nobody() -> Node {
 
 // What stands before the bytes of the call at a place.
 fn head_at(input: &[u8], at: usize) -> Head
-    requires { ⌜ at + 5 ≤ length (now input) ⌝ }
+    requires { ⌜ at + 6 ≤ length (now input) ⌝ }
     ensures { λ r. ⌜ (r .entries ≤ 9) × (r .length < 65536) ⌝ }
 {
     Head {
         task: task_of(input[at]),
         nodes: wide(input[at + 1]),
-        entries: entries(input[at + 2]),
-        length: wide(input[at + 3]) * 256 + wide(input[at + 4]),
+        mode: wide(input[at + 2]),
+        entries: entries(input[at + 3]),
+        length: wide(input[at + 4]) * 256 + wide(input[at + 5]),
     }
 }
 
@@ -149,7 +155,14 @@ fn calls(input: &[u8], end: usize)
             return;
         }
         at = from + len;
-        let called = lend(task, head.nodes, row, head.entries, &input[from..at]);
+        let called = lend(
+            task,
+            head.nodes,
+            head.mode,
+            row,
+            head.entries,
+            &input[from..at],
+        );
         row = called.row;
         show_status(called.status);
         show_row(row, head.entries);
