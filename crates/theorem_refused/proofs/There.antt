@@ -9,7 +9,8 @@ use Rattle.state.specs.Image.{decoded}
 use Rattle.table.specs.Records.{startRefusal}
 use Rattle.table.specs.Table.{tableOf}
 use Rattle.row_calls.specs.Calls.{rowStatus, cycleStatus, runStatus, framedStatus, framesLeft}
-use Rattle.entry_lent.specs.Refusals.{wrongCount, wrongIndicators, imageStatus}
+use Rattle.entry_lent.specs.Refusals.{wrongCount, wrongIndicators}
+use Rattle.entry_lent.specs.Found.{lentState, imageStatus}
 use Rattle.entry_row.specs.OnImages.{lentStatus, lentLeft, lentFrames, imagesStatus, imagesLeft}
 use Rattle.entry_begin.specs.Begin.{beginStatus, beginLeft}
 use Rattle.entry_stop_start.specs.StopStart.{stopLeft, startLeft}
@@ -17,7 +18,7 @@ use Rattle.entry_state.specs.Apart.{kindLeft, reasonLeft, nodeLeft, countLeft, 
 use Rattle.entry_write_heartbeat.specs.Heartbeats.{writeHeartbeatStatus, writeHeartbeatLeft}
 use Rattle.entry_send_heartbeat.specs.Beating.{sendHeartbeatStatus, sendHeartbeatLeft, sendHeartbeatSent}
 use Rattle.frames.specs.Written.{wrongDrive}
-use Rattle.entry_receive_heartbeat.specs.Hearing.{readStatus, readHeartbeatStatus, readHeartbeatDrive, readHeartbeatJoin, readHeartbeatDriveBytes}
+use Rattle.entry_receive_heartbeat.specs.Hearing.{readStatus, readHeartbeatStatus, readHeartbeatDrive, readHeartbeatJoin, readHeartbeatRequest, readHeartbeatDriveBytes}
 use Rattle.entry_receive_heartbeat.specs.Hearing.{receiveHeartbeatStatus, receiveHeartbeatDrive, receiveHeartbeatHeard, receiveHeartbeatDriveBytes}
 use Rattle.entry_write_vote.specs.Votes.{writeVoteStatus, writeVoteLeft}
 use Rattle.entry_send_vote.specs.Voting.{sendVoteStatus, sendVoteLeft, sendVoteSent}
@@ -62,18 +63,18 @@ unfolding first unless wrongCount beginStatus beginLeft
 begin-there = (([], tt), (0, (0, (0, (empty, tt)))), 1, (refl, refl), some 0)
 
 pub stop-there : (κs : _) × (a : _) × (r : _) × gm-stop.Learnt κs a r a × Refused r
-unfolding decoded imageStatus stopLeft
-stop-there = (([], tt), (empty, tt), 3, (refl, refl), some 2)
+unfolding decoded lentState imageStatus stopLeft
+stop-there = (([], tt), (0, (empty, tt)), 3, (refl, refl), some 2)
 
 pub start-there : (κs : _) × (a : _) × (r : _) × gm-start.Learnt κs a r a × Refused r
-unfolding decoded imageStatus startLeft
-start-there = (([], tt), (empty, tt), 3, (refl, refl), some 2)
+unfolding decoded lentState imageStatus startLeft
+start-there = (([], tt), (0, (empty, tt)), 3, (refl, refl), some 2)
 
 pub state-there : (κs : _) × (a : _) × (r : _) × gm-state.Learnt κs a r a × Refused r
-unfolding decoded imageStatus kindLeft reasonLeft nodeLeft countLeft numberLeft setLeft baseLeft
+unfolding decoded lentState imageStatus kindLeft reasonLeft nodeLeft countLeft numberLeft setLeft baseLeft
 state-there = (
   ([], ([], ([], ([], ([], ([], ([], ([], tt)))))))),
-  (empty, (nought, (nought, (nought, (nought, (nought, (nought, (nought, tt)))))))),
+  (0, (empty, (nought, (nought, (nought, (nought, (nought, (nought, (nought, tt))))))))),
   3,
   (refl, (refl, (refl, (refl, (refl, (refl, (refl, refl))))))),
   some 2,
@@ -81,23 +82,29 @@ state-there = (
 
 pub write-heartbeat-there : (κs : _) × (a : _) × (r : _) × gm-write-heartbeat.Learnt κs a r a × Refused r
 unfolding first unless wrongCount writeHeartbeatStatus writeHeartbeatLeft
-write-heartbeat-there = (([], ([], tt)), (0, (0, (0, (0, (0, (0, (0, (empty, (empty, tt))))))))), 1, (refl, refl), some 0)
+write-heartbeat-there = (([], ([], tt)), (0, (0, (0, (0, (0, (0, (0, (0, (0, (empty, (empty, tt))))))))))), 1, (refl, refl), some 0)
 
 pub send-heartbeat-there : (κs : _) × (a : _) × (r : _) × gm-send-heartbeat.Learnt κs a r a × Refused r
 unfolding first unless wrongIndicators wrongDrive sendHeartbeatStatus sendHeartbeatLeft sendHeartbeatSent
-send-heartbeat-there = (([], ([], ([], ([], tt)))), (empty, (0, (0, (0, (0, (empty, (empty, (nought, tt)))))))), 3, (refl, (refl, refl)), some 2)
+send-heartbeat-there = (([], ([], ([], ([], tt)))), (0, (empty, (0, (0, (0, (0, (empty, (empty, (nought, tt))))))))), 3, (refl, (refl, refl)), some 2)
 
 pub read-heartbeat-there : (κs : _) × (a : _) × (r : _) × gm-read-heartbeat.Learnt κs a r a × Refused r
-unfolding first unless wrongCount readStatus readHeartbeatStatus readHeartbeatDrive readHeartbeatJoin readHeartbeatDriveBytes
-read-heartbeat-there = (([], ([], ([], ([], tt)))), (0, (0, (0, (0, (empty, (empty, (nought, (nought, tt)))))))), 1, (refl, (refl, (refl, refl))), some 0)
+unfolding first unless wrongCount readStatus readHeartbeatStatus readHeartbeatDrive readHeartbeatJoin readHeartbeatRequest readHeartbeatDriveBytes
+read-heartbeat-there = (
+  ([], ([], ([], ([], ([], tt))))),
+  (0, (0, (0, (0, (0, (empty, (empty, (nought, (nought, (nought, tt)))))))))),
+  1,
+  (refl, (refl, (refl, (refl, refl)))),
+  some 0,
+)
 
 pub receive-heartbeat-there : (κs : _) × (a : _) × (r : _) × gm-receive-heartbeat.Learnt κs a r a × Refused r
 unfolding first unless wrongCount receiveHeartbeatStatus receiveHeartbeatDrive receiveHeartbeatHeard receiveHeartbeatDriveBytes
-receive-heartbeat-there = (([], ([], ([], ([], ([], tt))))), (0, (0, (0, (empty, (empty, (empty, (nought, (nought, tt)))))))), 1, (refl, (refl, (refl, refl))), some 0)
+receive-heartbeat-there = (([], ([], ([], ([], ([], tt))))), (0, (0, (0, (0, (empty, (empty, (empty, (nought, (nought, tt))))))))), 1, (refl, (refl, (refl, refl))), some 0)
 
 pub view-there : (κs : _) × (a : _) × (r : _) × gm-view.Learnt κs a r a × Refused r
-unfolding decoded imageStatus
-view-there = (([], ([], tt)), (empty, (0, (0, (nought, tt)))), 3, (refl, refl), some 2)
+unfolding decoded lentState imageStatus
+view-there = (([], ([], tt)), (0, (empty, (0, (0, (nought, tt))))), 3, (refl, refl), some 2)
 
 pub write-vote-there : (κs : _) × (a : _) × (r : _) × gm-write-vote.Learnt κs a r a × Refused r
 unfolding first unless wrongCount writeVoteStatus writeVoteLeft
@@ -105,7 +112,7 @@ write-vote-there = (([], tt), (0, (0, (0, (0, (0, (0, (0, (0, (empty, tt))))))))
 
 pub send-vote-there : (κs : _) × (a : _) × (r : _) × gm-send-vote.Learnt κs a r a × Refused r
 unfolding first unless sendVoteStatus sendVoteLeft sendVoteSent
-send-vote-there = (([], ([], ([], tt))), (empty, (0, (0, (0, (0, (empty, (nought, tt))))))), 3, (refl, (refl, refl)), some 2)
+send-vote-there = (([], ([], ([], tt))), (0, (empty, (0, (0, (0, (0, (0, (empty, (nought, tt))))))))), 3, (refl, (refl, refl)), some 2)
 
 pub read-vote-there : (κs : _) × (a : _) × (r : _) × gm-read-vote.Learnt κs a r a × Refused r
 unfolding first unless wrongCount readVoteNumbers readVoteStatus readVoteLeft
@@ -117,32 +124,32 @@ receive-vote-there = (([], ([], ([], ([], tt)))), (0, (0, (0, (empty, (empty, (e
 
 pub decide-there : (κs : _) × (a : _) × (r : _) × gm-decide.Learnt κs a r a × Refused r
 unfolding first unless decideStatus decideLeft
-decide-there = (([], ([], tt)), (empty, (0, (0, (empty, (0, tt))))), 3, (refl, refl), some 2)
+decide-there = (([], ([], tt)), (0, (empty, (0, (0, (0, (empty, (0, tt))))))), 3, (refl, refl), some 2)
 
 pub register-read-there : (κs : _) × (a : _) × (r : _) × gm-register-read.Learnt κs a r a × Refused r
 unfolding first unless stepStatus stepRead stepValue
-register-read-there = (([], ([], tt)), (empty, (0, (nought, tt))), 3, (refl, refl), some 2)
+register-read-there = (([], ([], tt)), (0, (empty, (0, (nought, tt)))), 3, (refl, refl), some 2)
 
 pub register-write-there : (κs : _) × (a : _) × (r : _) × gm-register-write.Learnt κs a r a × Refused r
 unfolding first unless stepStatus stepLeft
-register-write-there = (([], tt), (empty, (0, (0, tt))), 3, (refl, refl), some 2)
+register-write-there = (([], tt), (0, (empty, (0, (0, tt)))), 3, (refl, refl), some 2)
 
 pub register-cycle-there : (κs : _) × (a : _) × (r : _) × gm-register-cycle.Learnt κs a r a × Refused r
 unfolding first unless stepStatus stepLeft
-register-cycle-there = (([], ([], tt)), (empty, (0, (0, (empty, (0, tt))))), 3, (refl, refl), some 2)
+register-cycle-there = (([], ([], tt)), (0, (empty, (0, (0, (0, (empty, (0, tt))))))), 3, (refl, refl), some 2)
 
 pub register-write-cycle-there : (κs : _) × (a : _) × (r : _) × gm-register-write-cycle.Learnt κs a r a × Refused r
 unfolding first unless stepStatus stepLeft
-register-write-cycle-there = (([], ([], tt)), (empty, (0, (0, (0, (0, (empty, (0, tt))))))), 3, (refl, refl), some 2)
+register-write-cycle-there = (([], ([], tt)), (0, (empty, (0, (0, (0, (0, (0, (empty, (0, tt))))))))), 3, (refl, refl), some 2)
 
 pub cycle-there : (κs : _) × (a : _) × (r : _) × gm-cycle.Learnt κs a r a × Refused r
 unfolding first unless rowStatus cycleStatus lentStatus lentLeft imagesStatus imagesLeft
-cycle-there = (([], ([], tt)), (0, (empty, (empty, tt))), 1, (refl, refl), some 0)
+cycle-there = (([], ([], tt)), (0, (0, (empty, (empty, tt)))), 1, (refl, refl), some 0)
 
 pub run-there : (κs : _) × (a : _) × (r : _) × gm-run.Learnt κs a r a × Refused r
 unfolding first unless startRefusal tableOf runStatus lentStatus lentLeft imagesStatus imagesLeft
-run-there = (([], ([], tt)), (empty, (empty, tt)), 11, (refl, refl), some 10)
+run-there = (([], ([], tt)), (0, (empty, (empty, tt))), 11, (refl, refl), some 10)
 
 pub run-frames-there : (κs : _) × (a : _) × (r : _) × gm-run-frames.Learnt κs a r a × Refused r
 unfolding first unless startRefusal tableOf framedStatus framesLeft lentStatus lentLeft lentFrames
-run-frames-there = (([], ([], ([], tt))), (empty, (empty, (empty, tt))), 11, (refl, (refl, refl)), some 10)
+run-frames-there = (([], ([], ([], tt))), (0, (empty, (empty, (empty, tt)))), 11, (refl, (refl, refl)), some 10)
