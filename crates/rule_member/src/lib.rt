@@ -139,21 +139,11 @@ pub fn silent_decides(
     requires { ⌜ OneVote (now numbers) (now sets) (now bases) (now views) (config .nodes) present lead ⌝ }
     ensures { λ r. ⌜ r ≡ silentDecides config q group (ballotsOf (now (numbers .entry)) (now (sets .entry)) (now (bases .entry)) (now (views .entry)) present) ⌝ }
 {
-    let theirs = sets::difference(present, sets::single(q));
-    if any_agreed(
-        config.nodes,
-        numbers,
-        sets,
-        bases,
-        views,
-        lead,
-        theirs,
-        group,
-    ) {
-        State::Out(Reason::Outvoted)
-    } else {
-        State::Member(resting(group), false)
+    let came = sets::difference(present, sets::single(q));
+    if any_agreed(config.nodes, numbers, sets, bases, views, lead, came, group) {
+        return State::Out(Reason::Outvoted);
     }
+    State::Member(resting(group), false)
 }
 
 // Rule 5. The own vote counts whatever stands in the own slot, and for no view but its own.

@@ -37,15 +37,15 @@ decided c =
     (c .any-agreed .ensures
     ∙ ap (λ (b : Ballots). any (a .config .nodes) (λ p. rival (a .config .nodes) b (a .group) (b p))) (others (a .numbers .now) (a .sets .now) (a .bases .now) (a .views .now) (a .config .nodes) (a .present) (a .q) _ _ (c .before .before .single .ensures) (c .before .difference .ensures)))
 
-resting-requires : tie.Need-resting-requires
-resting-requires c κs = search needs
-
 returns : tie.Need-returns
 returns c = sym (decided (c .before) ∙ cond-taken _ _ _ (c .if1 .taken))
+
+resting-requires : tie.Need-resting-requires
+resting-requires c κs = search needs
 
 returns-2 : tie.Need-returns-2
 returns-2 c = ap (λ (g : Group). Member g false) (c .resting .ensures) ∙ sym (decided (c .before .before) ∙ cond-left _ _ _ (c .before .if1 .left))
 
 pub silent-decides-spec : {M : Type 1} → statement M
 silent-decides-spec =
-    tie.close (tie.spec single-requires difference-requires any-agreed-requires resting-requires returns returns-2)
+    tie.close (tie.spec single-requires difference-requires any-agreed-requires returns resting-requires returns-2)
