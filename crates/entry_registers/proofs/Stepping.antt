@@ -14,23 +14,25 @@ use Rattle.state.specs.declared.Decoded.{Decoded}
 use Rattle.state.specs.State.{formed, formedPlace, formedState}
 use Rattle.state.specs.Image.{decoded}
 use Rattle.state.proofs.Fields.{place-bounds}
+use Rattle.refusal.proofs.Laws.{here}
+use Rattle.rules.specs.OneCycle.{wrongMode, quietIn}
 use Rattle.registers.specs.Block.{Machine, LentBlock, Holds, WrongLength, Malformed, blockOf, readsSo, machineIn, registersAt}
-use Rattle.registers.specs.Steps.{Step, Read, Write, WriteCycle, written, cycled, stepped, wrongAddress, wrongVotes, stepStatus, stepLeft, stepValue}
+use Rattle.registers.specs.Steps.{Step, Read, Write, WriteCycle, modeOf, written, cycled, stepped, wrongAddress, wrongVotes, foundBy, stepStatus, stepLeft, stepValue}
 use Rattle.registers.proofs.Blocks.{block-back, held-block, shown-is-byte}
-use Rattle.registers.proofs.Found.{status-found, accepted, done-left, done-value, refused-left, refused-value}
+use Rattle.registers.proofs.Found.{statusIn, status-found, accepted, done-left, done-value, refused-left, refused-value}
 use Rattle.registers.proofs.Formed.{written-formed}
 use Rattle.registers.proofs.Written.{ignored}
 use Rattle.register_block.specs.Bytes.{restStatus}
-use Rattle.entry_registers.specs.InPlace.{blockStatus}
+use Rattle.entry_registers.specs.InPlace.{blockStatus, refusalOf}
 
 -- ---- a lent block
 
 -- apart from its state it is refused, or not
-pub rest-refused : (s : List ℕ) → (restStatus s ≡ 0 → ⊥) → restStatus s ≡ blockStatus (registersAt s)
+pub rest-refused : (quiet : Bool) (s : List ℕ) → (restStatus s ≡ 0 → ⊥) → restStatus s ≡ blockStatus (registersAt quiet s)
 unfolding restStatus registersAt
-rest-refused s h = go (eqb (length s) 64) (readsSo s) h
+rest-refused quiet s h = go (eqb (length s) 64) (readsSo s) h
   where
-    go : (b c : Bool) → (_≡_ {A = ℕ} (cond b (cond c 0 4) 3) 0 → ⊥) → _≡_ {A = ℕ} (cond b (cond c 0 4) 3) (blockStatus (cond b (cond c (machineIn (decoded (take 24 s)) s) Malformed) WrongLength))
+    go : (b c : Bool) → (_≡_ {A = ℕ} (cond b (cond c 0 4) 3) 0 → ⊥) → _≡_ {A = ℕ} (cond b (cond c 0 4) 3) (blockStatus (cond b (cond c (machineIn (decoded quiet (take 24 s)) s) Malformed) WrongLength))
     go true true h = absurd (h refl)
     go true false h = refl
     go false c h = refl
@@ -45,53 +47,65 @@ rest-passed s = go (eqb (length s) 64) (readsSo s) refl
     go false c e h = let z : _≡_ {A = ℕ} 3 0 = h in absurd (omega arith)
 
 -- then the state decides
-pub by-state : (s : List ℕ) (k : ℕ) (d r : Decoded) → k ≡ restStatus s → k ≡ 0 → d ≡ decoded (take 24 s) → d ≡ r → registersAt s ≡ machineIn r s
+pub by-state : (quiet q : Bool) (s : List ℕ) (k : ℕ) (d r : Decoded) → q ≡ quiet → k ≡ restStatus s → k ≡ 0 → d ≡ decoded q (take 24 s) → d ≡ r → registersAt quiet s ≡ machineIn r s
 unfolding registersAt
-by-state s k d r e z i t =
-    let p = rest-passed s (sym e ∙ z) in
-    rw (eq-eqb (length s) 64 (p .0), p .1) (ap (λ (x : Decoded). machineIn x s) (sym i ∙ t))
+by-state quiet q s k d r p e z i t =
+    let l = rest-passed s (sym e ∙ z) in
+    rw (eq-eqb (length s) 64 (l .0), l .1) (ap (λ (x : Decoded). machineIn x s) (ap (λ (b : Bool). decoded b (take 24 s)) (sym p) ∙ sym i ∙ t))
 
--- a block that is not refused holds a machine
-pub holds : (s : List ℕ) (k : ℕ) → k ≡ blockStatus (registersAt s) → k ≡ 0 → (m : Machine) × (registersAt s ≡ Holds m)
-holds s k e z = go (registersAt s) refl
+-- 2, 3 and 4 are those of the block where the mode is one
+pub in-mode : (mode : ℕ) (s : List ℕ) → wrongMode mode ≡ false → refusalOf mode s ≡ blockStatus (registersAt (quietIn mode) s)
+in-mode mode s w = rw w
+
+-- a block that is not refused holds a machine, in a mode
+pub holds : (mode : ℕ) (s : List ℕ) (k : ℕ) → k ≡ refusalOf mode s → k ≡ 0 → (m : Machine) × (registersAt (quietIn mode) s ≡ Holds m) × (wrongMode mode ≡ false)
+holds mode s k e z = go (wrongMode mode) (registersAt (quietIn mode) s) refl (sym e ∙ z)
   where
-    go : (d : LentBlock) → registersAt s ≡ d → (m : Machine) × (registersAt s ≡ Holds m)
-    go (Holds m) h = (m, h)
-    go WrongLength h = let x : _≡_ {A = ℕ} 3 0 = sym (ap blockStatus h) ∙ sym e ∙ z in absurd (omega arith)
-    go Malformed h = let x : _≡_ {A = ℕ} 4 0 = sym (ap blockStatus h) ∙ sym e ∙ z in absurd (omega arith)
+    go : (b : Bool) (d : LentBlock) → registersAt (quietIn mode) s ≡ d → cond b 2 (blockStatus d) ≡ 0
+        → (m : Machine) × (registersAt (quietIn mode) s ≡ Holds m) × (b ≡ false)
+    go true d h x = let y : _≡_ {A = ℕ} 2 0 = x in absurd (omega arith)
+    go false (Holds m) h x = (m, h, refl)
+    go false WrongLength h x = let y : _≡_ {A = ℕ} 3 0 = x in absurd (omega arith)
+    go false Malformed h x = let y : _≡_ {A = ℕ} 4 0 = x in absurd (omega arith)
 
 -- the place of its node
-pub placed : (s : List ℕ) (m : Machine) → Bytes s → registersAt s ≡ Holds m → (n : Node) → n ≡ m .node → (n .nodes ≤ 64) × (n .id < n .nodes)
+pub placed : (quiet : Bool) (s : List ℕ) (m : Machine) → Bytes s → registersAt quiet s ≡ Holds m → (n : Node) → n ≡ m .node → (n .nodes ≤ 64) × (n .id < n .nodes)
 unfolding formed
-placed s m b e n k =
-    let f : formed n ≡ true = ap formed k ∙ held-block s m b e .0 in
-    let p = place-bounds (n .id) (n .nodes) (and-l (formedPlace (n .id) (n .nodes)) (formedState (n .id) (n .nodes) (n .state)) f) in
+placed quiet s m b e n k =
+    let f : formed quiet n ≡ true = ap (formed quiet) k ∙ held-block quiet s m b e .0 in
+    let p = place-bounds (n .id) (n .nodes) (and-l (formedPlace (n .id) (n .nodes)) (formedState quiet (n .id) (n .nodes) (n .state)) f) in
     (p .1, p .2)
 
 -- ---- the status of an entry, and what it leaves
 
 module _ (t : Step) (s : List ℕ) where
-  pub other-votes : wrongVotes t ≡ true → 3 ≡ stepStatus t s
-  other-votes v = go (registersAt s) refl
+  pub wrong-mode : wrongMode (modeOf t) ≡ true → 2 ≡ stepStatus t s
+  unfolding stepStatus
+  wrong-mode w = sym (here (wrongMode (modeOf t)) 2 _ w)
+
+  pub block-refused : wrongVotes t ≡ false → (k : ℕ) → k ≡ refusalOf (modeOf t) s → (k ≡ 0 → ⊥) → k ≡ stepStatus t s
+  block-refused v k e n = e ∙ by (wrongMode (modeOf t)) (foundBy t s) (λ z. n (e ∙ z)) ∙ sym (status-found t s (foundBy t s) refl)
     where
-      go : (d : LentBlock) → registersAt s ≡ d → 3 ≡ stepStatus t s
-      go (Holds m) e = sym (status-found t s (Holds m) e ∙ rw v)
-      go WrongLength e = sym (status-found t s WrongLength e)
-      go Malformed e = sym (status-found t s Malformed e ∙ rw v)
+      by : (b : Bool) (d : LentBlock) → (cond b 2 (blockStatus d) ≡ 0 → ⊥) → cond b 2 (blockStatus d) ≡ cond b 2 (statusIn t d)
+      by true d n = refl
+      by false (Holds m) n = absurd (n refl)
+      by false WrongLength n = refl
+      by false Malformed n = rw v
 
-  pub block-refused : wrongVotes t ≡ false → (k : ℕ) → k ≡ blockStatus (registersAt s) → (k ≡ 0 → ⊥) → k ≡ stepStatus t s
-  block-refused v k e h = go (registersAt s) refl
-    where
-      go : (d : LentBlock) → registersAt s ≡ d → k ≡ stepStatus t s
-      go (Holds m) i = absurd (h (e ∙ ap blockStatus i))
-      go WrongLength i = e ∙ ap blockStatus i ∙ sym (status-found t s WrongLength i)
-      go Malformed i = e ∙ ap blockStatus i ∙ sym (status-found t s Malformed i ∙ rw v)
+  module _ (w : wrongMode (modeOf t) ≡ false) where
+    pub other-votes : wrongVotes t ≡ true → 3 ≡ stepStatus t s
+    other-votes v = sym (status-found t s (foundBy t s) refl ∙ rw w (by (foundBy t s)))
+      where
+        by : (d : LentBlock) → statusIn t d ≡ 3
+        by (Holds m) = rw v
+        by WrongLength = refl
+        by Malformed = rw v
 
-  pub past-the-end : (m : Machine) → wrongVotes t ≡ false → registersAt s ≡ Holds m → wrongAddress t ≡ true → 14 ≡ stepStatus t s
-  past-the-end m v e a = sym (status-found t s (Holds m) e ∙ rw (v, a))
+    pub past-the-end : (m : Machine) → wrongVotes t ≡ false → foundBy t s ≡ Holds m → wrongAddress t ≡ true → 14 ≡ stepStatus t s
+    past-the-end m v e a = sym (status-found t s (Holds m) e ∙ rw (w, v, a))
 
-  pub passed : (m : Machine) → wrongVotes t ≡ false → registersAt s ≡ Holds m → wrongAddress t ≡ false → 0 ≡ stepStatus t s
-  passed m v e a = sym (status-found t s (Holds m) e ∙ rw (v, a))
+    pub passed : (m : Machine) → wrongVotes t ≡ false → foundBy t s ≡ Holds m → wrongAddress t ≡ false → 0 ≡ stepStatus t s
+    passed m v e a = sym (status-found t s (Holds m) e ∙ rw (w, v, a))
 
   pub kept : (k : ℕ) → (k ≡ 0 → ⊥) → k ≡ stepStatus t s → (k ≡ stepStatus t s) × (s ≡ stepLeft t s)
   kept k n h = (h, sym (refused-left t s (λ z. n (h ∙ z))))
@@ -99,13 +113,13 @@ module _ (t : Step) (s : List ℕ) where
   pub value-kept : (before k : ℕ) → (k ≡ 0 → ⊥) → k ≡ stepStatus t s → (k ≡ stepStatus t s) × (before ≡ stepValue t s before)
   value-kept before k n h = (h, sym (refused-value t s before (λ z. n (h ∙ z))))
 
-  pub done : (m : Machine) (left : List ℕ) → registersAt s ≡ Holds m → 0 ≡ stepStatus t s → left ≡ blockOf (stepped t m) → (0 ≡ stepStatus t s) × (left ≡ stepLeft t s)
+  pub done : (m : Machine) (left : List ℕ) → foundBy t s ≡ Holds m → 0 ≡ stepStatus t s → left ≡ blockOf (stepped t m) → (0 ≡ stepStatus t s) × (left ≡ stepLeft t s)
   done m left e h l = (h, l ∙ sym (done-left t s m e (sym h)))
 
-pub byte-read : (a : ℕ) (s : List ℕ) (before : ℕ) (m : Machine) (value : ℕ) → Bytes s → registersAt s ≡ Holds m → 0 ≡ stepStatus (Read a) s → value ≡ getD s a 0
-    → (0 ≡ stepStatus (Read a) s) × (value ≡ stepValue (Read a) s before)
-byte-read a s before m value b e h l =
-    (h, l ∙ ap (λ (x : List ℕ). getD x a 0) (held-block s m b e .1) ∙ sym (done-value a s before m e (sym h) ∙ shown-is-byte m a))
+pub byte-read : (mode a : ℕ) (s : List ℕ) (before : ℕ) (m : Machine) (value : ℕ) → Bytes s → registersAt (quietIn mode) s ≡ Holds m → 0 ≡ stepStatus (Read mode a) s
+    → value ≡ getD s a 0 → (0 ≡ stepStatus (Read mode a) s) × (value ≡ stepValue (Read mode a) s before)
+byte-read mode a s before m value b e h l =
+    (h, l ∙ ap (λ (x : List ℕ). getD x a 0) (held-block (quietIn mode) s m b e .1) ∙ sym (done-value mode a s before m e (sym h) ∙ shown-is-byte m a))
 
 -- ---- a command and a cycle together: the command, and then a cycle with a write that does nothing
 
@@ -117,45 +131,46 @@ left-address a left e z = go (eqb a 27) refl (sym e ∙ z)
     go true h k = let x : _≡_ {A = ℕ} 28 27 = k in omega arith
     go false h k = eqb-false a 27 h k
 
-module _ (a v heard0 heard1 : ℕ) (votes : List ℕ) (arrived : ℕ) (s : List ℕ) (b : Bytes s) (l : wrongVotes (WriteCycle a v heard0 heard1 votes arrived) ≡ false) where
+module _ (mode a v heard0 heard1 requests : ℕ) (votes : List ℕ) (arrived : ℕ) (s : List ℕ) (b : Bytes s) (w : wrongMode mode ≡ false) (l : wrongVotes (WriteCycle mode a v heard0 heard1 requests votes arrived) ≡ false) where
   abbrev joint : ℕ → Step
-  joint i = WriteCycle i v heard0 heard1 votes arrived
+  joint i = WriteCycle mode i v heard0 heard1 requests votes arrived
 
   -- it is refused as its write is
-  as-write : stepStatus (joint 27) s ≡ stepStatus (Write 27 v) s
+  as-write : stepStatus (joint 27) s ≡ stepStatus (Write mode 27 v) s
   unfolding stepStatus
   as-write = rw l
 
-  command-then : stepStatus (Write 27 v) s ≡ 0
-      → (stepStatus (joint 28) (stepLeft (Write 27 v) s) ≡ stepStatus (joint 27) s) × (stepLeft (joint 28) (stepLeft (Write 27 v) s) ≡ stepLeft (joint 27) s)
+  command-then : stepStatus (Write mode 27 v) s ≡ 0
+      → (stepStatus (joint 28) (stepLeft (Write mode 27 v) s) ≡ stepStatus (joint 27) s) × (stepLeft (joint 28) (stepLeft (Write mode 27 v) s) ≡ stepLeft (joint 27) s)
   command-then z =
-      let m = accepted (Write 27 v) s z in
+      let m = accepted (Write mode 27 v) s z in
       let x = written 27 v (m .0) in
-      let y = done-left (Write 27 v) s (m .0) (m .1) z in
-      let held : registersAt (stepLeft (Write 27 v) s) ≡ Holds x = ap registersAt y ∙ block-back x (written-formed 27 v (m .0) (held-block s (m .0) b (m .1) .0)) in
-      let then = passed (joint 28) (stepLeft (Write 27 v) s) x l held refl in
-      let whole = passed (joint 27) s (m .0) l (m .1) refl in (
+      let y = done-left (Write mode 27 v) s (m .0) (m .1) z in
+      let held : registersAt (quietIn mode) (stepLeft (Write mode 27 v) s) ≡ Holds x =
+      ap (registersAt (quietIn mode)) y ∙ block-back (quietIn mode) x (written-formed (quietIn mode) 27 v (m .0) (held-block (quietIn mode) s (m .0) b (m .1) .0)) in
+      let then = passed (joint 28) (stepLeft (Write mode 27 v) s) w x l held refl in
+      let whole = passed (joint 27) s w (m .0) l (m .1) refl in (
         sym then ∙ whole,
-        done-left (joint 28) (stepLeft (Write 27 v) s) x held (sym then)
-            ∙ ap (λ (w : Machine). blockOf (cycled heard0 heard1 votes arrived w)) (ignored 28 v x (λ k. omega arith) (λ k. omega arith) (λ k. omega arith))
+        done-left (joint 28) (stepLeft (Write mode 27 v) s) x held (sym then)
+            ∙ ap (λ (z : Machine). blockOf (cycled (quietIn mode) heard0 heard1 requests votes arrived z)) (ignored 28 v x (λ k. omega arith) (λ k. omega arith) (λ k. omega arith))
             ∙ sym (done-left (joint 27) s (m .0) (m .1) (sym whole)),
       )
 
-  module _ (r : ℕ) (y : List ℕ) (e : r ≡ cond (eqb a 27) (stepStatus (Write 27 v) s) 0) (k : y ≡ cond (eqb a 27) (stepLeft (Write 27 v) s) s) where
+  module _ (r : ℕ) (y : List ℕ) (e : r ≡ cond (eqb a 27) (stepStatus (Write mode 27 v) s) 0) (k : y ≡ cond (eqb a 27) (stepLeft (Write mode 27 v) s) s) where
     pub command-refused : (r ≡ 0 → ⊥) → (r ≡ stepStatus (joint a) s) × (y ≡ stepLeft (joint a) s)
     command-refused n = go (eqb a 27) refl e k
       where
-        go : (t : Bool) → eqb a 27 ≡ t → r ≡ cond t (stepStatus (Write 27 v) s) 0 → y ≡ cond t (stepLeft (Write 27 v) s) s → (r ≡ stepStatus (joint a) s) × (y ≡ stepLeft (joint a) s)
+        go : (t : Bool) → eqb a 27 ≡ t → r ≡ cond t (stepStatus (Write mode 27 v) s) 0 → y ≡ cond t (stepLeft (Write mode 27 v) s) s → (r ≡ stepStatus (joint a) s) × (y ≡ stepLeft (joint a) s)
         go true h e k =
-            let at : stepStatus (joint a) s ≡ stepStatus (Write 27 v) s = ap (λ (i : ℕ). stepStatus (joint i) s) (eqb-true a 27 h) ∙ as-write in
-            (e ∙ sym at, k ∙ refused-left (Write 27 v) s (λ z. n (e ∙ z)) ∙ sym (refused-left (joint a) s (λ z. n (e ∙ sym at ∙ z))))
+            let at : stepStatus (joint a) s ≡ stepStatus (Write mode 27 v) s = ap (λ (i : ℕ). stepStatus (joint i) s) (eqb-true a 27 h) ∙ as-write in
+            (e ∙ sym at, k ∙ refused-left (Write mode 27 v) s (λ z. n (e ∙ z)) ∙ sym (refused-left (joint a) s (λ z. n (e ∙ sym at ∙ z))))
         go false h e k = absurd (n e)
 
     pub command-done : r ≡ 0 → (left status : ℕ) (x : List ℕ) → left ≡ cond (eqb a 27) 28 a → status ≡ stepStatus (joint left) y → x ≡ stepLeft (joint left) y
         → (status ≡ stepStatus (joint a) s) × (x ≡ stepLeft (joint a) s)
     command-done z left status x d p q = go (eqb a 27) refl e k d
       where
-        go : (t : Bool) → eqb a 27 ≡ t → r ≡ cond t (stepStatus (Write 27 v) s) 0 → y ≡ cond t (stepLeft (Write 27 v) s) s → left ≡ cond t 28 a
+        go : (t : Bool) → eqb a 27 ≡ t → r ≡ cond t (stepStatus (Write mode 27 v) s) 0 → y ≡ cond t (stepLeft (Write mode 27 v) s) s → left ≡ cond t 28 a
             → (status ≡ stepStatus (joint a) s) × (x ≡ stepLeft (joint a) s)
         go true h e k d =
             let same = command-then (sym e ∙ z) in

@@ -1,24 +1,27 @@
 // The steps of a register block: read, write, cycle, and a write and a cycle together.
 ghost use mathlib.Core.Path.{_≡_};
-ghost use mathlib.Core.Bool.{cond};
+ghost use mathlib.Core.Bool.{false, cond};
 ghost use Prim.Native.Nat.{_≤_, _<_};
 ghost use lib.Dec.{eqb};
 ghost use lib.ListN.{length};
-ghost use Rattle.registers.specs.Block.{registersAt};
+ghost use Rattle.rules.specs.OneCycle.{wrongMode};
 ghost use Rattle.registers.specs.Steps.{Read, Write, Cycle, WriteCycle, stepStatus, stepLeft, stepValue};
-ghost use Rattle.entry_registers.specs.InPlace.{blockStatus, commandLeft, writeLeft, cycleLeft};
+ghost use Rattle.entry_registers.specs.InPlace.{refusalOf, commandLeft, writeLeft, cycleLeft};
 use state::Decoded;
 use state::Node;
 
-// Refusals 3 and 4 of a block.
-fn refusal(block: &[u8]) -> u32
-    ensures { λ r. ⌜ r ≡ blockStatus (registersAt (now (block .entry))) ⌝ }
+// Refusals 2, 3 and 4 of a mode and a block.
+fn refusal(mode: u32, block: &[u8]) -> u32
+    ensures { λ r. ⌜ r ≡ refusalOf mode (now (block .entry)) ⌝ }
 {
+    if rule_steps::wrong_mode(mode) {
+        return 2;
+    }
     let status = register_block::rest_refusal(block);
     if status != 0 {
         return status;
     }
-    match state_decoding::decode(&block[0..24]) {
+    match state_decoding::decode(rule_steps::is_quiet(mode), &block[0..24]) {
         Decoded::Good(_) => 0,
         Decoded::WrongLength => 4,
         Decoded::Malformed => 4,
@@ -26,50 +29,52 @@ fn refusal(block: &[u8]) -> u32
 }
 
 // Rule 1 by command, on the state in a block.
-fn command(value: u8, block: &mut [u8])
+fn command(mode: u32, value: u8, block: &mut [u8])
     requires { ⌜ length (now block) ≡ 64 ⌝ }
-    ensures { λ _. ⌜ now (block .exit) ≡ commandLeft value (now (block .entry)) ⌝ }
+    ensures { λ _. ⌜ now (block .exit) ≡ commandLeft mode value (now (block .entry)) ⌝ }
 {
     match value {
         1 => {
-            entry_stop_start::stop(&mut block[0..24]);
+            entry_stop_start::stop(mode, &mut block[0..24]);
         }
         2 => {
-            entry_stop_start::start(&mut block[0..24]);
+            entry_stop_start::start(mode, &mut block[0..24]);
         }
         _ => {}
     }
 }
 
 // A byte to an address of a block that was looked at.
-fn put_value(address: u32, value: u8, block: &mut [u8])
+fn put_value(mode: u32, address: u32, value: u8, block: &mut [u8])
     requires { ⌜ length (now block) ≡ 64 ⌝ }
-    ensures { λ _. ⌜ now (block .exit) ≡ writeLeft address value (now (block .entry)) ⌝ }
+    ensures { λ _. ⌜ now (block .exit) ≡ writeLeft mode address value (now (block .entry)) ⌝ }
 {
     let flags = register_block::flags_after(address, value, block[24]);
     let enables = register_block::enables_after(address, value, block[25]);
     register_block::put_flags(flags, enables, block);
     if address == 27 {
-        command(value, block);
+        command(mode, value, block);
     }
 }
 
 // The rest of a cycle of node n, whose block has these flags and enables.
 fn decide(
+    quiet: bool,
     n: Node,
     flags: u8,
     enables: u8,
     heard0: u64,
     heard1: u64,
+    requests: u64,
     votes: &[u8],
     arrived: u64,
     block: &mut [u8],
 )
     requires { ⌜ (n .nodes ≤ 64) × (n .id < n .nodes) × (length (now votes) ≡ 1792) × (length (now block) ≡ 64) ⌝ }
-    ensures { λ _. ⌜ now (block .exit) ≡ cycleLeft n flags enables heard0 heard1 (now (votes .entry)) arrived (now (block .entry)) ⌝ }
+    ensures { λ _. ⌜ now (block .exit) ≡ cycleLeft quiet n flags enables heard0 heard1 requests (now (votes .entry)) arrived (now (block .entry)) ⌝ }
 {
     let before = n.state;
-    let after = entry_decide::next_state(n, heard0, heard1, votes, arrived);
+    let after = entry_decide::next_state(quiet, n, heard0, heard1, requests, votes, arrived);
     let image = state_encoding::encode(Node {
         state: after,
         id: n.id,
@@ -84,11 +89,11 @@ fn decide(
 }
 
 // The byte at an address.
-pub fn read(block: &[u8], address: u32, value: &mut u32) -> u32
-    ensures { λ r. ⌜ r ≡ stepStatus (Read address) (now (block .entry)) ⌝ }
-    ensures { λ _. ⌜ now (value .exit) ≡ stepValue (Read address) (now (block .entry)) (now (value .entry)) ⌝ }
+pub fn read(mode: u32, block: &[u8], address: u32, value: &mut u32) -> u32
+    ensures { λ r. ⌜ r ≡ stepStatus (Read mode address) (now (block .entry)) ⌝ }
+    ensures { λ _. ⌜ now (value .exit) ≡ stepValue (Read mode address) (now (block .entry)) (now (value .entry)) ⌝ }
 {
-    let status = refusal(block);
+    let status = refusal(mode, block);
     if status != 0 {
         return status;
     }
@@ -100,28 +105,28 @@ pub fn read(block: &[u8], address: u32, value: &mut u32) -> u32
 }
 
 // A byte to an address.
-pub fn write(block: &mut [u8], address: u32, value: u8) -> u32
-    ensures { λ r. ⌜ r ≡ stepStatus (Write address value) (now (block .entry)) ⌝ }
-    ensures { λ _. ⌜ now (block .exit) ≡ stepLeft (Write address value) (now (block .entry)) ⌝ }
+pub fn write(mode: u32, block: &mut [u8], address: u32, value: u8) -> u32
+    ensures { λ r. ⌜ r ≡ stepStatus (Write mode address value) (now (block .entry)) ⌝ }
+    ensures { λ _. ⌜ now (block .exit) ≡ stepLeft (Write mode address value) (now (block .entry)) ⌝ }
 {
-    let status = refusal(block);
+    let status = refusal(mode, block);
     if status != 0 {
         return status;
     }
     if 63 < address {
         return 14;
     }
-    put_value(address, value, block);
+    put_value(mode, address, value, block);
     0
 }
 
 // A command, which is done first; no other write.
-fn command_first(address: u32, value: u8, block: &mut [u8]) -> u32
-    ensures { λ r. ⌜ r ≡ cond (eqb address 27) (stepStatus (Write 27 value) (now (block .entry))) 0 ⌝ }
-    ensures { λ _. ⌜ now (block .exit) ≡ cond (eqb address 27) (stepLeft (Write 27 value) (now (block .entry))) (now (block .entry)) ⌝ }
+fn command_first(mode: u32, address: u32, value: u8, block: &mut [u8]) -> u32
+    ensures { λ r. ⌜ r ≡ cond (eqb address 27) (stepStatus (Write mode 27 value) (now (block .entry))) 0 ⌝ }
+    ensures { λ _. ⌜ now (block .exit) ≡ cond (eqb address 27) (stepLeft (Write mode 27 value) (now (block .entry))) (now (block .entry)) ⌝ }
 {
     if address == 27 {
-        return write(block, 27, value);
+        return write(mode, block, 27, value);
     }
     0
 }
@@ -135,30 +140,44 @@ fn address_left(address: u32) -> u32
 
 // A write that is no command, and a cycle, on the state as it was decoded.
 fn write_and_decide(
+    mode: u32,
     block: &mut [u8],
     address: u32,
     value: u8,
     heard0: u64,
     heard1: u64,
+    requests: u64,
     votes: &[u8],
     arrived: u64,
 ) -> u32
-    requires { ⌜ (address ≡ 27 → ⊥) × (length (now votes) ≡ 1792) ⌝ }
-    ensures { λ r. ⌜ r ≡ stepStatus (WriteCycle address value heard0 heard1 (now (votes .entry)) arrived) (now (block .entry)) ⌝ }
-    ensures { λ _. ⌜ now (block .exit) ≡ stepLeft (WriteCycle address value heard0 heard1 (now (votes .entry)) arrived) (now (block .entry)) ⌝ }
+    requires { ⌜ (wrongMode mode ≡ false) × (address ≡ 27 → ⊥) × (length (now votes) ≡ 1792) ⌝ }
+    ensures { λ r. ⌜ r ≡ stepStatus (WriteCycle mode address value heard0 heard1 requests (now (votes .entry)) arrived) (now (block .entry)) ⌝ }
+    ensures { λ _. ⌜ now (block .exit) ≡ stepLeft (WriteCycle mode address value heard0 heard1 requests (now (votes .entry)) arrived) (now (block .entry)) ⌝ }
 {
     let status = register_block::rest_refusal(block);
     if status != 0 {
         return status;
     }
-    match state_decoding::decode(&block[0..24]) {
+    let quiet = rule_steps::is_quiet(mode);
+    match state_decoding::decode(quiet, &block[0..24]) {
         Decoded::Good(n) => {
             if 63 < address {
                 return 14;
             }
             let flags = register_block::flags_after(address, value, block[24]);
             let enables = register_block::enables_after(address, value, block[25]);
-            decide(n, flags, enables, heard0, heard1, votes, arrived, block);
+            decide(
+                quiet,
+                n,
+                flags,
+                enables,
+                heard0,
+                heard1,
+                requests,
+                votes,
+                arrived,
+                block,
+            );
             0
         }
         Decoded::WrongLength => 4,
@@ -168,32 +187,55 @@ fn write_and_decide(
 
 // A write and a cycle together, the write first. A command goes through the block, so that every other step decodes the state once.
 pub fn write_cycle(
+    mode: u32,
     block: &mut [u8],
     address: u32,
     value: u8,
     heard0: u64,
     heard1: u64,
+    requests: u64,
     votes: &[u8],
     arrived: u64,
 ) -> u32
-    ensures { λ r. ⌜ r ≡ stepStatus (WriteCycle address value heard0 heard1 (now (votes .entry)) arrived) (now (block .entry)) ⌝ }
-    ensures { λ _. ⌜ now (block .exit) ≡ stepLeft (WriteCycle address value heard0 heard1 (now (votes .entry)) arrived) (now (block .entry)) ⌝ }
+    ensures { λ r. ⌜ r ≡ stepStatus (WriteCycle mode address value heard0 heard1 requests (now (votes .entry)) arrived) (now (block .entry)) ⌝ }
+    ensures { λ _. ⌜ now (block .exit) ≡ stepLeft (WriteCycle mode address value heard0 heard1 requests (now (votes .entry)) arrived) (now (block .entry)) ⌝ }
 {
+    if rule_steps::wrong_mode(mode) {
+        return 2;
+    }
     if votes.len() != 1792 {
         return 3;
     }
-    let status = command_first(address, value, block);
+    let status = command_first(mode, address, value, block);
     if status != 0 {
         return status;
     }
     let left = address_left(address);
-    write_and_decide(block, left, value, heard0, heard1, votes, arrived)
+    write_and_decide(
+        mode,
+        block,
+        left,
+        value,
+        heard0,
+        heard1,
+        requests,
+        votes,
+        arrived,
+    )
 }
 
 // A cycle alone: together with a write that does nothing.
-pub fn cycle(block: &mut [u8], heard0: u64, heard1: u64, votes: &[u8], arrived: u64) -> u32
-    ensures { λ r. ⌜ r ≡ stepStatus (Cycle heard0 heard1 (now (votes .entry)) arrived) (now (block .entry)) ⌝ }
-    ensures { λ _. ⌜ now (block .exit) ≡ stepLeft (Cycle heard0 heard1 (now (votes .entry)) arrived) (now (block .entry)) ⌝ }
+pub fn cycle(
+    mode: u32,
+    block: &mut [u8],
+    heard0: u64,
+    heard1: u64,
+    requests: u64,
+    votes: &[u8],
+    arrived: u64,
+) -> u32
+    ensures { λ r. ⌜ r ≡ stepStatus (Cycle mode heard0 heard1 requests (now (votes .entry)) arrived) (now (block .entry)) ⌝ }
+    ensures { λ _. ⌜ now (block .exit) ≡ stepLeft (Cycle mode heard0 heard1 requests (now (votes .entry)) arrived) (now (block .entry)) ⌝ }
 {
-    write_cycle(block, 28, 0, heard0, heard1, votes, arrived)
+    write_cycle(mode, block, 28, 0, heard0, heard1, requests, votes, arrived)
 }

@@ -1,18 +1,21 @@
 -- What a node that sends a heartbeat leaves, and one that sends none; and what a call answers and leaves, by what it finds in the lent state. Assumes nothing.
 use mathlib.Core.Path.{_≡_, refl, sym, ap, ap₂, _∙_}
-use mathlib.Core.Bool.{Bool, true, false, _||_}
+use mathlib.Core.Bool.{Bool, true, false, _||_, false≢true}
 use mathlib.Core.List.{List}
 use Prim.Native.Nat.{ℕ, _+_, _≤_, _<_}
 use native.Mathlib.Omega.{arith}
 use lib.ListN.{length}
 use borrow.Author.Tests.{eq-eqb, ne-eqb}
-use Rattle.sets.proofs.Booleans.{or-f-r}
+use Rattle.sets.proofs.Booleans.{and-r, or-f-r}
 use Rattle.bigendian.proofs.Laws.{Bytes}
+use Rattle.state.specs.declared.State.{State}
+use Rattle.state.specs.declared.State.the-variants.{Out, Joining, Member}
 use Rattle.state.specs.declared.Node.{Node}
 use Rattle.state.specs.declared.Decoded.{Decoded}
+use Rattle.state.specs.State.{formedPlace, formedState, formed}
 use Rattle.state.specs.Image.{decoded}
 use Rattle.rules.specs.OneCycle.{wrongMode, quietIn}
-use Rattle.frames.specs.Written.{heartbeatFrame, wrongDrive}
+use Rattle.frames.specs.Written.{heartbeatFrame, wrongDrive, wrongRequest}
 use Rattle.refusal.specs.Refusal.{first, unless}
 use Rattle.refusal.proofs.Laws.{unless-refused}
 use Rattle.entry_lent.specs.declared.Lent.{Lent}
@@ -33,6 +36,18 @@ send-frame n sync startup cycle channel d f left b join request e o j r w =
 pub send-nothing : (n : Node) (sync startup cycle channel : ℕ) (d f : List ℕ) (b : ℕ) → b ≡ sendsByte (n .state) → (b ≡ 1 → ⊥)
     → f ≡ heartbeatOf n sync startup cycle channel d f
 send-nothing n sync startup cycle channel d f b e o = simp (ne-eqb (sendsByte (n .state)) 1 (λ z. o (e ∙ z)))
+
+-- what is sent may be written and read in that press, so that 10 has no place here: no joining node requests, and in a press that votes in every cycle no member
+pub sent-allowed : (quiet : Bool) (n : Node) → formed quiet n ≡ true → wrongRequest quiet (joinBit (n .state)) (requestBit (n .state)) ≡ false
+unfolding formed wrongRequest
+sent-allowed quiet n f = go quiet (n .state) (and-r (formedPlace (n .id) (n .nodes)) (formedState quiet (n .id) (n .nodes) (n .state)) f)
+  where
+    go : (quiet : Bool) (s : State) → formedState quiet (n .id) (n .nodes) s ≡ true → wrongRequest quiet (joinBit s) (requestBit s) ≡ false
+    go quiet (Out r) e = refl
+    go quiet Joining e = refl
+    go quiet (Member g false) e = refl
+    go true (Member g true) e = refl
+    go false (Member g true) e = absurd (false≢true e)
 
 module _ (mode : ℕ) (s : List ℕ) (sync startup cycle channel : ℕ) (d f : List ℕ) (sent : ℕ) where
   -- the status, and what is left of the frame and of the mark

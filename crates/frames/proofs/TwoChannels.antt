@@ -281,3 +281,21 @@ module _ (quiet : Bool) (q join request cycle : ℕ) (drive : List ℕ) where
               (good-content quiet q cycle 0 a g ∙ ap (λ (z : List ℕ). heartbeatOf quiet (getD z 0 0) (getD z 1 0)) p ∙ sym (good-content quiet q cycle 1 b (sent-good 1 b k)) ∙ sent-read 1 b k)
               (drive-by a b p ∙ sent-drive q join request cycle drive 1 b k) (equal-copies quiet q cycle a b g (sent-good 1 b k) p)
           go false g = by a b OnB b (read 1 b) (sent-read 1 b k) (sent-drive q join request cycle drive 1 b k) (only-b-good quiet q cycle a b g (sent-good 1 b k))
+
+-- one copy requests and the other does not: in a quiet press they differ; in another the one that requests is refused, and the other counts
+pub one-requests : (quiet : Bool) (q cycle : ℕ) (drive a b : List ℕ) → q < 64 → cycle < 64 → wrongDrive drive ≡ false → SentOn q 0 0 cycle drive 0 a → SentOn q 0 1 cycle drive 1 b
+    → receiveHeartbeat quiet q cycle a b .heard ≡ cond quiet heard.Missed heard.Alive
+unfolding wrongRequest
+one-requests true q cycle drive a b hq hc hd on-a on-b =
+    ap (λ (z : HeartbeatCounted). z .heard)
+    (other-copies true q cycle a b (sent-good true q 0 0 cycle drive hq (lit< tt) (lit< tt) refl hc hd 0 a on-a) (sent-good true q 0 1 cycle drive hq (lit< tt) (lit< tt) refl hc hd 1 b on-b) differ .0)
+  where
+    differ : payloadOf a ≡ payloadOf b → ⊥
+    differ e =
+        let z : _≡_ {A = ℕ} 0 64 = ap (λ (p : List ℕ). getD p 0 0) (sym (sent-payload q 0 0 cycle drive 0 a on-a) ∙ e ∙ sent-payload q 0 1 cycle drive 1 b on-b) in
+        omega arith
+one-requests false q cycle drive a b hq hc hd on-a on-b =
+    sent-on-a false q 0 0 cycle drive hq (lit< tt) (lit< tt) refl hc hd a b on-a (λ g. absurd (true≢false (sym g ∙ ap isGood refused))) .0
+  where
+    refused : readHeartbeat false q cycle 1 b ≡ Refused Content
+    refused = ap (readHeartbeat false q cycle 1) (on-b .4) ∙ heartbeat-back false q 0 1 (on-b .0) (on-b .1) cycle 1 drive hq (lit< tt) (lit< tt) (on-b .2) (on-b .3) hc hd .0

@@ -62,6 +62,7 @@ pub record Ended (quiet : Bool) (r : Run) (g : Groups) (input : List ℕ) : Type
   pub all : r .last .over ≡ true → firstText (along .out') (along .first) ++ along .text ≡ printed quiet (joined (along .chunks))
   pub cut : r .last .over ≡ false → firstText (along .out') (along .first) ++ along .text ≡ wholeLines quiet (joined (along .chunks))
 
+-- a run that has ended so, with anything in the window and the arrays
 abbrev pub Prints : Bool → Run → Type 0
 Prints quiet r = (g : Groups) × (input : List ℕ) × Ended quiet r g input
 

@@ -6,13 +6,14 @@ use row_calls::Task;
 use state::Node;
 
 // A call on the row: the refusal's number with the row as it was, or 0. The frames of a run through frames are kept by nobody.
-pub fn call(task: Task, n: u32, row: &mut [Node], bytes: &[u8]) -> u32
-    ensures { λ r. ⌜ r ≡ callStatus task n (now (row .entry)) framesLength (now (bytes .entry)) ⌝ }
-    ensures { λ _. ⌜ now (row .exit) ≡ callLeft task n (now (row .entry)) framesLength (now (bytes .entry)) ⌝ }
+pub fn call(task: Task, n: u32, mode: u32, row: &mut [Node], bytes: &[u8]) -> u32
+    ensures { λ r. ⌜ r ≡ callStatus task n mode (now (row .entry)) framesLength (now (bytes .entry)) ⌝ }
+    ensures { λ _. ⌜ now (row .exit) ≡ callLeft task n mode (now (row .entry)) framesLength (now (bytes .entry)) ⌝ }
 {
     let a = run_answer::answer_without_frames(
         task,
         n,
+        mode,
         row.len(),
         row_nodes::gather(run_answer::count_byte(n), &*row),
         bytes,

@@ -146,7 +146,7 @@ pub lent-fits : (framed : Bool) (mode room len : ℕ) (s : List ℕ) → ranStat
     → (tableOf true len s .cycles .refusal ≡ 0) × (framed ≡ true → room ≡ framesLength)
 unfolding ranStatus lentEntries framedStatus
 lent-fits true mode room len s e = let f = framed-fits mode len room s e in (f .1, λ _. f .0)
-lent-fits false mode room len s e = (in-mode mode _ e, λ h. absurd (false≢true h))
+lent-fits false mode room len s e = (in-mode mode _ e .1, λ h. absurd (false≢true h))
 
 pub frames-kept : (framed : Bool) (mode len : ℕ) (s frames : List ℕ) → (ranStatus framed mode (length frames) len s ≡ 0 → ⊥)
     → frames ≡ cond framed (framesLeft mode len s frames) frames

@@ -7,7 +7,7 @@ use Prim.Native.Nat.{ℕ}
 use lib.ListN.{length}
 use denote.Ref.{now}
 use Rattle.row_calls.specs.declared.Task.the-variants.{Cycle, Run, FramedRun}
-use Rattle.row_calls.specs.Histories.{Call, History, historyAfter, Begun, Promised}
+use Rattle.row_calls.specs.Histories.{Call, History, historyAfter, AllIn, Begun, Promised}
 use Rattle.row_images.specs.Images.{nodesIn}
 use Rattle.gm.proofs.gm_cycle.Reads as gm-cycle
 use Rattle.gm.proofs.gm_run.Reads as gm-run
@@ -18,17 +18,18 @@ use Rattle.gm.proofs.gm_run_frames.Reads as gm-run-frames
 -- lent at x and came back at y, refused or not; `gm_run_frames` was lent a buffer for frames, of any length.
 pub data Done : List Call → List ℕ → List ℕ → Type 1 where
   none : {x : List ℕ} → Done [] x x
-  cycle : {cs : List Call} {x y z : List ℕ} (κs : _) (a : _) (r : _) (s : _) → gm-cycle.Learnt κs a r s → now (a .1 .0) ≡ x → now (s .1 .0) ≡ y
-      → Done cs y z → Done (record { task = Cycle; count = a .0; room = 0; bytes = now (a .1 .1 .0) } ∷ cs) x z
-  run : {cs : List Call} {x y z : List ℕ} (κs : _) (a : _) (r : _) (s : _) → gm-run.Learnt κs a r s → now (a .0) ≡ x → now (s .0) ≡ y
-      → Done cs y z → Done (record { task = Run; count = 0; room = 0; bytes = now (a .1 .0) } ∷ cs) x z
-  run-frames : {cs : List Call} {x y z : List ℕ} (κs : _) (a : _) (r : _) (s : _) → gm-run-frames.Learnt κs a r s → now (a .0) ≡ x → now (s .0) ≡ y
-      → Done cs y z → Done (record { task = FramedRun; count = 0; room = length (now (a .1 .1 .0)); bytes = now (a .1 .0) } ∷ cs) x z
+  cycle : {cs : List Call} {x y z : List ℕ} (κs : _) (a : _) (r : _) (s : _) → gm-cycle.Learnt κs a r s → now (a .1 .1 .0) ≡ x → now (s .1 .1 .0) ≡ y
+      → Done cs y z → Done (record { task = Cycle; count = a .0; mode = a .1 .0; room = 0; bytes = now (a .1 .1 .1 .0) } ∷ cs) x z
+  run : {cs : List Call} {x y z : List ℕ} (κs : _) (a : _) (r : _) (s : _) → gm-run.Learnt κs a r s → now (a .1 .0) ≡ x → now (s .1 .0) ≡ y
+      → Done cs y z → Done (record { task = Run; count = 0; mode = a .0; room = 0; bytes = now (a .1 .1 .0) } ∷ cs) x z
+  run-frames : {cs : List Call} {x y z : List ℕ} (κs : _) (a : _) (r : _) (s : _) → gm-run-frames.Learnt κs a r s → now (a .1 .0) ≡ x → now (s .1 .0) ≡ y
+      → Done cs y z → Done (record { task = FramedRun; count = 0; mode = a .0; room = length (now (a .1 .1 .1 .0)); bytes = now (a .1 .1 .0) } ∷ cs) x z
 
 -- "Before the first, unless that is an accepted run, the row stands at the beginning for some founding set" (`Begun`). "After each call the row holds the
 -- states that the rules give from that beginning through those cycles. Demand 3 speaks of the states after every one of the cycles, those inside a run too"
--- (`Promised`): of the nodes whose images the row holds, after any list of calls. n is the number of its entries.
+-- (`Promised`): of the nodes whose images the row holds, after any list of calls. n is the number of its entries. Request 3: "All nodes of a press are in the
+-- same mode, fixed per press from the beginning on" (`AllIn`).
 abbrev pub OverImages : Type 1
 OverImages =
-    (n : ℕ) (h : History) (cs : List Call) (x z : List ℕ) → Begun n (nodesIn x) h cs → Done cs x z
-    → Promised n (nodesIn z) (historyAfter cs (nodesIn x) h)
+    (mode n : ℕ) (h : History) (cs : List Call) (x z : List ℕ) → AllIn mode cs (nodesIn x) → Begun mode n (nodesIn x) h cs → Done cs x z
+    → Promised mode n (nodesIn z) (historyAfter cs (nodesIn x) h)

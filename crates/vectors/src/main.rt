@@ -11,6 +11,7 @@
 //     drive = bytes((7 * i + 13) % 256 for i in range(252))
 //     for b in (0, 0, 0, 0, 0, 0), (4, 1, 0, 0, 63, 0), (63, 0, 1, 1, 9, 0), (2, 1, 1, 0, 5, 2), (40, 0, 0, 0, 62, 4), (63, 1, 1, 1, 63, 252):
 //         for crc in Crc24FlexrayA, Crc24FlexrayB: beat(*b[:5], drive[:b[5]], crc)
+// That with a request is one of the open vectors of request 3, in heartbeat.txt, made by other code too.
 ghost use Prim.Native.Nat.{_<_};
 use libc::STDOUT_FILENO;
 use rules::Vote;
@@ -105,17 +106,43 @@ fn show_headers() {
 
 // A heartbeat of node q of 64 on both channels, through a buffer as long as it.
 fn show_heartbeat(
+    mode: u32,
     q: u32,
     join: u32,
+    request: u32,
     sync: u32,
     startup: u32,
     cycle: u32,
     drive: &[u8],
     frame: &mut [u8],
 ) {
-    entry_write_heartbeat::write(64, q, join, sync, startup, cycle, 0, drive, frame);
+    entry_write_heartbeat::write(
+        64,
+        mode,
+        q,
+        join,
+        request,
+        sync,
+        startup,
+        cycle,
+        0,
+        drive,
+        frame,
+    );
     show_bytes(frame);
-    entry_write_heartbeat::write(64, q, join, sync, startup, cycle, 1, drive, frame);
+    entry_write_heartbeat::write(
+        64,
+        mode,
+        q,
+        join,
+        request,
+        sync,
+        startup,
+        cycle,
+        1,
+        drive,
+        frame,
+    );
     show_bytes(frame);
 }
 
@@ -130,20 +157,21 @@ fn drive_bytes() -> [u8; 252] {
     drive
 }
 
-// Of one, two, three and 127 words.
+// Of one, two, three and 127 words; the last of one word has a request, in a quiet press.
 fn show_heartbeats() {
     let none = [0u8; 0];
     let mut one = [0u8; 10];
-    show_heartbeat(0, 0, 0, 0, 0, &none, &mut one);
-    show_heartbeat(4, 1, 0, 0, 63, &none, &mut one);
-    show_heartbeat(63, 0, 1, 1, 9, &none, &mut one);
+    show_heartbeat(0, 0, 0, 0, 0, 0, 0, &none, &mut one);
+    show_heartbeat(0, 4, 1, 0, 0, 0, 63, &none, &mut one);
+    show_heartbeat(0, 63, 0, 0, 1, 1, 9, &none, &mut one);
+    show_heartbeat(1, 3, 0, 1, 0, 0, 7, &none, &mut one);
     let mut two = [0u8; 12];
-    show_heartbeat(2, 1, 1, 0, 5, &[13, 20], &mut two);
+    show_heartbeat(0, 2, 1, 0, 1, 0, 5, &[13, 20], &mut two);
     let mut three = [0u8; 14];
-    show_heartbeat(40, 0, 0, 0, 62, &[13, 20, 27, 34], &mut three);
+    show_heartbeat(0, 40, 0, 0, 0, 0, 62, &[13, 20, 27, 34], &mut three);
     let drive = drive_bytes();
     let mut most = [0u8; 262];
-    show_heartbeat(63, 1, 1, 1, 63, &drive, &mut most);
+    show_heartbeat(0, 63, 1, 0, 1, 1, 63, &drive, &mut most);
 }
 
 fn main() {

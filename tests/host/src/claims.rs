@@ -367,12 +367,13 @@ fn quiet_examples(rules: Rules) -> Vec<(&'static str, bool)> {
     ]
 }
 
-/// what node 0 of three decides that heard all and did not vote
+/// what node 0 of three decides on given votes: it heard all and did not vote, or it did not hear node 2 and all three vote for its view
 fn quiet_decisions(rules: Rules) -> Vec<(&'static str, bool)> {
-    let vote = Some(Vote { group: Group { number: 0, set: 7, base: 7 }, view: 7 });
-    let decided = |votes: &[Option<Vote>]| decide(3, 0, member(0, 7, 7), Heard { join0: 6, ..Heard::default() }, votes, rules);
+    let vote = |view: Set| Some(Vote { group: Group { number: 0, set: 7, base: 7 }, view });
+    let decided = |join0: Set, votes: &[Option<Vote>]| decide(3, 0, member(0, 7, 7), Heard { join0, ..Heard::default() }, votes, rules);
     vec![
-        ("a quorum for its own view puts a silent member out", decided(&[None, vote, vote]) == OUTVOTED),
-        ("a silent member counts no vote of its own", decided(&[None, vote, None]) == member(0, 7, 7)),
+        ("a quorum for its own view puts a silent member out", decided(6, &[None, vote(7), vote(7)]) == OUTVOTED),
+        ("a silent member counts no vote of its own", decided(6, &[None, vote(7), None]) == member(0, 7, 7)),
+        ("a view that differed requests where the set stays", decided(2, &[None, vote(3), vote(3)]) == requesting(0, 7, 7)),
     ]
 }

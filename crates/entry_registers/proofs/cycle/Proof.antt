@@ -14,7 +14,7 @@ returns : tie.Need-returns
 returns c =
     let w = c .before .before in
     let a = w .before .before .before .before .args in
-    let same = cycle-as-write (a .heard0) (a .heard1) (a .votes .now) (a .arrived) (a .block .now) in
+    let same = cycle-as-write (a .mode) (a .heard0) (a .heard1) (a .requests) (a .votes .now) (a .arrived) (a .block .now) in
     (w .write-cycle .ensures .0 ∙ same .0, w .write-cycle .ensures .1 ∙ same .1)
 
 pub cycle-spec : {M : Type 1} → statement M

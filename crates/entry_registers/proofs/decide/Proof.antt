@@ -34,7 +34,7 @@ returns c =
     let i = p .before .before .before in
     let n = i .before in
     let a = n .before .before .before .args in
-    decide-left (a .n) (a .flags) (a .enables) (a .heard0) (a .heard1) (a .votes .now) (a .arrived) (a .block .now) _ _ _ _ _ (n .next-state .ensures) (i .encode .ensures) (p .put .ensures) (r .raised-by .ensures) (f .put-flags .ensures)
+    decide-left (a .quiet) (a .n) (a .flags) (a .enables) (a .heard0) (a .heard1) (a .requests) (a .votes .now) (a .arrived) (a .block .now) _ _ _ _ _ (n .next-state .ensures) (i .encode .ensures) (p .put .ensures) (r .raised-by .ensures) (f .put-flags .ensures)
 
 pub decide-spec : {M : Type 1} → statement M
 decide-spec =

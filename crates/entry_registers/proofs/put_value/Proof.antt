@@ -30,7 +30,7 @@ returns c =
     let p = t .before .before .before in
     let e = p .before .before in
     let f = e .before .before in
-    with-command _ _ (f .before .before .before .args .block .now) _ _ _ (f .flags-after .ensures) (e .enables-after .ensures) (p .put-flags .ensures) _ (t .if1 .taken) (c .before .before .command .ensures)
+    with-command _ _ _ (f .before .before .before .args .block .now) _ _ _ (f .flags-after .ensures) (e .enables-after .ensures) (p .put-flags .ensures) _ (t .if1 .taken) (c .before .before .command .ensures)
 
 same-length-2 : tie.Need-same-length-2
 same-length-2 c = search needs
@@ -40,7 +40,7 @@ returns-2 c =
     let p = c .before .before .before in
     let e = p .before .before in
     let f = e .before .before in
-    without-command _ _ (f .before .before .before .args .block .now) _ _ _ (f .flags-after .ensures) (e .enables-after .ensures) (p .put-flags .ensures) (c .if1 .left)
+    without-command _ _ _ (f .before .before .before .args .block .now) _ _ _ (f .flags-after .ensures) (e .enables-after .ensures) (p .put-flags .ensures) (c .if1 .left)
 
 pub put-value-spec : {M : Type 1} → statement M
 put-value-spec =

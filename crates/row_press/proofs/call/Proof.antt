@@ -86,7 +86,8 @@ use Rattle.row_press.proofs.call.Code as code
 use Rattle.row_press.proofs.call.Code.Mir as pieces
 
 abbrev stayed : Stays (call.ended .signature .params) (call.ended .kept)
-stayed = (stay-none (λ _. K.the-row) yes, (stay-none (λ _. u32) yes, (stay-slice (0 ∷ []) tt (plain (λ _. N.the-row)), (stay-none-slice (1 ∷ []) tt (plain (λ _. u8)) yes, tt))))
+stayed =
+    (stay-none (λ _. K.the-row) yes, (stay-none (λ _. u32) yes, (stay-none (λ _. u32) yes, (stay-slice (0 ∷ []) tt (plain (λ _. N.the-row)), (stay-none-slice (1 ∷ []) tt (plain (λ _. u8)) yes, tt)))))
 
 -- ---- the machine values of a task and of an answer
 abbrev IsTask : Task → Val → Type 0
@@ -127,11 +128,11 @@ module _ {M : Type 1} (𝓤 : URA M) (H : Heap 𝓤) (A : Atoms 𝓤) where
   outcome-typed W r v is = LL.lawful O.the-type O′.the-laws 𝓤 H A W .typed r _ is .0
 
 -- what an answer says of every row that it may have been gathered from
-abbrev Answered : Task → ℕ → ℕ → Gathered → List ℕ → Outcome → Type 0
-Answered t n len g bs r = (nodes : List Node) → GatheredFrom n g len nodes → r .status ≡ callStatus t n nodes framesLength bs
+abbrev Answered : Task → (n mode len : ℕ) → Gathered → List ℕ → Outcome → Type 0
+Answered t n mode len g bs r = (nodes : List Node) → GatheredFrom n g len nodes → r .status ≡ callStatus t n mode nodes framesLength bs
 
-abbrev Left : Task → ℕ → ℕ → Gathered → List ℕ → Outcome → Type 0
-Left t n len g bs r = (nodes : List Node) → GatheredFrom n g len nodes → r .status ≡ 0 → Leaves (r .nodes) (r .states) len (callLeft t n nodes framesLength bs)
+abbrev Left : Task → (n mode len : ℕ) → Gathered → List ℕ → Outcome → Type 0
+Left t n mode len g bs r = (nodes : List Node) → GatheredFrom n g len nodes → r .status ≡ 0 → Leaves (r .nodes) (r .states) len (callLeft t n mode nodes framesLength bs)
 
 abbrev Refused : Gathered → Outcome → Type 0
 Refused g r = AsLent (r .status) (r .nodes) (r .states) (g .states)
@@ -158,12 +159,12 @@ module _ {M : Type 1} (𝓤 : URA M) (H : Heap 𝓤) (A : Atoms 𝓤) (mem : Mem
       → ent 𝓤 (ensured 𝓤 H A gather.ended (gather.clauses 𝓤 H A mem run) (ν, tt) (m, (x, tt)) tt g) (fact 𝓤 (g ≡ gathered m nothingOf 0 (x .now)))
   gathered-of ν m x g = exE 𝓤 _ (λ ws. snd∗ 𝓤 (sem 𝓤 H A (lasts gather.ended (ν, tt) (m, (x, tt)) ws)) (fact 𝓤 (g ≡ gathered m nothingOf 0 (x .now))))
 
-  answered-of : (κ : Lft) (t : Task) (n len : ℕ) (g : Gathered) (z : RefT (List ℕ)) (r : Outcome)
-      → ent 𝓤 (ensured 𝓤 H A answer.ended (answer.clauses 𝓤 H A mem run) (κ, tt) (t, (n, (len, (g, (z, tt))))) tt r)
-      (sep 𝓤 (fact 𝓤 (Answered t n len g (z .now) r)) (sep 𝓤 (fact 𝓤 (Left t n len g (z .now) r)) (fact 𝓤 (Refused g r))))
-  answered-of κ t n len g z r =
-      exE 𝓤 _ (λ ws. snd∗ 𝓤 (sem 𝓤 H A (lasts answer.ended (κ, tt) (t, (n, (len, (g, (z, tt))))) ws))
-      (sep 𝓤 (fact 𝓤 (Answered t n len g (z .now) r)) (sep 𝓤 (fact 𝓤 (Left t n len g (z .now) r)) (fact 𝓤 (Refused g r)))))
+  answered-of : (κ : Lft) (t : Task) (n mode len : ℕ) (g : Gathered) (z : RefT (List ℕ)) (r : Outcome)
+      → ent 𝓤 (ensured 𝓤 H A answer.ended (answer.clauses 𝓤 H A mem run) (κ, tt) (t, (n, (mode, (len, (g, (z, tt)))))) tt r)
+      (sep 𝓤 (fact 𝓤 (Answered t n mode len g (z .now) r)) (sep 𝓤 (fact 𝓤 (Left t n mode len g (z .now) r)) (fact 𝓤 (Refused g r))))
+  answered-of κ t n mode len g z r =
+      exE 𝓤 _ (λ ws. snd∗ 𝓤 (sem 𝓤 H A (lasts answer.ended (κ, tt) (t, (n, (mode, (len, (g, (z, tt)))))) ws))
+      (sep 𝓤 (fact 𝓤 (Answered t n mode len g (z .now) r)) (sep 𝓤 (fact 𝓤 (Left t n mode len g (z .now) r)) (fact 𝓤 (Refused g r)))))
 
   abbrev to-count : ℕ → CountByte .Ghost
   to-count n = ((tt, tt, tt, (n, tt), (vint w32 n ∷ [], tt)), tt)
@@ -174,8 +175,8 @@ module _ {M : Type 1} (𝓤 : URA M) (H : Heap 𝓤) (A : Atoms 𝓤) (mem : Mem
       move ! (1 ∷ 0 ∷ []) $ join ! $ nothing ! $ move ! (1 ∷ 0 ∷ []) $ done !
 
 module _ {M : Type 1} (𝓤 : URA M) (H : Heap 𝓤) (A : Atoms 𝓤) (W : Given 𝓤 H A) (mem : Memory → SProp 𝓤) (run : Routine → Fun 𝓤)
-    (κ κ₁ : Lft) (q q₁ : Share) (t : Task) (u : Val) (n b o : ℕ) (γ : GName) (ys : List Node) (b₁ o₁ : ℕ) (γ₁ : GName) (bs : List ℕ)
-    (t-is : IsTask t u) (n-fits : n < 2 ^ 32) (room : Room N.the-row (length ys)) (room₁ : Room u8 (length bs)) where
+    (κ κ₁ : Lft) (q q₁ : Share) (t : Task) (u : Val) (n mode b o : ℕ) (γ : GName) (ys : List Node) (b₁ o₁ : ℕ) (γ₁ : GName) (bs : List ℕ)
+    (t-is : IsTask t u) (n-fits : n < 2 ^ 32) (mode-fits : mode < 2 ^ 32) (room : Room N.the-row (length ys)) (room₁ : Room u8 (length bs)) where
   -- the row, under the name δ at the list l, and the bytes
   abbrev x : GName → List Node → RefT (List Node)
   x δ l = record { ptr = (b, o); name = δ; now = l }
@@ -183,8 +184,8 @@ module _ {M : Type 1} (𝓤 : URA M) (H : Heap 𝓤) (A : Atoms 𝓤) (W : Given
   abbrev z : RefT (List ℕ)
   z = record { ptr = (b₁, o₁); name = γ₁; now = bs }
 
-  abbrev a : Task × (ℕ × (RefT (List Node) × (RefT (List ℕ) × Unit {0})))
-  a = (t, (n, (x γ ys, (z, tt))))
+  abbrev a : Task × (ℕ × (ℕ × (RefT (List Node) × (RefT (List ℕ) × Unit {0}))))
+  a = (t, (n, (mode, (x γ ys, (z, tt)))))
 
   -- the machine values of the slices: pointer and count
   abbrev len : ℕ
@@ -197,7 +198,7 @@ module _ {M : Type 1} (𝓤 : URA M) (H : Heap 𝓤) (A : Atoms 𝓤) (W : Given
   s₁ = sliceVal (b₁, o₁) (length bs)
 
   abbrev at : Vals call.signature (κ, (κ₁, tt))
-  at = (u ∷ [], (vint w32 n ∷ [], (s ∷ [], (s₁ ∷ [], tt))))
+  at = (u ∷ [], (vint w32 n ∷ [], (vint w32 mode ∷ [], (s ∷ [], (s₁ ∷ [], tt)))))
 
   abbrev bound : walkOf 𝓤 H A call.ended stayed (call.clauses 𝓤 H A mem run) .Ghost
   bound = (((κ, (κ₁, tt)), (q, (q₁, tt)), tt, a, at), tt)
@@ -217,18 +218,18 @@ module _ {M : Type 1} (𝓤 : URA M) (H : Heap 𝓤) (A : Atoms 𝓤) (W : Given
   Tokens = ‵ (flft κ q) ⊛ (‵ (flft κ₁ q₁) ⊛ ‵ ftrue)
 
   abbrev Owned : Item 𝓤
-  Owned = ‵ (owns (K.the-row ∷ u32 ∷ MutSlice (named 0) κ N.the-row ∷ ShrSlice (named 1) κ₁ u8 ∷ []) a at)
+  Owned = ‵ (owns (K.the-row ∷ u32 ∷ u32 ∷ MutSlice (named 0) κ N.the-row ∷ ShrSlice (named 1) κ₁ u8 ∷ []) a at)
 
   -- what the contract says of the status, and of the row's last list
   abbrev Status : ℕ → Type 0
-  Status k = k ≡ callStatus t n ys framesLength bs
+  Status k = k ≡ callStatus t n mode ys framesLength bs
 
   abbrev Last : List Node → Type 0
-  Last zs = zs ≡ callLeft t n ys framesLength bs
+  Last zs = zs ≡ callLeft t n mode ys framesLength bs
 
   -- its two clauses, at these
   abbrev Ensured : ℕ → List Node → SProp 𝓤
-  Ensured k zs = call.clauses 𝓤 H A mem run (κ, (κ₁, tt)) a .ensures tt k (atExit call.ended (κ, (κ₁, tt)) a (tt, (tt, (zs, (tt, tt)))))
+  Ensured k zs = call.clauses 𝓤 H A mem run (κ, (κ₁, tt)) a .ensures tt k (atExit call.ended (κ, (κ₁, tt)) a (tt, (tt, (tt, (zs, (tt, tt))))))
 
   ensures : (k : ℕ) (zs : List Node) → Status k → Last zs → ent 𝓤 (emp 𝓤) (Ensured k zs)
   ensures k zs status last = qed W [] ∵ says ! last $ by ! (factI 𝓤 _ (emp 𝓤) status)
@@ -237,11 +238,11 @@ module _ {M : Type 1} (𝓤 : URA M) (H : Heap 𝓤) (A : Atoms 𝓤) (W : Given
       → ent 𝓤 (⋆ 𝓤 H A (Row zs ∷ ‵ (flft κ q) ∷ Bytes ∷ ‵ (flft κ₁ q₁) ∷ [])) (Post (vint w32 k))
   exits k zs fits status last l =
       qed W (Row zs ∷ ‵ (flft κ q) ∷ Bytes ∷ ‵ (flft κ₁ q₁) ∷ []) ∵
-      suffices ! _ (ends-at 𝓤 H A call.ended stayed (call.clauses 𝓤 H A mem run) W bound (vint w32 k) k (tt, (tt, (zs, (tt, tt)))) (tt, (tt, (l, (tt, tt))))) $
+      suffices ! _ (ends-at 𝓤 H A call.ended stayed (call.clauses 𝓤 H A mem run) W bound (vint w32 k) k (tt, (tt, (tt, (zs, (tt, tt))))) (tt, (tt, (tt, (l, (tt, tt)))))) $
       -- the tokens; then what the parameters own, and what the status owns
       nothing ! $ move ! (4 ∷ 0 ∷ []) $ join ! $ move ! (2 ∷ 0 ∷ []) $ join ! $
       nothing ! $ move ! (3 ∷ 0 ∷ []) $ fjoin ! $ move ! (2 ∷ 0 ∷ []) $ fjoin ! $
-      owned ! u32 (Is u32) (uint-makes 𝓤 H A W w32) n _ (refl, n-fits) $ fjoin ! $ owned ! K.the-row (Is K.the-row) (task-makes 𝓤 H A) t _ t-is $ fjoin ! $
+      owned ! u32 (Is u32) (uint-makes 𝓤 H A W w32) mode _ (refl, mode-fits) $ fjoin ! $ owned ! u32 (Is u32) (uint-makes 𝓤 H A W w32) n _ (refl, n-fits) $ fjoin ! $ owned ! K.the-row (Is K.the-row) (task-makes 𝓤 H A) t _ t-is $ fjoin ! $
       owned ! u32 (Is u32) (uint-makes 𝓤 H A W w32) k (vint w32 k ∷ []) (refl, fits) $ move ! (1 ∷ 0 ∷ []) $ join ! $ move ! (1 ∷ 0 ∷ []) $ join ! $
       use0 W (raw (Ensured k zs)) (ensures k zs status last) $ move ! (1 ∷ 0 ∷ []) $ done !
 
@@ -258,7 +259,7 @@ module _ {M : Type 1} (𝓤 : URA M) (H : Heap 𝓤) (A : Atoms 𝓤) (W : Given
       move ! (1 ∷ 0 ∷ []) $ join ! $ nothing ! $ move ! (1 ∷ 0 ∷ []) $ done !
 
   abbrev to-answer : Gathered → Val → Answer 𝓤 H A mem run .Ghost
-  to-answer g w = (((κ₁, tt), (q₁, tt), tt, (t, (n, (len, (g, (z, tt))))), (u ∷ [], (vint w32 n ∷ [], (vint w64 len ∷ [], (w ∷ [], (s₁ ∷ [], tt)))))), tt)
+  to-answer g w = (((κ₁, tt), (q₁, tt), tt, (t, (n, (mode, (len, (g, (z, tt)))))), (u ∷ [], (vint w32 n ∷ [], (vint w32 mode ∷ [], (vint w64 len ∷ [], (w ∷ [], (s₁ ∷ [], tt))))))), tt)
 
   goes-answer : (g : Gathered) (w : Val) → IsGathered g w → ent 𝓤 (sep 𝓤 (A .lft κ₁ q₁) (sem 𝓤 H A (ShrSlice (named 1) κ₁ u8 .own z (s₁ ∷ [])))) (Answer 𝓤 H A mem run .pre (to-answer g w))
   goes-answer g w is =
@@ -266,6 +267,7 @@ module _ {M : Type 1} (𝓤 : URA M) (H : Heap 𝓤) (A : Atoms 𝓤) (W : Given
       nothing ! $ move ! (1 ∷ 0 ∷ []) $ join ! $ nothing ! $ move ! (2 ∷ 0 ∷ []) $ fjoin ! $
       owned ! G.the-row (Is G.the-row) (gathered-makes 𝓤 H A) g (w ∷ []) is $ fjoin ! $
       owned ! usize (Is usize) (uint-makes 𝓤 H A W w64) len (vint w64 len ∷ []) (refl, room .0) $ fjoin ! $
+      owned ! u32 (Is u32) (uint-makes 𝓤 H A W w32) mode (vint w32 mode ∷ []) (refl, mode-fits) $ fjoin ! $
       owned ! u32 (Is u32) (uint-makes 𝓤 H A W w32) n (vint w32 n ∷ []) (refl, n-fits) $ fjoin ! $
       owned ! K.the-row (Is K.the-row) (task-makes 𝓤 H A) t (u ∷ []) t-is $ fjoin ! $
       move ! (1 ∷ 0 ∷ []) $ join ! $ nothing ! $ move ! (1 ∷ 0 ∷ []) $ done !
@@ -311,53 +313,54 @@ module _ {M : Type 1} (𝓤 : URA M) (H : Heap 𝓤) (A : Atoms 𝓤) (W : Given
     abbrev ref-mut : Ty
     ref-mut = tyRef erased mut (pointee (N.the-row .written))
 
-    module _ (l₀ l₁ l₂ l₃ l₄ l₅ l₆ l₇ l₈ l₉ l₁₀ l₁₁ l₁₂ l₁₃ l₁₄ l₁₅ : ℕ) where
+    module _ (l₀ l₁ l₂ l₃ l₄ l₅ l₆ l₇ l₈ l₉ l₁₀ l₁₁ l₁₂ l₁₃ l₁₄ l₁₅ l₁₆ : ℕ) where
       abbrev En : Env 𝓤 H
-      En = (half, l₀) ∷ (K′.mir, l₁) ∷ (half, l₂) ∷ (slice, l₃) ∷ (slice₁, l₄) ∷ (O′.mir, l₅) ∷ (half, l₆) ∷ (word, l₇) ∷ (G′.mir, l₈) ∷ (byte, l₉)
-          ∷ (ref-imm, l₁₀) ∷ (sliceTy ref-imm, l₁₁) ∷ (tyBool, l₁₂) ∷ (tyUnit, l₁₃) ∷ (ref-mut, l₁₄) ∷ (sliceTy ref-mut, l₁₅) ∷ []
+      En = (half, l₀) ∷ (K′.mir, l₁) ∷ (half, l₂) ∷ (half, l₃) ∷ (slice, l₄) ∷ (slice₁, l₅) ∷ (O′.mir, l₆) ∷ (half, l₇) ∷ (word, l₈) ∷ (G′.mir, l₉) ∷ (byte, l₁₀)
+          ∷ (ref-imm, l₁₁) ∷ (sliceTy ref-imm, l₁₂) ∷ (tyBool, l₁₃) ∷ (tyUnit, l₁₄) ∷ (ref-mut, l₁₅) ∷ (sliceTy ref-mut, l₁₆) ∷ []
 
-      -- the locals, each with what frees it, local k at 2 · (15 − k): 5 to 9 are given, the parameters are as they were passed, and the others are room
+      -- the locals, each with what frees it, local k at 2 · (16 − k): 6 to 10 are given, the parameters are as they were passed, and the others are room
       abbrev Locals : Item 𝓤 → Item 𝓤 → Item 𝓤 → Item 𝓤 → Item 𝓤 → List (Item 𝓤) → List (Item 𝓤)
-      Locals at₅ at₆ at₇ at₈ at₉ rest =
-          ‵ (froom (sliceTy ref-mut) l₁₅ 0) ∷ ‵ (fdies (sliceTy ref-mut) l₁₅) ∷ ‵ (froom ref-mut l₁₄ 0) ∷ ‵ (fdies ref-mut l₁₄) ∷ ‵ (froom tyUnit l₁₃ 0) ∷ ‵ (fdies tyUnit l₁₃)
-          ∷ ‵ (froom tyBool l₁₂ 0) ∷ ‵ (fdies tyBool l₁₂) ∷ ‵ (froom (sliceTy ref-imm) l₁₁ 0) ∷ ‵ (fdies (sliceTy ref-imm) l₁₁) ∷ ‵ (froom ref-imm l₁₀ 0) ∷ ‵ (fdies ref-imm l₁₀)
-          ∷ at₉ ∷ ‵ (fdies byte l₉) ∷ at₈ ∷ ‵ (fdies G′.mir l₈) ∷ at₇ ∷ ‵ (fdies word l₇) ∷ at₆ ∷ ‵ (fdies half l₆) ∷ at₅ ∷ ‵ (fdies O′.mir l₅)
-          ∷ ‵ (fat fullShare slice₁ l₄ 0 s₁) ∷ ‵ (fdies slice₁ l₄) ∷ ‵ (fat fullShare slice l₃ 0 s) ∷ ‵ (fdies slice l₃) ∷ ‵ (fat fullShare half l₂ 0 (vint w32 n)) ∷ ‵ (fdies half l₂)
+      Locals at₆ at₇ at₈ at₉ at₁₀ rest =
+          ‵ (froom (sliceTy ref-mut) l₁₆ 0) ∷ ‵ (fdies (sliceTy ref-mut) l₁₆) ∷ ‵ (froom ref-mut l₁₅ 0) ∷ ‵ (fdies ref-mut l₁₅) ∷ ‵ (froom tyUnit l₁₄ 0) ∷ ‵ (fdies tyUnit l₁₄)
+          ∷ ‵ (froom tyBool l₁₃ 0) ∷ ‵ (fdies tyBool l₁₃) ∷ ‵ (froom (sliceTy ref-imm) l₁₂ 0) ∷ ‵ (fdies (sliceTy ref-imm) l₁₂) ∷ ‵ (froom ref-imm l₁₁ 0) ∷ ‵ (fdies ref-imm l₁₁)
+          ∷ at₁₀ ∷ ‵ (fdies byte l₁₀) ∷ at₉ ∷ ‵ (fdies G′.mir l₉) ∷ at₈ ∷ ‵ (fdies word l₈) ∷ at₇ ∷ ‵ (fdies half l₇) ∷ at₆ ∷ ‵ (fdies O′.mir l₆)
+          ∷ ‵ (fat fullShare slice₁ l₅ 0 s₁) ∷ ‵ (fdies slice₁ l₅) ∷ ‵ (fat fullShare slice l₄ 0 s) ∷ ‵ (fdies slice l₄)
+          ∷ ‵ (fat fullShare half l₃ 0 (vint w32 mode)) ∷ ‵ (fdies half l₃) ∷ ‵ (fat fullShare half l₂ 0 (vint w32 n)) ∷ ‵ (fdies half l₂)
           ∷ ‵ (fat fullShare K′.mir l₁ 0 u) ∷ ‵ (fdies K′.mir l₁) ∷ ‵ (froom half l₀ 0) ∷ ‵ (fdies half l₀) ∷ rest
 
-      abbrev room₅ : Item 𝓤
-      room₅ = ‵ (froom O′.mir l₅ 0)
-
       abbrev room₆ : Item 𝓤
-      room₆ = ‵ (froom half l₆ 0)
+      room₆ = ‵ (froom O′.mir l₆ 0)
 
       abbrev room₇ : Item 𝓤
-      room₇ = ‵ (froom word l₇ 0)
+      room₇ = ‵ (froom half l₇ 0)
 
       abbrev room₈ : Item 𝓤
-      room₈ = ‵ (froom G′.mir l₈ 0)
+      room₈ = ‵ (froom word l₈ 0)
 
       abbrev room₉ : Item 𝓤
-      room₉ = ‵ (froom byte l₉ 0)
+      room₉ = ‵ (froom G′.mir l₉ 0)
 
-      -- the row at the list l and the bytes, with their lifetimes' tokens; then the locals, local k at 4 + 2 · (15 − k)
+      abbrev room₁₀ : Item 𝓤
+      room₁₀ = ‵ (froom byte l₁₀ 0)
+
+      -- the row at the list l and the bytes, with their lifetimes' tokens; then the locals, local k at 4 + 2 · (16 − k)
       abbrev With : List Node → List (Item 𝓤) → List (Item 𝓤)
       With l locals = Row l ∷ ‵ (flft κ q) ∷ Bytes ∷ ‵ (flft κ₁ q₁) ∷ locals
 
       -- the status, at the end
       last : (r : Outcome) (zs : List Node) → IsOutcome r (mach r) → Status (r .status) → Last zs → length zs ≡ len
-          → Sq W (With zs (Locals (‵ (fat fullShare O′.mir l₅ 0 (mach r))) (‵ (fat fullShare half l₆ 0 (vint w32 (r .status)))) room₇ room₈ room₉ [])) (runs C Λ En pieces.t-10 (atRet En Post))
+          → Sq W (With zs (Locals (‵ (fat fullShare O′.mir l₆ 0 (mach r))) (‵ (fat fullShare half l₇ 0 (vint w32 (r .status)))) room₈ room₉ room₁₀ [])) (runs C Λ En pieces.t-10 (atRet En Post))
       last r zs is status left l =
-          assigns ! (of-opd ! (load ! (from ! (stop !)) (look ! 22 refl))) (from ! (stop !)) (init ! 34 refl (tt, record { fits = status-fits r _ is })) $
-          returns ! (look ! 34 refl) $ forget ! 22 refl $ forget ! 24 refl $ forget ! 26 refl $ forget ! 28 refl $ forget ! 30 refl $ forget ! 32 refl $ forget ! 34 refl $
-          move ! (34 ∷ 35 ∷ []) $ free1 ! $ move ! (32 ∷ 33 ∷ []) $ free1 ! $ move ! (30 ∷ 31 ∷ []) $ free1 ! $ move ! (28 ∷ 29 ∷ []) $ free1 ! $ move ! (26 ∷ 27 ∷ []) $ free1 ! $
+          assigns ! (of-opd ! (load ! (from ! (stop !)) (look ! 22 refl))) (from ! (stop !)) (init ! 36 refl (tt, record { fits = status-fits r _ is })) $
+          returns ! (look ! 36 refl) $ forget ! 22 refl $ forget ! 24 refl $ forget ! 26 refl $ forget ! 28 refl $ forget ! 30 refl $ forget ! 32 refl $ forget ! 34 refl $ forget ! 36 refl $
+          move ! (36 ∷ 37 ∷ []) $ free1 ! $ move ! (34 ∷ 35 ∷ []) $ free1 ! $ move ! (32 ∷ 33 ∷ []) $ free1 ! $ move ! (30 ∷ 31 ∷ []) $ free1 ! $ move ! (28 ∷ 29 ∷ []) $ free1 ! $ move ! (26 ∷ 27 ∷ []) $ free1 ! $
           move ! (24 ∷ 25 ∷ []) $ free1 ! $ move ! (22 ∷ 23 ∷ []) $ free1 ! $ move ! (20 ∷ 21 ∷ []) $ free1 ! $ move ! (18 ∷ 19 ∷ []) $ free1 ! $ move ! (16 ∷ 17 ∷ []) $ free1 ! $
           move ! (14 ∷ 15 ∷ []) $ free1 ! $ move ! (12 ∷ 13 ∷ []) $ free1 ! $ move ! (10 ∷ 11 ∷ []) $ free1 ! $ move ! (8 ∷ 9 ∷ []) $ free1 ! $ move ! (6 ∷ 7 ∷ []) $ free1 ! $
           move ! (4 ∷ 5 ∷ []) $ free1 ! $ free0 ! $ by ! (exits (r .status) zs (status-fits r _ is) status left l)
 
       -- the branch, and `scatter`
-      ends : (r : Outcome) → IsOutcome r (mach r) → Status (r .status) → (r .status ≡ 0 → Leaves (r .nodes) (r .states) len (callLeft t n ys framesLength bs))
-          → Sq W (With ys (Locals (‵ (fat fullShare O′.mir l₅ 0 (mach r))) room₆ room₇ room₈ room₉ [])) (runs C Λ En pieces.t-7 (atRet En Post))
+      ends : (r : Outcome) → IsOutcome r (mach r) → Status (r .status) → (r .status ≡ 0 → Leaves (r .nodes) (r .states) len (callLeft t n mode ys framesLength bs))
+          → Sq W (With ys (Locals (‵ (fat fullShare O′.mir l₆ 0 (mach r))) room₇ room₈ room₉ room₁₀ [])) (runs C Λ En pieces.t-7 (atRet En Post))
       ends r is status leaves =
           assigns ! (of-opd ! (load ! (from ! (fld ! refl (stop !))) (look-in ! 24 (sub ! 0 refl (whole !))))) (from ! (stop !)) (init ! 22 refl (tt, record { fits = status-fits r _ is })) $
           assigns ! (bin ! (load ! (from ! (stop !)) (look ! 22 refl)) (lit ! tt) tt) (from ! (stop !)) (init ! 10 refl (tt, tt)) $
@@ -377,35 +380,35 @@ module _ {M : Type 1} (𝓤 : URA M) (H : Heap 𝓤) (A : Atoms 𝓤) (W : Given
           split ! $ move ! (1 ∷ []) $ use1 W (some (λ (zs : Unit {0} × (Unit {0} × (List Node × Unit {0}))). ‵ (lasts scatter.ended (ν ∷ [], tt) (r .nodes, (r .states, (x δ ys, tt))) zs) ⊛ raw (fact 𝓤 (zs .1 .1 .0 ≡ each (nodeOf (r .nodes) (r .states)) 0 ys)))) (id⊢ 𝓤 _) $ pick ! (λ zs.
           split ! $ move ! (1 ∷ []) $ heard ! (zs .1 .1 .0 ≡ each (nodeOf (r .nodes) (r .states)) 0 ys) (λ is-each. fsplit ! $ drop ! $ fsplit ! $ drop ! $ fsplit ! $ fsplit ! $ move ! (1 ∷ []) $ feqL ! (λ l.
           move ! (2 ∷ []) $ split ! $ move ! (1 ∷ []) $ peeks ! Nothing (Is Nothing) (shows 𝓤 H A Nothing) e (v ∷ []) (λ unit. drop ! $
-          -- [the token of ν; what says the last list; true; what is kept of the row; the bytes; their token; the locals, local k at 6 + 2 · (15 − k)]
+          -- [the token of ν; what says the last list; true; what is kept of the row; the bytes; their token; the locals, local k at 6 + 2 · (16 − k)]
           land-last ! (from ! (stop !)) (init ! 10 refl (nothing-lawful 𝓤 H A W .typed e _ unit .0)) $ exec ! C Λ En pieces.t-10 (atRet En Post) $
           -- the lifetime is ended, and the row comes back at that list
           split ! $ lft-end ! tt $ move ! (0 ∷ 4 ∷ 2 ∷ []) $
           use3 W (later (Row (zs .1 .1 .0) ⊛ ‵ (flft κ q))) (again-back N.the-row κ (ν ∷ []) q γ b o 𝓤 H A W (named 0) ys room δ (zs .1 .1 .0) l) $ await ! tt $ split ! $ move ! (2 ∷ 3 ∷ []) $ drop ! $ drop ! $
-          forget ! 4 refl $ forget ! 6 refl $ forget ! 8 refl $ forget ! 10 refl $ last r (zs .1 .1 .0) is status (row-set t n ys bs r (zs .1 .1 .0) leaves taken is-each) l)))))))))
-          (λ refused. skips ! $ exec ! C Λ En pieces.t-10 (atRet En Post) $ forget ! 10 refl $ last r ys is status (row-kept t n ys bs r status refused) refl)
+          forget ! 4 refl $ forget ! 6 refl $ forget ! 8 refl $ forget ! 10 refl $ last r (zs .1 .1 .0) is status (row-set t n mode ys bs r (zs .1 .1 .0) leaves taken is-each) l)))))))))
+          (λ refused. skips ! $ exec ! C Λ En pieces.t-10 (atRet En Post) $ forget ! 10 refl $ last r ys is status (row-kept t n mode ys bs r status refused) refl)
 
       -- `answer_without_frames`; what the bytes own is had twice, since it is not given back
       answers : (g : Gathered) (w : Val) → IsGathered g w → GatheredFrom n g len ys
-          → Sq W (With ys (Locals room₅ room₆ (‵ (fat fullShare word l₇ 0 (vint w64 len))) (‵ (fat fullShare G′.mir l₈ 0 w)) room₉ [])) (runs C Λ En pieces.t-6 (atRet En Post))
+          → Sq W (With ys (Locals room₆ room₇ (‵ (fat fullShare word l₈ 0 (vint w64 len))) (‵ (fat fullShare G′.mir l₉ 0 w)) room₁₀ [])) (runs C Λ En pieces.t-6 (atRet En Post))
       answers g w is of-row =
           move ! (2 ∷ []) $ use1 W (Bytes ⊛ Bytes) (shr-slice-copy 𝓤 H A W (named 1) κ₁ u8 .twice z (s₁ ∷ [])) $ split ! $
           move ! (4 ∷ 0 ∷ []) $ use2 W (raw (Answer 𝓤 H A mem run .pre (to-answer g w))) (goes-answer g w is) $
           calls-at ! (fmOf 𝓤 H (W .laws) 𝓣) (Answer 𝓤 H A mem run) known-answer (to-answer g w)
-          (and-then ! (load ! (from ! (stop !)) (look ! 32 refl)) (and-then ! (load ! (from ! (stop !)) (look ! 30 refl)) (and-then ! (load ! (from ! (stop !)) (look ! 20 refl)) (and-then ! (load ! (from ! (stop !)) (look ! 18 refl)) (and-then ! (load ! (from ! (stop !)) (look ! 26 refl)) (no-more !)))))) (λ v.
-          use1 W (later (some (λ (r : Outcome). ((‵ (flft κ₁ q₁) ⊛ ‵ ftrue) ⊛ ‵ (O.the-row .own r (v ∷ []))) ⊛ raw (ensured 𝓤 H A answer.ended (answer.clauses 𝓤 H A mem run) (κ₁, tt) (t, (n, (len, (g, (z, tt))))) tt r)))) (id⊢ 𝓤 _) $ await ! tt $ pick ! (λ r.
-          split ! $ move ! (1 ∷ []) $ use1 W (raw (fact 𝓤 (Answered t n len g bs r)) ⊛ (raw (fact 𝓤 (Left t n len g bs r)) ⊛ raw (fact 𝓤 (Refused g r)))) (answered-of 𝓤 H A mem run κ₁ t n len g z r) $ split ! $
-          heard ! (Answered t n len g bs r) (λ said. split ! $ heard ! (Left t n len g bs r) (λ leaving. heard ! (Refused g r) (λ _. split ! $ move ! (1 ∷ []) $
+          (and-then ! (load ! (from ! (stop !)) (look ! 34 refl)) (and-then ! (load ! (from ! (stop !)) (look ! 32 refl)) (and-then ! (load ! (from ! (stop !)) (look ! 30 refl)) (and-then ! (load ! (from ! (stop !)) (look ! 20 refl)) (and-then ! (load ! (from ! (stop !)) (look ! 18 refl)) (and-then ! (load ! (from ! (stop !)) (look ! 26 refl)) (no-more !))))))) (λ v.
+          use1 W (later (some (λ (r : Outcome). ((‵ (flft κ₁ q₁) ⊛ ‵ ftrue) ⊛ ‵ (O.the-row .own r (v ∷ []))) ⊛ raw (ensured 𝓤 H A answer.ended (answer.clauses 𝓤 H A mem run) (κ₁, tt) (t, (n, (mode, (len, (g, (z, tt)))))) tt r)))) (id⊢ 𝓤 _) $ await ! tt $ pick ! (λ r.
+          split ! $ move ! (1 ∷ []) $ use1 W (raw (fact 𝓤 (Answered t n mode len g bs r)) ⊛ (raw (fact 𝓤 (Left t n mode len g bs r)) ⊛ raw (fact 𝓤 (Refused g r)))) (answered-of 𝓤 H A mem run κ₁ t n mode len g z r) $ split ! $
+          heard ! (Answered t n mode len g bs r) (λ said. split ! $ heard ! (Left t n mode len g bs r) (λ leaving. heard ! (Refused g r) (λ _. split ! $ move ! (1 ∷ []) $
           peeks ! O.the-row (Is O.the-row) (shows 𝓤 H A O.the-row) r (v ∷ []) (λ is-r. drop ! $
-          -- [the token of κ₁; the bytes; the row; the token of κ; the locals, local k at 4 + 2 · (15 − k)]
+          -- [the token of κ₁; the bytes; the row; the token of κ; the locals, local k at 4 + 2 · (16 − k)]
           land ! (from ! (stop !)) (init ! 24 refl (outcome-typed 𝓤 H A W r v is-r)) $
           split ! $ move ! (1 ∷ 3 ∷ 4 ∷ 2 ∷ 0 ∷ []) $ drop ! $ forget ! 18 refl $ forget ! 20 refl $
-          rewrite ! 24 (λ (c : Val). ‵ (fat fullShare O′.mir l₅ 0 c)) (told r v is-r) refl $
+          rewrite ! 24 (λ (c : Val). ‵ (fat fullShare O′.mir l₆ 0 c)) (told r v is-r) refl $
           ends r (spelt r v is-r) (said ys of-row) (leaving ys of-row)))))))
 
       -- the row lent as `&`, and `gather`
       gathers : (m : ℕ) → m < 2 ^ 8 → m ≡ countByte n
-          → Sq W (With ys (Locals room₅ room₆ (‵ (fat fullShare word l₇ 0 (vint w64 len))) room₈ (‵ (fat fullShare byte l₉ 0 (vint w8 m))) [])) (runs C Λ En pieces.t-3 (atRet En Post))
+          → Sq W (With ys (Locals room₆ room₇ (‵ (fat fullShare word l₈ 0 (vint w64 len))) room₉ (‵ (fat fullShare byte l₁₀ 0 (vint w8 m))) [])) (runs C Λ En pieces.t-3 (atRet En Post))
       gathers m m-fits counted =
           assigns ! (addr ! (from ! (fld ! refl (hop ! (look-in ! 28 (sub ! 0 refl (whole !))) (stop !))))) (from ! (stop !)) (init ! 14 refl (tt, tt)) $
           assigns ! (agg ! (and-then ! (load ! (from ! (stop !)) (look ! 14 refl)) (and-then ! (load ! (from ! (fld ! refl (stop !))) (look-in ! 28 (sub ! 1 refl (whole !)))) (no-more !)))) (from ! (stop !)) (init ! 12 refl (tt, (tt, (record { fits = room .0 }, tt)))) $
@@ -419,7 +422,7 @@ module _ {M : Type 1} (𝓤 : URA M) (H : Heap 𝓤) (A : Atoms 𝓤) (W : Given
           use1 W (later (some (λ (g : Gathered). ((‵ (flft (ν ∷ []) fullShare) ⊛ ‵ ftrue) ⊛ ‵ (G.the-row .own g (w ∷ []))) ⊛ raw (ensured 𝓤 H A gather.ended (gather.clauses 𝓤 H A mem run) (ν ∷ [], tt) (m, (x δ ys, tt)) tt g)))) (id⊢ 𝓤 _) $ await ! tt $ pick ! (λ g.
           split ! $ move ! (1 ∷ []) $ use1 W (raw (fact 𝓤 (g ≡ gathered m nothingOf 0 ys))) (gathered-of 𝓤 H A mem run (ν ∷ []) m (x δ ys) g) $ heard ! (g ≡ gathered m nothingOf 0 ys) (λ e. split ! $ move ! (1 ∷ []) $
           peeks ! G.the-row (Is G.the-row) (shows 𝓤 H A G.the-row) g (w ∷ []) (λ is. drop ! $
-          -- [the token of ν; what is kept of the row; the bytes; their token; the locals, local k at 4 + 2 · (15 − k)]
+          -- [the token of ν; what is kept of the row; the bytes; their token; the locals, local k at 4 + 2 · (16 − k)]
           land ! (from ! (stop !)) (init ! 18 refl (gathered-typed 𝓤 H A W g w is)) $
           -- the lifetime is ended, and the row comes back
           split ! $ lft-end ! tt $ move ! (0 ∷ 2 ∷ []) $
@@ -427,29 +430,29 @@ module _ {M : Type 1} (𝓤 : URA M) (H : Heap 𝓤) (A : Atoms 𝓤) (W : Given
           forget ! 12 refl $ forget ! 14 refl $ forget ! 16 refl $ answers g w is (from-row n m g ys counted e)))))))
 
       -- the length, and `count_byte`
-      begins : Sq W (Locals room₅ room₆ room₇ room₈ room₉ (Tokens ∷ Owned ∷ [])) (runs C Λ En pieces.t-1 (atRet En Post))
+      begins : Sq W (Locals room₆ room₇ room₈ room₉ room₁₀ (Tokens ∷ Owned ∷ [])) (runs C Λ En pieces.t-1 (atRet En Post))
       begins =
           -- of what the parameters own the parts of the row and of the bytes are kept
-          move ! (33 ∷ []) $ fsplit ! $ drop ! $ fsplit ! $ drop ! $ fsplit ! $ move ! (1 ∷ []) $ fsplit ! $ move ! (35 ∷ []) $ split ! $ move ! (1 ∷ []) $ split ! $
+          move ! (35 ∷ []) $ fsplit ! $ drop ! $ fsplit ! $ drop ! $ fsplit ! $ drop ! $ fsplit ! $ move ! (1 ∷ []) $ fsplit ! $ move ! (37 ∷ []) $ split ! $ move ! (1 ∷ []) $ split ! $
           move ! (1 ∷ 4 ∷ 5 ∷ 2 ∷ 3 ∷ 0 ∷ []) $ drop ! $ drop ! $
           assigns ! (of-opd ! (load ! (from ! (fld ! refl (stop !))) (look-in ! 28 (sub ! 1 refl (whole !))))) (from ! (stop !)) (init ! 20 refl (tt, record { fits = room .0 })) $
           use0 W (raw (CountByte 𝓤 H A mem run .pre (to-count 𝓤 H A mem run n))) (goes-count 𝓤 H A mem run W n n-fits) $
-          calls-at ! (fmOf 𝓤 H (W .laws) 𝓣) (CountByte 𝓤 H A mem run) known-count (to-count 𝓤 H A mem run n) (and-then ! (load ! (from ! (stop !)) (look ! 31 refl)) (no-more !)) (λ v.
+          calls-at ! (fmOf 𝓤 H (W .laws) 𝓣) (CountByte 𝓤 H A mem run) known-count (to-count 𝓤 H A mem run n) (and-then ! (load ! (from ! (stop !)) (look ! 33 refl)) (no-more !)) (λ v.
           use1 W (later (some (λ (m : ℕ). (‵ ftrue ⊛ ‵ (u8 .own m (v ∷ []))) ⊛ raw (ensured 𝓤 H A count-byte.ended (count-byte.clauses 𝓤 H A mem run) tt (n, tt) tt m)))) (id⊢ 𝓤 _) $ await ! tt $ pick ! (λ m.
           split ! $ move ! (1 ∷ []) $ use1 W (raw (fact 𝓤 (m ≡ countByte n))) (count-of 𝓤 H A mem run n m) $ heard ! (m ≡ countByte n) (λ e. split ! $ drop ! $
           peeks ! u8 (Is u8) (shows 𝓤 H A u8) m (v ∷ []) (λ is. drop ! $
           land ! (from ! (stop !)) (init ! 16 refl (uint-lawful 𝓤 H A W w8 .typed m _ is .0)) $
-          rewrite ! 16 (λ (c : Val). ‵ (fat fullShare byte l₉ 0 c)) (ap only (is .0)) refl $
+          rewrite ! 16 (λ (c : Val). ‵ (fat fullShare byte l₁₀ 0 c)) (ap only (is .0)) refl $
           gathers m (is .1) e))))
 
-    walk : ent 𝓤 (onEntry 𝓤 H A call.signature (κ, (κ₁, tt)) (q, (q₁, tt)) a at) (WpFn 𝓤 H C Λ code.function (u ∷ vint w32 n ∷ s ∷ s₁ ∷ []) Post)
+    walk : ent 𝓤 (onEntry 𝓤 H A call.signature (κ, (κ₁, tt)) (q, (q₁, tt)) a at) (WpFn 𝓤 H C Λ code.function (u ∷ vint w32 n ∷ vint w32 mode ∷ s ∷ s₁ ∷ []) Post)
     walk =
         qed W (Tokens ∷ Owned ∷ []) ∵
-        enter ! C Λ code.function (u ∷ vint w32 n ∷ s ∷ s₁ ∷ []) _ $
-        alloc1 ! (λ l₀. alloc1 ! (λ l₁. alloc1 ! (λ l₂. alloc1 ! (λ l₃. alloc1 ! (λ l₄. alloc1 ! (λ l₅. alloc1 ! (λ l₆. alloc1 ! (λ l₇. alloc1 ! (λ l₈. alloc1 ! (λ l₉. alloc1 ! (λ l₁₀. alloc1 ! (λ l₁₁. alloc1 ! (λ l₁₂. alloc1 ! (λ l₁₃. alloc1 ! (λ l₁₄. alloc1 ! (λ l₁₅. alloc0 ! $ params1 ! $
-        pass1 ! (init ! 28 refl (task-typed 𝓤 H A W t u t-is)) $ pass1 ! (init ! 26 refl (tt, record { fits = n-fits })) $
+        enter ! C Λ code.function (u ∷ vint w32 n ∷ vint w32 mode ∷ s ∷ s₁ ∷ []) _ $
+        alloc1 ! (λ l₀. alloc1 ! (λ l₁. alloc1 ! (λ l₂. alloc1 ! (λ l₃. alloc1 ! (λ l₄. alloc1 ! (λ l₅. alloc1 ! (λ l₆. alloc1 ! (λ l₇. alloc1 ! (λ l₈. alloc1 ! (λ l₉. alloc1 ! (λ l₁₀. alloc1 ! (λ l₁₁. alloc1 ! (λ l₁₂. alloc1 ! (λ l₁₃. alloc1 ! (λ l₁₄. alloc1 ! (λ l₁₅. alloc1 ! (λ l₁₆. alloc0 ! $ params1 ! $
+        pass1 ! (init ! 30 refl (task-typed 𝓤 H A W t u t-is)) $ pass1 ! (init ! 28 refl (tt, record { fits = n-fits })) $ pass1 ! (init ! 26 refl (tt, record { fits = mode-fits })) $
         pass1 ! (init ! 24 refl (tt, (tt, (record { fits = room .0 }, tt)))) $ pass1 ! (init ! 22 refl (tt, (tt, (record { fits = room₁ .0 }, tt)))) $ pass0 ! $
-        begins l₀ l₁ l₂ l₃ l₄ l₅ l₆ l₇ l₈ l₉ l₁₀ l₁₁ l₁₂ l₁₃ l₁₄ l₁₅))))))))))))))))
+        begins l₀ l₁ l₂ l₃ l₄ l₅ l₆ l₇ l₈ l₉ l₁₀ l₁₁ l₁₂ l₁₃ l₁₄ l₁₅ l₁₆)))))))))))))))))
 
 module _ {M : Type 1} (𝓤 : URA M) (H : Heap 𝓤) (A : Atoms 𝓤) (W : Given 𝓤 H A) (mem : Memory → SProp 𝓤) (run : Routine → Fun 𝓤) (𝓣 : Tables 𝓤 H)
     (known-count : Triple 𝓤 (𝓣 .C #count-byte) (CountByte 𝓤 H A mem run)) (known-gather : Triple 𝓤 (𝓣 .C #gather) (Gather 𝓤 H A mem run))
@@ -457,17 +460,19 @@ module _ {M : Type 1} (𝓤 : URA M) (H : Heap 𝓤) (A : Atoms 𝓤) (W : Given
   call-walks : Walks 𝓤 H A call.ended stayed (WpFn 𝓤 H (𝓣 .C) (𝓣 .Λ) code.function) (call.clauses 𝓤 H A mem run)
   call-walks =
       walked 𝓤 H A call.ended stayed (call.clauses 𝓤 H A mem run) (WpFn 𝓤 H (𝓣 .C) (𝓣 .Λ) code.function)
-      (λ κs. (EL.vals K.the-type K′.the-laws, (uint-vals w32, (slice-vals, (slice-vals, tt)))))
-      (λ κs. (EL.tells K.the-type K′.the-laws, (uint-tells w32, (mut-slice-tells (named 0) (κs .0) N.the-row, (shr-slice-tells (named 1) (κs .1 .0) u8, tt)))))
+      (λ κs. (EL.vals K.the-type K′.the-laws, (uint-vals w32, (uint-vals w32, (slice-vals, (slice-vals, tt))))))
+      (λ κs. (EL.tells K.the-type K′.the-laws, (uint-tells w32, (uint-tells w32, (mut-slice-tells (named 0) (κs .0) N.the-row, (shr-slice-tells (named 1) (κs .1 .0) u8, tt))))))
       (λ κs qs bounds a g are. via 𝓤 _ (fst∗ 𝓤 _ (emp 𝓤))
-      (walk 𝓤 H A W mem run (κs .0) (κs .1 .0) (qs .0) (qs .1 .0) (a .0) (EL.val K.the-type K′.the-laws (a .0)) (a .1 .0) (a .1 .1 .0 .ptr .0) (a .1 .1 .0 .ptr .1) (a .1 .1 .0 .name) (a .1 .1 .0 .now)
-      (a .1 .1 .1 .0 .ptr .0) (a .1 .1 .1 .0 .ptr .1) (a .1 .1 .1 .0 .name) (a .1 .1 .1 .0 .now) (are .0) (are .1 .0 .1) (are .1 .1 .0 .0 .1) (are .1 .1 .1 .0 .0 .1)
+      (walk 𝓤 H A W mem run (κs .0) (κs .1 .0) (qs .0) (qs .1 .0) (a .0) (EL.val K.the-type K′.the-laws (a .0)) (a .1 .0) (a .1 .1 .0)
+      (a .1 .1 .1 .0 .ptr .0) (a .1 .1 .1 .0 .ptr .1) (a .1 .1 .1 .0 .name) (a .1 .1 .1 .0 .now)
+      (a .1 .1 .1 .1 .0 .ptr .0) (a .1 .1 .1 .1 .0 .ptr .1) (a .1 .1 .1 .1 .0 .name) (a .1 .1 .1 .1 .0 .now)
+      (are .0) (are .1 .0 .1) (are .1 .1 .0 .1) (are .1 .1 .1 .0 .0 .1) (are .1 .1 .1 .1 .0 .0 .1)
       𝓣 known-count known-gather known-answer known-scatter))
 
   call-meets : Meets 𝓤 H A call.signature (WpFn 𝓤 H (𝓣 .C) (𝓣 .Λ) code.function) (call.spec 𝓤 H A mem run)
   call-meets =
       walk-meets 𝓤 H A call.ended stayed W
-      (goes-none 𝓤 H A W 2 (λ _. K.the-row) yes (λ κs x f. refl), (goes-none 𝓤 H A W 2 (λ _. u32) yes (λ κs x f. refl), (goes-slice 𝓤 H A W 2 0 tt (plain (λ _. N.the-row)), (goes-none-slice 𝓤 H A W 2 (1 ∷ []) tt (plain (λ _. u8)) yes, tt))))
+      (goes-none 𝓤 H A W 2 (λ _. K.the-row) yes (λ κs x f. refl), (goes-none 𝓤 H A W 2 (λ _. u32) yes (λ κs x f. refl), (goes-none 𝓤 H A W 2 (λ _. u32) yes (λ κs x f. refl), (goes-slice 𝓤 H A W 2 0 tt (plain (λ _. N.the-row)), (goes-none-slice 𝓤 H A W 2 (1 ∷ []) tt (plain (λ _. u8)) yes, tt)))))
       (call.clauses 𝓤 H A mem run) (WpFn 𝓤 H (𝓣 .C) (𝓣 .Λ) code.function) (WpFn-mono 𝓤 H (W .laws) 𝓣 code.function) call-walks
 
 pub call-spec : {M : Type 1} → stated.statement M

@@ -47,7 +47,7 @@ returns c =
     )
 
 -- the row is not refused
-fitting : (c : tie.Else1) → Fits (start (c .before) .args .n) (start (c .before) .args .len)
+fitting : (c : tie.Else1) → Fits (start (c .before) .args .n) (start (c .before) .args .mode) (start (c .before) .args .len)
 fitting c = row-fits _ _ _ _ _ (sym (looked (c .before)) ∙ c .if1 .left)
 
 cycle-refusal-requires : tie.Need-cycle-refusal-requires

@@ -31,6 +31,8 @@ pub enum Mistake {
     EntersWithoutRequest,
     /// no request after a set that changed while V was M
     ChangedSetWithoutRequest,
+    /// no request after a V that differed while the set stayed: only votes that condition 10 would refuse lead there
+    DifferedViewWithoutRequest,
     /// whoever requested once goes on requesting
     RequestNeverEnds,
 
@@ -52,13 +54,14 @@ pub enum Mistake {
 impl Mistake {
     /// those of the paper, and those of request 3
     pub const OF_PAPER: [Mistake; 4] = [Mistake::QuorumOverSet, Mistake::SetFromHeartbeats, Mistake::JoinIsSignOfLife, Mistake::JoinerBelievesFirst];
-    pub const OF_QUIET: [Mistake; 13] = [
+    pub const OF_QUIET: [Mistake; 14] = [
         Mistake::OwnRequestIgnored,
         Mistake::AnyRequestWakes,
         Mistake::ViewDoesNotWake,
         Mistake::AlwaysRests,
         Mistake::EntersWithoutRequest,
         Mistake::ChangedSetWithoutRequest,
+        Mistake::DifferedViewWithoutRequest,
         Mistake::RequestNeverEnds,
         Mistake::SilentNeverHalts,
         Mistake::SilentHaltsWithReason1,
@@ -228,7 +231,7 @@ fn silent_members(own: &Vote, counted: &[Option<Vote>], rules: Rules) -> Set {
 
 /// Request 3. "It requests in the cycle after one in which its V differed from M, its set changed"
 fn goes_on(own: &Vote, requested: bool, group: Group, rules: Rules) -> State {
-    let differed = own.view != own.group.set;
+    let differed = own.view != own.group.set && !rules.have(Mistake::DifferedViewWithoutRequest);
     let changed = group.set != own.group.set && !rules.have(Mistake::ChangedSetWithoutRequest);
     let never_ends = requested && rules.have(Mistake::RequestNeverEnds);
     State::Member { group, request: rules.rest() && (differed || changed || never_ends) }
