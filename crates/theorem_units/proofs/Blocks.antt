@@ -75,16 +75,20 @@ write-keeps-state κs a r s l b c = ap (take 24) (l .1) ∙ go (eqb (stepStatus 
     go false z = ap (take 24) (refused-left t x (eqb-false (stepStatus t x) 0 z))
 
 -- a command is rule 1 on that state
+rule-told : (t : Step) (stop start : Bool) (x y : List ℕ) (d : Did t x y) → stepped t (d .machine) .node ≡ stoppedAndStarted stop start (d .machine .node)
+    → (0 ≡ imageStatus (modeOf t) (take 24 x)) × (take 24 y ≡ ruleOneOf stop start (lentState (modeOf t) (take 24 x)) (take 24 x))
+unfolding imageStatus
+rule-told t stop start x y d rule =
+    let found : lentState (modeOf t) (take 24 x) ≡ Holds (d .machine .node) = state-lent (modeOf t) (take 24 x) (d .machine .node) (d .moded) (d .held) in
+    (sym (ap statusOf found), d .state ∙ ap imageOf rule ∙ sym (ap (λ (n : Lent). ruleOneOf stop start n (take 24 x)) found))
+
 command-told : (v : ℕ) (stop start : Bool) → ((n : Node) → commanded v n ≡ stoppedAndStarted stop start n) → (mode : ℕ) (x y : List ℕ) → Commands v mode x y
     → (0 ≡ imageStatus mode x) × (y ≡ ruleOneOf stop start (lentState mode x) x)
-unfolding imageStatus written
+unfolding written
 command-told v stop start rule mode x y (command κs a r s l z p q) =
-    let d = did (Write mode 27 v) (now (a .1 .0)) (now (s .1 .0)) r
-    (l .0 ∙ ap₂ (λ (i w : ℕ). stepStatus (Write mode i w) (now (a .1 .0))) p q) (l .1 ∙ ap₂ (λ (i w : ℕ). stepLeft (Write mode i w) (now (a .1 .0))) p q) z in
-    let found : lentState mode x ≡ Holds (d .machine .node) = state-lent mode x (d .machine .node) (d .moded) (d .held) in (
-      sym (ap statusOf found),
-      d .state ∙ ap imageOf (rule (d .machine .node)) ∙ sym (ap (λ (n : Lent). ruleOneOf stop start n x) found),
-    )
+    let before = now (a .1 .0) in
+    let d = did (Write mode 27 v) before (now (s .1 .0)) r (l .0 ∙ ap₂ (λ (i w : ℕ). stepStatus (Write mode i w) before) p q) (l .1 ∙ ap₂ (λ (i w : ℕ). stepLeft (Write mode i w) before) p q) z in
+    rule-told (Write mode 27 v) stop start before (now (s .1 .0)) d (rule (d .machine .node))
 
 -- a cycle, alone or with a write that is no command, decides as `gm_decide` does
 module _ (t : Step) (heard0 heard1 requests : ℕ) (votes : List ℕ) (arrived : ℕ) (x y : List ℕ) (d : Did t x y) where
