@@ -34,7 +34,7 @@ use Rattle.entry_send_vote.specs.Voting.{requestsHeard, votesOn}
 use Rattle.entry_decide.specs.Decide.{decision}
 use Rattle.entry_slots.specs.Slots.{bufferBallots}
 use Rattle.theorem_unit_calls.specs.Entries.{Frame, Entries, Within, byDefinition}
-use Rattle.theorem_unit_calls.specs.Cycle.{Stops, by-stop, by-begin, not-stopped, Starts, by-start, not-started, In, Silent, UnitDone, Wrote, sends}
+use Rattle.theorem_unit_calls.specs.Cycle.{Stops, by-stop, by-begin, not-stopped, Starts, by-start, not-started, In, Silent, InMasks, UnitDone, Wrote, sends}
 use Rattle.theorem_unit_calls.proofs.Buffer.{Held, collected, silent, ballots-held}
 use Rattle.theorem_unit_calls.proofs.Calls.{nodeIn, imageIn, Gives, given-wrote, given-sends, beat-speaks, vote-speaks, alive-code, join-code, request-code, request-alive, hears-bit, hears-self, voteBy, begin-stops, moded, stop-gives, start-gives, beat-gives, beat-bounds, vote-gives, decide-gives}
 
@@ -115,16 +115,15 @@ module _ (E : Entries) (told : Within E byDefinition) (mode n q : ℕ) (place : 
         r : HeartbeatReceived
         r = got p
 
-        go : ((heard : ℕ) × E .receive-heartbeat n mode p count (bus .heartbeats p q 0) (bus .heartbeats p q 1) heard
-            × (has p (d .heard0) ≡ (eqb heard 1 || eqb heard 3)) × (has p (d .heard1) ≡ eqb heard 2) × (has p (d .requests) ≡ eqb heard 3))
+        go : ((heard : ℕ) × E .receive-heartbeat n mode p count (bus .heartbeats p q 0) (bus .heartbeats p q 1) heard × InMasks heard p (d .heard0) (d .heard1) (d .requests))
             ⊎ (Silent (bus .heartbeats p q) × (has p (d .heard0) ≡ false) × (has p (d .heard1) ≡ false))
             → (has p (d .heard0) ≡ isAlive r) × (has p (d .heard1) ≡ isJoin r) × ((has p (d .heard0) && has p (d .requests)) ≡ isRequest r)
         go (inl k) =
             let t = told .receive-heartbeat n mode p count (bus .heartbeats p q 0) (bus .heartbeats p q 1) (k .0) (k .1) .lower in
             let h : k .0 ≡ heardCode r = t .3 ∙ unless-done (receiveHeartbeatStatus n mode p count (t .0)) (heardCode r) (t .1) (sym (t .2)) in
-            let alive = k .2 ∙ ap (λ (x : ℕ). eqb x 1 || eqb x 3) h ∙ alive-code r in
-            let asked = k .4 ∙ ap (λ (x : ℕ). eqb x 3) h ∙ request-code r in
-            (alive, k .3 ∙ ap (λ (x : ℕ). eqb x 2) h ∙ join-code r, ap₂ (λ (a b : Bool). a && b) alive asked ∙ request-alive r)
+            let alive = k .2 .0 ∙ ap (λ (x : ℕ). eqb x 1 || eqb x 3) h ∙ alive-code r in
+            let asked = k .2 .2 ∙ ap (λ (x : ℕ). eqb x 3) h ∙ request-code r in
+            (alive, k .2 .1 ∙ ap (λ (x : ℕ). eqb x 2) h ∙ join-code r, ap₂ (λ (a b : Bool). a && b) alive asked ∙ request-alive r)
         go (inr k) =
             let m : r ≡ Missed = silent-heartbeat quiet count p (bus .heartbeats p q) (k .0) in
             (k .1 ∙ sym (ap isAlive m), k .2 ∙ sym (ap isJoin m), ap (λ (b : Bool). b && has p (d .requests)) (k .1) ∙ sym (ap isRequest m))

@@ -132,6 +132,11 @@ begin-gives n q F y k =
 pub begin-stops : (n q F : ℕ) (y : List ℕ) → has q F ≡ false → byDefinition .begin n q F y → y ≡ imageIn n q stopped
 begin-stops n q F y o k = begin-gives n q F y k ∙ ap (λ (b : Bool). imageIn n q (cond b (Member (foundingGroup 0 F) false) stopped)) o
 
+-- an image that is read in a mode that there is
+pub state-lent : (mode : ℕ) (x : List ℕ) (node : Node) → wrongMode mode ≡ false → decoded (quietIn mode) x ≡ Good node → lentState mode x ≡ Holds node
+unfolding lentState
+state-lent mode x node e f = ap₂ (λ (wrong : Bool) (d : Decoded). cond wrong (Refused 2) (inImage d)) e f
+
 -- who is accepted with an image gave a mode
 pub moded : (mode : ℕ) (x : List ℕ) → 0 ≡ imageStatus mode x → wrongMode mode ≡ false
 unfolding imageStatus lentState
@@ -153,8 +158,7 @@ module _ (mode n q : ℕ) (s : State) (place : formedPlace q n ≡ true) (w : fo
   image-back = round-trip quiet (nodeIn n q s) (and-i (formedPlace q n) (formedState quiet q n s) place w)
 
   pub image-lent : wrongMode mode ≡ false → lentState mode x ≡ Holds (nodeIn n q s)
-  unfolding lentState
-  image-lent e = ap₂ (λ (wrong : Bool) (d : Decoded). cond wrong (Refused 2) (inImage d)) e image-back
+  image-lent e = state-lent mode x (nodeIn n q s) e image-back
 
   pub stop-gives : wrongMode mode ≡ false → stopLeft mode x ≡ imageIn n q (stopAndStart true false s)
   unfolding stopLeft

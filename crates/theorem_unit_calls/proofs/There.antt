@@ -211,9 +211,11 @@ module _ (drive : ℕ → List ℕ) (writable : (q : ℕ) → wrongDrive (drive 
             inl (
               heardCode (r p),
               had .receive-heartbeat n mode p count _ _ _ (lift (replicate 252 0, 0, good, sym (unless-done (receiveHeartbeatStatus n mode p count (replicate 252 0)) (heardCode (r p)) 0 (sym good)))),
-              hears-bit C count (bus .heartbeats) isAlive p q k o ∙ sym (alive-code (r p)),
-              hears-bit C count (bus .heartbeats) isJoin p q k o ∙ sym (join-code (r p)),
-              hears-bit C count (bus .heartbeats) isRequest p q k o ∙ sym (request-code (r p)),
+              (
+                hears-bit C count (bus .heartbeats) isAlive p q k o ∙ sym (alive-code (r p)),
+                hears-bit C count (bus .heartbeats) isJoin p q k o ∙ sym (join-code (r p)),
+                hears-bit C count (bus .heartbeats) isRequest p q k o ∙ sym (request-code (r p)),
+              ),
             );
         vote = voteFrames q;
         casts = λ channel k.

@@ -44,6 +44,10 @@ In p (q ∷ qs) = (p ≡ q) ⊎ In p qs
 abbrev pub Silent : (ℕ → List ℕ) → Type 0
 Silent copies = (copies 0 ≡ []) × (copies 1 ≡ [])
 
+-- the bits of unit p in the masks, by what was heard of it: 1 goes into heard0, 2 into heard1, and 3 into heard0 and into requests
+abbrev pub InMasks : (heard p heard0 heard1 requests : ℕ) → Type 0
+InMasks heard p heard0 heard1 requests = (has p heard0 ≡ (eqb heard 1 || eqb heard 3)) × (has p heard1 ≡ eqb heard 2) × (has p requests ≡ eqb heard 3)
+
 -- The calls of unit q in a cycle of n units, in the order of the header; `stop` and `start` are who is stopped and who is started, x is its image before, z after.
 pub record UnitDone (E : Entries) (mode n count stop start : ℕ) (bus : Bus) (q : ℕ) (x z : List ℕ) : Type 1 where
   pub between : List ℕ
@@ -56,14 +60,13 @@ pub record UnitDone (E : Entries) (mode n count stop start : ℕ) (bus : Bus) (q
   pub startup : ℕ → ℕ
   pub heartbeat : ℕ → Frame
   pub beats : (channel : ℕ) → channel < 2 → E .send-heartbeat mode ruled (sync channel) (startup channel) count channel drive (heartbeat channel)
-  -- For every other unit, in any order: the bits of heard0, heard1 and requests are what the call answers, 3 in heard0 and in requests; those of heard0 and heard1 are
-  -- clear where nothing came and no call was made, and a bit of requests without that of heard0 counts for nothing.
+  -- For every other unit, in any order: its bits in the masks are what the call answers. Where nothing came and no call was made, those of heard0 and heard1 are clear; a
+  -- bit of requests without that of heard0 counts for nothing.
   pub heard0 : ℕ
   pub heard1 : ℕ
   pub requests : ℕ
   pub hears : (p : ℕ) → p < n → eqb p q ≡ false
-      → ((heard : ℕ) × E .receive-heartbeat n mode p count (bus .heartbeats p q 0) (bus .heartbeats p q 1) heard
-      × (has p heard0 ≡ (eqb heard 1 || eqb heard 3)) × (has p heard1 ≡ eqb heard 2) × (has p requests ≡ eqb heard 3))
+      → ((heard : ℕ) × E .receive-heartbeat n mode p count (bus .heartbeats p q 0) (bus .heartbeats p q 1) heard × InMasks heard p heard0 heard1 requests)
       ⊎ (Silent (bus .heartbeats p q) × (has p heard0 ≡ false) × (has p heard1 ≡ false))
   pub vote : ℕ → Frame
   pub casts : (channel : ℕ) → channel < 2 → E .send-vote mode ruled heard0 heard1 requests count channel (vote channel)

@@ -21,7 +21,7 @@ pub record UnitsPromised (mode n F : ℕ) (cs : List Faults) (z : ℕ → List �
   pub states : (q : ℕ) → q < n → z q ≡ imageOf (record { state = at (clusterAfter (inMode mode n) 0 F cs .row) q; id = q; nodes = n })
   pub claims : Demand3 (inMode mode n) 0 F
 
--- Under fault records. Request 3: "All nodes of a press are in the same mode": every call is accepted, and has that mode.
+-- under fault records; request 3: "All nodes of a press are in the same mode": every accepted call has it
 abbrev pub OverUnits : Entries → Type 1
 OverUnits E = (mode n F : ℕ) (cs : List Faults) (x z : ℕ → List ℕ) → Begins E n F x → Pressed E mode n cs x z → UnitsPromised mode n F cs z
 

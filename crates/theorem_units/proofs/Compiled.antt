@@ -54,30 +54,33 @@ decide-code {M} = gm-decide-met.met
 begin-told : (n q F : ℕ) (y : List ℕ) → compiled .begin n q F y → byDefinition .begin n q F y
 begin-told n q F y (begin κs a r s l z) = record { lower = (now (a .1 .1 .1 .0), sym z ∙ l .0, l .1) }
 
-stop-told : (x y : List ℕ) → compiled .stop x y → byDefinition .stop x y
-stop-told x y (stop κs a r s l z) = record { lower = (sym z ∙ l .0, l .1) }
+stop-told : (mode : ℕ) (x y : List ℕ) → compiled .stop mode x y → byDefinition .stop mode x y
+stop-told mode x y (stop κs a r s l z) = record { lower = (sym z ∙ l .0, l .1) }
 
-start-told : (x y : List ℕ) → compiled .start x y → byDefinition .start x y
-start-told x y (start κs a r s l z) = record { lower = (sym z ∙ l .0, l .1) }
+start-told : (mode : ℕ) (x y : List ℕ) → compiled .start mode x y → byDefinition .start mode x y
+start-told mode x y (start κs a r s l z) = record { lower = (sym z ∙ l .0, l .1) }
 
-send-heartbeat-told : (x : List ℕ) (sync startup count channel : ℕ) (drive : List ℕ) (g : Frame) → compiled .send-heartbeat x sync startup count channel drive g
-    → byDefinition .send-heartbeat x sync startup count channel drive g
-send-heartbeat-told x sync startup count channel drive g (send-heartbeat κs a r s l z) =
-    record { lower = (now (a .1 .1 .1 .1 .1 .1 .0), now (a .1 .1 .1 .1 .1 .1 .1 .0), sym z ∙ l .0, l .1 .0, l .1 .1) }
+send-heartbeat-told : (mode : ℕ) (x : List ℕ) (sync startup count channel : ℕ) (drive : List ℕ) (g : Frame) → compiled .send-heartbeat mode x sync startup count channel drive g
+    → byDefinition .send-heartbeat mode x sync startup count channel drive g
+send-heartbeat-told mode x sync startup count channel drive g (send-heartbeat κs a r s l z) =
+    record { lower = (now (a .1 .1 .1 .1 .1 .1 .1 .0), now (a .1 .1 .1 .1 .1 .1 .1 .1 .0), sym z ∙ l .0, l .1 .0, l .1 .1) }
 
-receive-heartbeat-told : (n p count : ℕ) (x y : List ℕ) (heard : ℕ) → compiled .receive-heartbeat n p count x y heard → byDefinition .receive-heartbeat n p count x y heard
-receive-heartbeat-told n p count x y heard (receive-heartbeat κs a r s l z) =
-    record { lower = (now (a .1 .1 .1 .1 .1 .0), now (a .1 .1 .1 .1 .1 .1 .0), sym z ∙ l .0, l .1 .1 .0) }
+receive-heartbeat-told : (n mode p count : ℕ) (x y : List ℕ) (heard : ℕ) → compiled .receive-heartbeat n mode p count x y heard
+    → byDefinition .receive-heartbeat n mode p count x y heard
+receive-heartbeat-told n mode p count x y heard (receive-heartbeat κs a r s l z) =
+    record { lower = (now (a .1 .1 .1 .1 .1 .1 .0), now (a .1 .1 .1 .1 .1 .1 .1 .0), sym z ∙ l .0, l .1 .1 .0) }
 
-send-vote-told : (x : List ℕ) (heard0 heard1 count channel : ℕ) (g : Frame) → compiled .send-vote x heard0 heard1 count channel g → byDefinition .send-vote x heard0 heard1 count channel g
-send-vote-told x heard0 heard1 count channel g (send-vote κs a r s l z) =
-    record { lower = (now (a .1 .1 .1 .1 .1 .0), now (a .1 .1 .1 .1 .1 .1 .0), sym z ∙ l .0, l .1 .0, l .1 .1) }
+send-vote-told : (mode : ℕ) (x : List ℕ) (heard0 heard1 requests count channel : ℕ) (g : Frame) → compiled .send-vote mode x heard0 heard1 requests count channel g
+    → byDefinition .send-vote mode x heard0 heard1 requests count channel g
+send-vote-told mode x heard0 heard1 requests count channel g (send-vote κs a r s l z) =
+    record { lower = (now (a .1 .1 .1 .1 .1 .1 .1 .0), now (a .1 .1 .1 .1 .1 .1 .1 .1 .0), sym z ∙ l .0, l .1 .0, l .1 .1) }
 
 receive-vote-told : (n p count : ℕ) (x y t : List ℕ) (m : ℕ) (u : List ℕ) (k : ℕ) → compiled .receive-vote n p count x y t m u k → byDefinition .receive-vote n p count x y t m u k
 receive-vote-told n p count x y t m u k (receive-vote κs a r s l z) = record { lower = (sym z ∙ l .0, l .1 .0, l .1 .1) }
 
-decide-told : (x : List ℕ) (heard0 heard1 : ℕ) (votes : List ℕ) (arrived : ℕ) (y : List ℕ) → compiled .decide x heard0 heard1 votes arrived y → byDefinition .decide x heard0 heard1 votes arrived y
-decide-told x heard0 heard1 votes arrived y (decide κs a r s l z) = record { lower = (sym z ∙ l .0, l .1) }
+decide-told : (mode : ℕ) (x : List ℕ) (heard0 heard1 requests : ℕ) (votes : List ℕ) (arrived : ℕ) (y : List ℕ) → compiled .decide mode x heard0 heard1 requests votes arrived y
+    → byDefinition .decide mode x heard0 heard1 requests votes arrived y
+decide-told mode x heard0 heard1 requests votes arrived y (decide κs a r s l z) = record { lower = (sym z ∙ l .0, l .1) }
 
 pub told : Within compiled byDefinition
 told =
@@ -102,22 +105,23 @@ pub had : Within byDefinition compiled
 had =
     record {
       begin = λ n q F y k. begin ([], tt) (n, (q, (F, (ref (k .lower .0), tt)))) 0 (n, (q, (F, (ref y, tt)))) (k .lower .1, k .lower .2) refl;
-      stop = λ x y k. stop ([], tt) (ref x, tt) 0 (ref y, tt) (k .lower .0, k .lower .1) refl;
-      start = λ x y k. start ([], tt) (ref x, tt) 0 (ref y, tt) (k .lower .0, k .lower .1) refl;
-      send-heartbeat = λ x sync startup count channel drive g k.
-          send-heartbeat ([], ([], ([], ([], tt)))) (ref x, (sync, (startup, (count, (channel, (ref drive, (ref (k .lower .0), (ref (k .lower .1), tt)))))))) 0
-          (ref x, (sync, (startup, (count, (channel, (ref drive, (ref (g .bytes), (ref (g .sent), tt)))))))) (k .lower .2, (k .lower .3, k .lower .4)) refl;
-      receive-heartbeat = λ n p count x y heard k.
+      stop = λ mode x y k. stop ([], tt) (mode, (ref x, tt)) 0 (mode, (ref y, tt)) (k .lower .0, k .lower .1) refl;
+      start = λ mode x y k. start ([], tt) (mode, (ref x, tt)) 0 (mode, (ref y, tt)) (k .lower .0, k .lower .1) refl;
+      send-heartbeat = λ mode x sync startup count channel drive g k.
+          send-heartbeat ([], ([], ([], ([], tt)))) (mode, (ref x, (sync, (startup, (count, (channel, (ref drive, (ref (k .lower .0), (ref (k .lower .1), tt))))))))) 0
+          (mode, (ref x, (sync, (startup, (count, (channel, (ref drive, (ref (g .bytes), (ref (g .sent), tt))))))))) (k .lower .2, (k .lower .3, k .lower .4)) refl;
+      receive-heartbeat = λ n mode p count x y heard k.
           let d = k .lower .0 in
-          receive-heartbeat ([], ([], ([], ([], ([], tt))))) (n, (p, (count, (ref x, (ref y, (ref d, (ref (k .lower .1), (ref 0, tt)))))))) 0
-          (n, (p, (count, (ref x, (ref y, (ref (receiveHeartbeatDrive n p count x y d), (ref heard, (ref (receiveHeartbeatDriveBytes n p count x y d 0), tt))))))))
+          receive-heartbeat ([], ([], ([], ([], ([], tt))))) (n, (mode, (p, (count, (ref x, (ref y, (ref d, (ref (k .lower .1), (ref 0, tt))))))))) 0
+          (n, (mode, (p, (count, (ref x, (ref y, (ref (receiveHeartbeatDrive n mode p count x y d), (ref heard, (ref (receiveHeartbeatDriveBytes n mode p count x y d 0), tt)))))))))
           (k .lower .2, (refl, (k .lower .3, refl))) refl;
-      send-vote = λ x heard0 heard1 count channel g k.
-          send-vote ([], ([], ([], tt))) (ref x, (heard0, (heard1, (count, (channel, (ref (k .lower .0), (ref (k .lower .1), tt))))))) 0
-          (ref x, (heard0, (heard1, (count, (channel, (ref (g .bytes), (ref (g .sent), tt))))))) (k .lower .2, (k .lower .3, k .lower .4)) refl;
+      send-vote = λ mode x heard0 heard1 requests count channel g k.
+          send-vote ([], ([], ([], tt))) (mode, (ref x, (heard0, (heard1, (requests, (count, (channel, (ref (k .lower .0), (ref (k .lower .1), tt))))))))) 0
+          (mode, (ref x, (heard0, (heard1, (requests, (count, (channel, (ref (g .bytes), (ref (g .sent), tt))))))))) (k .lower .2, (k .lower .3, k .lower .4)) refl;
       receive-vote = λ n p count x y t m u l k.
           receive-vote ([], ([], ([], ([], tt)))) (n, (p, (count, (ref x, (ref y, (ref t, (ref m, tt))))))) 0 (n, (p, (count, (ref x, (ref y, (ref u, (ref l, tt)))))))
           (k .lower .0, (k .lower .1, k .lower .2)) refl;
-      decide = λ x heard0 heard1 votes arrived y k.
-          decide ([], ([], tt)) (ref x, (heard0, (heard1, (ref votes, (arrived, tt))))) 0 (ref y, (heard0, (heard1, (ref votes, (arrived, tt))))) (k .lower .0, k .lower .1) refl;
+      decide = λ mode x heard0 heard1 requests votes arrived y k.
+          decide ([], ([], tt)) (mode, (ref x, (heard0, (heard1, (requests, (ref votes, (arrived, tt))))))) 0 (mode, (ref y, (heard0, (heard1, (requests, (ref votes, (arrived, tt)))))))
+          (k .lower .0, k .lower .1) refl;
     }

@@ -7,6 +7,7 @@ use Prim.Native.Nat.{ℕ, _≤_}
 use lib.Dec.{eqb}
 use Rattle.sets.specs.Sets.{below}
 use Rattle.rules.specs.declared.Faults.{Faults}
+use Rattle.rules.specs.OneCycle.{wrongMode}
 use Rattle.rules.specs.Faults.{founding}
 use Rattle.frames.specs.Written.{wrongDrive}
 use Rattle.theorem_unit_calls.specs.Cycle.{Pressed, Driven, SoundPressed}
@@ -23,16 +24,18 @@ compiled-units = over-units compiled told
 pub compiled-any-bus : OverAnyBus compiled
 compiled-any-bus = over-any-bus compiled told
 
--- the premises can be met: for every founding set, list of fault records and choice of drive bytes there is such a press
-pub compiled-there : (n F : ℕ) (cs : List Faults) (drive : (k q : ℕ) → List ℕ) → 2 ≤ n → n ≤ 64 → eqb F 0 ≡ false → below n F ≡ F → ((k q : ℕ) → wrongDrive (drive k q) ≡ false)
-    → (x : ℕ → List ℕ) × (z : ℕ → List ℕ) × Begins compiled n F x × (k : Pressed compiled n cs x z) × Lift {0, 1} (Driven drive 1 k)
+-- the premises can be met: for every mode, founding set, list of fault records and choice of drive bytes there is such a press
+pub compiled-there : (mode n F : ℕ) (cs : List Faults) (drive : (k q : ℕ) → List ℕ) → wrongMode mode ≡ false → 2 ≤ n → n ≤ 64 → eqb F 0 ≡ false → below n F ≡ F
+    → ((k q : ℕ) → wrongDrive (drive k q) ≡ false)
+    → (x : ℕ → List ℕ) × (z : ℕ → List ℕ) × Begins compiled n F x × (k : Pressed compiled mode n cs x z) × Lift {0, 1} (Driven drive 1 k)
 compiled-there = press-there compiled had
 
 -- and where nobody knows the records: the same press, cycle by cycle with the same units stopped and started, under the records of what came
-pub compiled-sound-there : (n F : ℕ) (cs : List Faults) (drive : (k q : ℕ) → List ℕ) → 2 ≤ n → n ≤ 64 → eqb F 0 ≡ false → below n F ≡ F → ((k q : ℕ) → wrongDrive (drive k q) ≡ false)
-    → (x : ℕ → List ℕ) × (z : ℕ → List ℕ) × Begins compiled n F x × ((k : Pressed compiled n cs x z) × Lift {0, 1} (Driven drive 1 k))
-    × (ds : List Faults) × SameRuleOne cs ds × SoundPressed compiled n (founding n 0 F) ds x z
-compiled-sound-there n F cs drive two few some-founder founders writable =
-    let press = compiled-there n F cs drive two few some-founder founders writable in
-    let sound = pressed-sound compiled n (founding n 0 F) cs (press .0) (press .1) (press .3) in
+pub compiled-sound-there : (mode n F : ℕ) (cs : List Faults) (drive : (k q : ℕ) → List ℕ) → wrongMode mode ≡ false → 2 ≤ n → n ≤ 64 → eqb F 0 ≡ false → below n F ≡ F
+    → ((k q : ℕ) → wrongDrive (drive k q) ≡ false)
+    → (x : ℕ → List ℕ) × (z : ℕ → List ℕ) × Begins compiled n F x × ((k : Pressed compiled mode n cs x z) × Lift {0, 1} (Driven drive 1 k))
+    × (ds : List Faults) × SameRuleOne cs ds × SoundPressed compiled mode n (founding n 0 F) ds x z
+compiled-sound-there mode n F cs drive accepted two few some-founder founders writable =
+    let press = compiled-there mode n F cs drive accepted two few some-founder founders writable in
+    let sound = pressed-sound compiled mode n (founding n 0 F) cs (press .0) (press .1) (press .3) in
     (press .0, press .1, press .2, (press .3, press .4), sound .0, sound .1, sound .2)

@@ -12,17 +12,19 @@ use Rattle.gm.proofs.gm_register_write.Reads as gm-register-write
 use Rattle.gm.proofs.gm_register_cycle.Reads as gm-register-cycle
 use Rattle.gm.proofs.gm_register_write_cycle.Reads as gm-register-write-cycle
 
--- gm_register_write(block, address, value): a command, from state to state
-pub data Commands (v : ℕ) : (x y : List ℕ) → Type 1 where
-  command : (κs : _) (a : _) (r : _) (s : _) → gm-register-write.Learnt κs a r s → r ≡ 0 → a .1 .0 ≡ 27 → a .1 .1 .0 ≡ v → Commands v (take 24 (now (a .0))) (take 24 (now (s .0)))
+-- gm_register_write(mode, block, address, value): a command, from state to state
+pub data Commands (v : ℕ) : (mode : ℕ) (x y : List ℕ) → Type 1 where
+  command : (κs : _) (a : _) (r : _) (s : _) → gm-register-write.Learnt κs a r s → r ≡ 0 → a .1 .1 .0 ≡ 27 → a .1 .1 .1 .0 ≡ v
+      → Commands v (a .0) (take 24 (now (a .1 .0))) (take 24 (now (s .1 .0)))
 
--- gm_register_cycle(block, heard0, heard1, votes, arrived); gm_register_write_cycle(block, address, value, heard0, heard1, votes, arrived), where the write is no command:
--- one that comes with the cycle comes after the frames of that cycle
-pub data Cycles : (x : List ℕ) (heard0 heard1 : ℕ) (votes : List ℕ) (arrived : ℕ) (y : List ℕ) → Type 1 where
+-- gm_register_cycle(mode, block, heard0, heard1, requests, votes, arrived); gm_register_write_cycle(mode, block, address, value, heard0, heard1, requests, votes, arrived),
+-- where the write is no command: one that comes with the cycle comes after the frames of that cycle
+pub data Cycles : (mode : ℕ) (x : List ℕ) (heard0 heard1 requests : ℕ) (votes : List ℕ) (arrived : ℕ) (y : List ℕ) → Type 1 where
   alone : (κs : _) (a : _) (r : _) (s : _) → gm-register-cycle.Learnt κs a r s → r ≡ 0
-      → Cycles (take 24 (now (a .0))) (a .1 .0) (a .1 .1 .0) (now (a .1 .1 .1 .0)) (a .1 .1 .1 .1 .0) (take 24 (now (s .0)))
-  with-a-write : (κs : _) (a : _) (r : _) (s : _) → gm-register-write-cycle.Learnt κs a r s → r ≡ 0 → (a .1 .0 ≡ 27 → ⊥)
-      → Cycles (take 24 (now (a .0))) (a .1 .1 .1 .0) (a .1 .1 .1 .1 .0) (now (a .1 .1 .1 .1 .1 .0)) (a .1 .1 .1 .1 .1 .1 .0) (take 24 (now (s .0)))
+      → Cycles (a .0) (take 24 (now (a .1 .0))) (a .1 .1 .0) (a .1 .1 .1 .0) (a .1 .1 .1 .1 .0) (now (a .1 .1 .1 .1 .1 .0)) (a .1 .1 .1 .1 .1 .1 .0) (take 24 (now (s .1 .0)))
+  with-a-write : (κs : _) (a : _) (r : _) (s : _) → gm-register-write-cycle.Learnt κs a r s → r ≡ 0 → (a .1 .1 .0 ≡ 27 → ⊥)
+      → Cycles (a .0) (take 24 (now (a .1 .0))) (a .1 .1 .1 .1 .0) (a .1 .1 .1 .1 .1 .0) (a .1 .1 .1 .1 .1 .1 .0) (now (a .1 .1 .1 .1 .1 .1 .1 .0)) (a .1 .1 .1 .1 .1 .1 .1 .1 .0)
+      (take 24 (now (s .1 .0)))
 
 abbrev pub inBlocks : Entries
 inBlocks =

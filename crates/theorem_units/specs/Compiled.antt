@@ -19,28 +19,29 @@ use Rattle.gm.proofs.gm_decide.Reads as gm-decide
 pub data Begin : (n q F : ℕ) (y : List ℕ) → Type 1 where
   begin : (κs : _) (a : _) (r : _) (s : _) → gm-begin.Learnt κs a r s → r ≡ 0 → Begin (a .0) (a .1 .0) (a .1 .1 .0) (now (s .1 .1 .1 .0))
 
--- gm_stop(state), gm_start(state)
-pub data Stop : (x y : List ℕ) → Type 1 where
-  stop : (κs : _) (a : _) (r : _) (s : _) → gm-stop.Learnt κs a r s → r ≡ 0 → Stop (now (a .0)) (now (s .0))
+-- gm_stop(mode, state), gm_start(mode, state)
+pub data Stop : (mode : ℕ) (x y : List ℕ) → Type 1 where
+  stop : (κs : _) (a : _) (r : _) (s : _) → gm-stop.Learnt κs a r s → r ≡ 0 → Stop (a .0) (now (a .1 .0)) (now (s .1 .0))
 
-pub data Start : (x y : List ℕ) → Type 1 where
-  start : (κs : _) (a : _) (r : _) (s : _) → gm-start.Learnt κs a r s → r ≡ 0 → Start (now (a .0)) (now (s .0))
+pub data Start : (mode : ℕ) (x y : List ℕ) → Type 1 where
+  start : (κs : _) (a : _) (r : _) (s : _) → gm-start.Learnt κs a r s → r ≡ 0 → Start (a .0) (now (a .1 .0)) (now (s .1 .0))
 
--- gm_send_heartbeat(state, sync, startup, cycle, channel, drive, frame, sent)
-pub data SendHeartbeat : (x : List ℕ) (sync startup count channel : ℕ) (drive : List ℕ) (g : Frame) → Type 1 where
+-- gm_send_heartbeat(mode, state, sync, startup, cycle, channel, drive, frame, sent)
+pub data SendHeartbeat : (mode : ℕ) (x : List ℕ) (sync startup count channel : ℕ) (drive : List ℕ) (g : Frame) → Type 1 where
   send-heartbeat : (κs : _) (a : _) (r : _) (s : _) → gm-send-heartbeat.Learnt κs a r s → r ≡ 0
-      → SendHeartbeat (now (a .0)) (a .1 .0) (a .1 .1 .0) (a .1 .1 .1 .0) (a .1 .1 .1 .1 .0) (now (a .1 .1 .1 .1 .1 .0))
-      (record { bytes = now (s .1 .1 .1 .1 .1 .1 .0); sent = now (s .1 .1 .1 .1 .1 .1 .1 .0) })
+      → SendHeartbeat (a .0) (now (a .1 .0)) (a .1 .1 .0) (a .1 .1 .1 .0) (a .1 .1 .1 .1 .0) (a .1 .1 .1 .1 .1 .0) (now (a .1 .1 .1 .1 .1 .1 .0))
+      (record { bytes = now (s .1 .1 .1 .1 .1 .1 .1 .0); sent = now (s .1 .1 .1 .1 .1 .1 .1 .1 .0) })
 
--- gm_receive_heartbeat(n, node, cycle, a, b, drive, heard, drive_bytes)
-pub data ReceiveHeartbeat : (n p count : ℕ) (x y : List ℕ) (heard : ℕ) → Type 1 where
+-- gm_receive_heartbeat(n, mode, node, cycle, a, b, drive, heard, drive_bytes)
+pub data ReceiveHeartbeat : (n mode p count : ℕ) (x y : List ℕ) (heard : ℕ) → Type 1 where
   receive-heartbeat : (κs : _) (a : _) (r : _) (s : _) → gm-receive-heartbeat.Learnt κs a r s → r ≡ 0
-      → ReceiveHeartbeat (a .0) (a .1 .0) (a .1 .1 .0) (now (a .1 .1 .1 .0)) (now (a .1 .1 .1 .1 .0)) (now (s .1 .1 .1 .1 .1 .1 .0))
+      → ReceiveHeartbeat (a .0) (a .1 .0) (a .1 .1 .0) (a .1 .1 .1 .0) (now (a .1 .1 .1 .1 .0)) (now (a .1 .1 .1 .1 .1 .0)) (now (s .1 .1 .1 .1 .1 .1 .1 .0))
 
--- gm_send_vote(state, heard0, heard1, cycle, channel, frame, sent)
-pub data SendVote : (x : List ℕ) (heard0 heard1 count channel : ℕ) (g : Frame) → Type 1 where
+-- gm_send_vote(mode, state, heard0, heard1, requests, cycle, channel, frame, sent)
+pub data SendVote : (mode : ℕ) (x : List ℕ) (heard0 heard1 requests count channel : ℕ) (g : Frame) → Type 1 where
   send-vote : (κs : _) (a : _) (r : _) (s : _) → gm-send-vote.Learnt κs a r s → r ≡ 0
-      → SendVote (now (a .0)) (a .1 .0) (a .1 .1 .0) (a .1 .1 .1 .0) (a .1 .1 .1 .1 .0) (record { bytes = now (s .1 .1 .1 .1 .1 .0); sent = now (s .1 .1 .1 .1 .1 .1 .0) })
+      → SendVote (a .0) (now (a .1 .0)) (a .1 .1 .0) (a .1 .1 .1 .0) (a .1 .1 .1 .1 .0) (a .1 .1 .1 .1 .1 .0) (a .1 .1 .1 .1 .1 .1 .0)
+      (record { bytes = now (s .1 .1 .1 .1 .1 .1 .1 .0); sent = now (s .1 .1 .1 .1 .1 .1 .1 .1 .0) })
 
 -- gm_receive_vote(n, node, cycle, a, b, votes, arrived)
 pub data ReceiveVote : (n p count : ℕ) (x y t : List ℕ) (m : ℕ) (u : List ℕ) (k : ℕ) → Type 1 where
@@ -48,10 +49,10 @@ pub data ReceiveVote : (n p count : ℕ) (x y t : List ℕ) (m : ℕ) (u : List 
       → ReceiveVote (a .0) (a .1 .0) (a .1 .1 .0) (now (a .1 .1 .1 .0)) (now (a .1 .1 .1 .1 .0)) (now (a .1 .1 .1 .1 .1 .0)) (now (a .1 .1 .1 .1 .1 .1 .0))
       (now (s .1 .1 .1 .1 .1 .0)) (now (s .1 .1 .1 .1 .1 .1 .0))
 
--- gm_decide(state, heard0, heard1, votes, arrived)
-pub data Decide : (x : List ℕ) (heard0 heard1 : ℕ) (votes : List ℕ) (arrived : ℕ) (y : List ℕ) → Type 1 where
+-- gm_decide(mode, state, heard0, heard1, requests, votes, arrived)
+pub data Decide : (mode : ℕ) (x : List ℕ) (heard0 heard1 requests : ℕ) (votes : List ℕ) (arrived : ℕ) (y : List ℕ) → Type 1 where
   decide : (κs : _) (a : _) (r : _) (s : _) → gm-decide.Learnt κs a r s → r ≡ 0
-      → Decide (now (a .0)) (a .1 .0) (a .1 .1 .0) (now (a .1 .1 .1 .0)) (a .1 .1 .1 .1 .0) (now (s .0))
+      → Decide (a .0) (now (a .1 .0)) (a .1 .1 .0) (a .1 .1 .1 .0) (a .1 .1 .1 .1 .0) (now (a .1 .1 .1 .1 .1 .0)) (a .1 .1 .1 .1 .1 .1 .0) (now (s .1 .0))
 
 abbrev pub compiled : Entries
 compiled =
