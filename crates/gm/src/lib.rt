@@ -89,7 +89,17 @@ pub extern "C" fn gm_write_heartbeat(
     ensures { λ _. ⌜ now (frame .exit) ≡ writeHeartbeatLeft n mode node join request sync startup cycle channel (now (drive .entry)) (now (frame .entry)) ⌝ }
 {
     entry_write_heartbeat::write(
-        n, mode, node, join, request, sync, startup, cycle, channel, drive, frame,
+        n,
+        mode,
+        node,
+        join,
+        request,
+        sync,
+        startup,
+        cycle,
+        channel,
+        drive,
+        frame,
     )
 }
 
@@ -110,7 +120,17 @@ pub extern "C" fn gm_send_heartbeat(
     ensures { λ _. ⌜ now (frame .exit) ≡ sendHeartbeatLeft mode (now (state .entry)) sync startup cycle channel (now (drive .entry)) (now (frame .entry)) ⌝ }
     ensures { λ _. ⌜ now (sent .exit) ≡ sendHeartbeatSent mode (now (state .entry)) sync startup cycle channel (now (drive .entry)) (now (frame .entry)) (now (sent .entry)) ⌝ }
 {
-    entry_send_heartbeat::send(mode, state, sync, startup, cycle, channel, drive, frame, sent)
+    entry_send_heartbeat::send(
+        mode,
+        state,
+        sync,
+        startup,
+        cycle,
+        channel,
+        drive,
+        frame,
+        sent,
+    )
 }
 
 // One copy of a node's heartbeat: its join bit, its request and its drive bytes.
@@ -134,7 +154,16 @@ pub extern "C" fn gm_read_heartbeat(
     ensures { λ _. ⌜ now («drive_bytes» .exit) ≡ readHeartbeatDriveBytes n mode node cycle channel (now (frame .entry)) (now (drive .entry)) (now («drive_bytes» .entry)) ⌝ }
 {
     entry_receive_heartbeat::read(
-        n, mode, node, cycle, channel, frame, drive, join, request, drive_bytes,
+        n,
+        mode,
+        node,
+        cycle,
+        channel,
+        frame,
+        drive,
+        join,
+        request,
+        drive_bytes,
     )
 }
 
@@ -161,13 +190,7 @@ pub extern "C" fn gm_receive_heartbeat(
 
 // Rule 3: the view of a node, 0 if it is no member.
 #[no_mangle]
-pub extern "C" fn gm_view(
-    mode: u32,
-    state: &[u8],
-    heard0: u64,
-    heard1: u64,
-    view: &mut u64,
-) -> u32
+pub extern "C" fn gm_view(mode: u32, state: &[u8], heard0: u64, heard1: u64, view: &mut u64) -> u32
     ensures { λ r. ⌜ r ≡ imageStatus mode (now (state .entry)) ⌝ }
     ensures { λ _. ⌜ now (view .exit) ≡ viewFrom (lentState mode (now (state .entry))) heard0 heard1 (now (view .entry)) ⌝ }
 {
@@ -211,7 +234,15 @@ pub extern "C" fn gm_send_vote(
     ensures { λ _. ⌜ now (sent .exit) ≡ sendVoteSent mode (now (state .entry)) heard0 heard1 requests cycle channel (now (frame .entry)) (now (sent .entry)) ⌝ }
 {
     entry_send_vote::send(
-        mode, state, heard0, heard1, requests, cycle, channel, frame, sent,
+        mode,
+        state,
+        heard0,
+        heard1,
+        requests,
+        cycle,
+        channel,
+        frame,
+        sent,
     )
 }
 
@@ -318,7 +349,15 @@ pub extern "C" fn gm_register_write_cycle(
     ensures { λ _. ⌜ now (block .exit) ≡ stepLeft (WriteCycle mode address value heard0 heard1 requests (now (votes .entry)) arrived) (now (block .entry)) ⌝ }
 {
     entry_registers::write_cycle(
-        mode, block, address, value, heard0, heard1, requests, votes, arrived,
+        mode,
+        block,
+        address,
+        value,
+        heard0,
+        heard1,
+        requests,
+        votes,
+        arrived,
     )
 }
 
@@ -342,12 +381,7 @@ pub extern "C" fn gm_run(mode: u32, row: &mut [u8], table: &[u8]) -> u32
 
 // The same run through frames, which hands out those of its last cycle.
 #[no_mangle]
-pub extern "C" fn gm_run_frames(
-    mode: u32,
-    row: &mut [u8],
-    table: &[u8],
-    frames: &mut [u8],
-) -> u32
+pub extern "C" fn gm_run_frames(mode: u32, row: &mut [u8], table: &[u8], frames: &mut [u8]) -> u32
     ensures { λ r. ⌜ r ≡ lentStatus Task.FramedRun 0 mode (now (row .entry)) (length (now (frames .entry))) (now (table .entry)) ⌝ }
     ensures { λ _. ⌜ now (row .exit) ≡ lentLeft Task.FramedRun 0 mode (now (row .entry)) (length (now (frames .entry))) (now (table .entry)) ⌝ }
     ensures { λ _. ⌜ now (frames .exit) ≡ lentFrames Task.FramedRun mode (now (row .entry)) (now (table .entry)) (now (frames .entry)) ⌝ }

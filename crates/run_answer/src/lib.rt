@@ -193,7 +193,14 @@ pub fn answer(
 }
 
 // The same for a caller that keeps no frames; the same is free.
-pub fn answer_without_frames(task: Task, n: u32, mode: u32, len: usize, g: Gathered, s: &[u8]) -> Outcome
+pub fn answer_without_frames(
+    task: Task,
+    n: u32,
+    mode: u32,
+    len: usize,
+    g: Gathered,
+    s: &[u8],
+) -> Outcome
     ensures answered { λ r. ⌜ ((nodes : List Node) → GatheredFrom n g len nodes → r .status ≡ callStatus task n mode nodes framesLength (now (s .entry))) ⌝ }
     ensures left { λ r. ⌜ ((nodes : List Node) → GatheredFrom n g len nodes → r .status ≡ 0 → Leaves (r .nodes) (r .states) len (callLeft task n mode nodes framesLength (now (s .entry)))) ⌝ }
     ensures as_lent { λ r. ⌜ AsLent (r .status) (r .nodes) (r .states) (g .states) ⌝ }

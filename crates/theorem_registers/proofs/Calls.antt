@@ -41,17 +41,17 @@ write-cycle-code {M} = gm-register-write-cycle-met.met
 -- ---- what the caller sees is what the definitions say
 
 -- the byte that a caller sees of a read
-byte-seen : (a : ℕ) (x : List ℕ) (before r v : ℕ) → r ≡ stepStatus (Read a) x → v ≡ stepValue (Read a) x before → unless r (some v) none ≡ stepRead (Read a) x
-byte-seen a x before r v e k = go (eqb r 0) refl
+byte-seen : (mode a : ℕ) (x : List ℕ) (before r v : ℕ) → r ≡ stepStatus (Read mode a) x → v ≡ stepValue (Read mode a) x before → unless r (some v) none ≡ stepRead (Read mode a) x
+byte-seen mode a x before r v e k = go (eqb r 0) refl
   where
-    go : (b : Bool) → eqb r 0 ≡ b → unless r (some v) none ≡ stepRead (Read a) x
+    go : (b : Bool) → eqb r 0 ≡ b → unless r (some v) none ≡ stepRead (Read mode a) x
     go true h =
         let z = eqb-true r 0 h in
-        let m = accepted (Read a) x (sym e ∙ z) in
-        unless-done r (some v) none z ∙ ap some (k ∙ done-value a x before (m .0) (m .1) (sym e ∙ z)) ∙ sym (done-read a x (m .0) (m .1) (sym e ∙ z))
+        let m = accepted (Read mode a) x (sym e ∙ z) in
+        unless-done r (some v) none z ∙ ap some (k ∙ done-value mode a x before (m .0) (m .1) (sym e ∙ z)) ∙ sym (done-read (Read mode a) x (m .0) (m .1) (sym e ∙ z))
     go false h =
         let n = eqb-false r 0 h in
-        unless-refused r (some v) none n ∙ sym (refused-read (Read a) x (λ z. n (e ∙ z)))
+        unless-refused r (some v) none n ∙ sym (refused-read (Read mode a) x (λ z. n (e ∙ z)))
 
 -- one more call: t on x, which answers k, shows o and leaves y
 one-more : (t : Step) (ts : List Step) (vs : List Shown) (x y z : List ℕ) (k : ℕ) (o : Option ℕ) → k ≡ stepStatus t x → o ≡ stepRead t x → y ≡ stepLeft t x
@@ -64,27 +64,28 @@ one-more t ts vs x y z k o e d l rest = (
 
 -- a call that writes the block: lent at x₀, which is x, it came back at y₀, which is y
 by-step : (t : Step) (ts : List Step) (vs : List Shown) (x₀ x y₀ y z : List ℕ) (r : ℕ) → ((m : Machine) → readIn t m ≡ none) → r ≡ stepStatus t x₀ → y₀ ≡ stepLeft t x₀ → x₀ ≡ x → y₀ ≡ y
-    → (m : Machine) → formedMachine m ≡ true → x ≡ blockOf m
-    → ((m : Machine) → formedMachine m ≡ true → y ≡ blockOf m → (vs ≡ blockShows y ts) × (z ≡ blockAfter y ts))
+    → (m : Machine) → formedMachine true m ≡ true → x ≡ blockOf m
+    → ((m : Machine) → formedMachine true m ≡ true → y ≡ blockOf m → (vs ≡ blockShows y ts) × (z ≡ blockAfter y ts))
     → (_≡_ {A = List Shown} (record { status = r; byte = none } ∷ vs) (blockShows x (t ∷ ts))) × (z ≡ blockAfter x (t ∷ ts))
 by-step t ts vs x₀ x y₀ y z r silent e l p q m f h rest =
     let left : y ≡ stepLeft t x = sym q ∙ l ∙ ap (stepLeft t) p in
     one-more t ts vs x y z r none (e ∙ ap (stepStatus t) p) (sym (reads-none t silent x)) left
     (rest (next t m) (next-formed t m f) (left ∙ ap (stepLeft t) h ∙ left-of t m f))
 
-done-shows : {ts : List Step} {vs : List Shown} {x z : List ℕ} → Done ts vs x z → (m : Machine) → formedMachine m ≡ true → x ≡ blockOf m
+done-shows : {ts : List Step} {vs : List Shown} {x z : List ℕ} → Done ts vs x z → (m : Machine) → formedMachine true m ≡ true → x ≡ blockOf m
     → (vs ≡ blockShows x ts) × (z ≡ blockAfter x ts)
 unfolding blockShows blockAfter
 done-shows none-more m f h = (refl, refl)
 done-shows (read {ts} {vs} {x} {z} κs a r s l p rest) m f h =
-    one-more (Read (a .1 .0)) ts vs x x z r _ (status (l .0) p) (byte-seen (a .1 .0) x (now (a .1 .1 .0)) r (now (s .1 .1 .0)) (status (l .0) p) (l .1 ∙ ap (λ (y : List ℕ). stepValue (Read (a .1 .0)) y (now (a .1 .1 .0))) p))
-    (h ∙ sym (read-keeps (a .1 .0) m f) ∙ ap (stepLeft (Read (a .1 .0))) (sym h)) (done-shows rest m f h)
+    one-more t ts vs x x z r _ (l .0 ∙ ap (stepStatus t) p)
+    (byte-seen (a .0) (a .1 .1 .0) x (now (a .1 .1 .1 .0)) r (now (s .1 .1 .1 .0)) (l .0 ∙ ap (stepStatus t) p) (l .1 ∙ ap (λ (y : List ℕ). stepValue t y (now (a .1 .1 .1 .0))) p))
+    (h ∙ sym (read-keeps (a .0) (a .1 .1 .0) m f) ∙ ap (stepLeft t) (sym h)) (done-shows rest m f h)
   where
-    status : {k : ℕ} {x y : List ℕ} → k ≡ stepStatus (Read (a .1 .0)) x → x ≡ y → k ≡ stepStatus (Read (a .1 .0)) y
-    status e q = e ∙ ap (stepStatus (Read (a .1 .0))) q
-done-shows (write {ts} {vs} {x} {y} {z} κs a r s l p q rest) m f h = by-step _ ts vs (now (a .0)) x (now (s .0)) y z r (λ m. refl) (l .0) (l .1) p q m f h (λ n g e. done-shows rest n g e)
-done-shows (cycle {ts} {vs} {x} {y} {z} κs a r s l p q rest) m f h = by-step _ ts vs (now (a .0)) x (now (s .0)) y z r (λ m. refl) (l .0) (l .1) p q m f h (λ n g e. done-shows rest n g e)
-done-shows (write-cycle {ts} {vs} {x} {y} {z} κs a r s l p q rest) m f h = by-step _ ts vs (now (a .0)) x (now (s .0)) y z r (λ m. refl) (l .0) (l .1) p q m f h (λ n g e. done-shows rest n g e)
+    t : Step
+    t = Read (a .0) (a .1 .1 .0)
+done-shows (write {ts} {vs} {x} {y} {z} κs a r s l p q rest) m f h = by-step _ ts vs (now (a .1 .0)) x (now (s .1 .0)) y z r (λ m. refl) (l .0) (l .1) p q m f h (λ n g e. done-shows rest n g e)
+done-shows (cycle {ts} {vs} {x} {y} {z} κs a r s l p q rest) m f h = by-step _ ts vs (now (a .1 .0)) x (now (s .1 .0)) y z r (λ m. refl) (l .0) (l .1) p q m f h (λ n g e. done-shows rest n g e)
+done-shows (write-cycle {ts} {vs} {x} {y} {z} κs a r s l p q rest) m f h = by-step _ ts vs (now (a .1 .0)) x (now (s .1 .0)) y z r (λ m. refl) (l .0) (l .1) p q m f h (λ n g e. done-shows rest n g e)
 
 pub over-blocks : OverBlocks
 over-blocks m ts vs z f d =

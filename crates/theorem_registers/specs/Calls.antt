@@ -21,19 +21,21 @@ use Rattle.gm.proofs.gm_register_write_cycle.Reads as gm-register-write-cycle
 -- only reads it. Seen are the status and, of a read that was not refused, the byte in its result.
 pub data Done : List Step → List Shown → List ℕ → List ℕ → Type 1 where
   none-more : {x : List ℕ} → Done [] [] x x
-  read : {ts : List Step} {vs : List Shown} {x z : List ℕ} (κs : _) (a : _) (r : _) (s : _) → gm-register-read.Learnt κs a r s → now (a .0) ≡ x
-      → Done ts vs x z → Done (Read (a .1 .0) ∷ ts) (record { status = r; byte = unless r (some (now (s .1 .1 .0))) none } ∷ vs) x z
-  write : {ts : List Step} {vs : List Shown} {x y z : List ℕ} (κs : _) (a : _) (r : _) (s : _) → gm-register-write.Learnt κs a r s → now (a .0) ≡ x → now (s .0) ≡ y
-      → Done ts vs y z → Done (Write (a .1 .0) (a .1 .1 .0) ∷ ts) (record { status = r; byte = none } ∷ vs) x z
-  cycle : {ts : List Step} {vs : List Shown} {x y z : List ℕ} (κs : _) (a : _) (r : _) (s : _) → gm-register-cycle.Learnt κs a r s → now (a .0) ≡ x → now (s .0) ≡ y
-      → Done ts vs y z → Done (Cycle (a .1 .0) (a .1 .1 .0) (now (a .1 .1 .1 .0)) (a .1 .1 .1 .1 .0) ∷ ts) (record { status = r; byte = none } ∷ vs) x z
+  read : {ts : List Step} {vs : List Shown} {x z : List ℕ} (κs : _) (a : _) (r : _) (s : _) → gm-register-read.Learnt κs a r s → now (a .1 .0) ≡ x
+      → Done ts vs x z → Done (Read (a .0) (a .1 .1 .0) ∷ ts) (record { status = r; byte = unless r (some (now (s .1 .1 .1 .0))) none } ∷ vs) x z
+  write : {ts : List Step} {vs : List Shown} {x y z : List ℕ} (κs : _) (a : _) (r : _) (s : _) → gm-register-write.Learnt κs a r s → now (a .1 .0) ≡ x → now (s .1 .0) ≡ y
+      → Done ts vs y z → Done (Write (a .0) (a .1 .1 .0) (a .1 .1 .1 .0) ∷ ts) (record { status = r; byte = none } ∷ vs) x z
+  cycle : {ts : List Step} {vs : List Shown} {x y z : List ℕ} (κs : _) (a : _) (r : _) (s : _) → gm-register-cycle.Learnt κs a r s → now (a .1 .0) ≡ x → now (s .1 .0) ≡ y
+      → Done ts vs y z
+      → Done (Cycle (a .0) (a .1 .1 .0) (a .1 .1 .1 .0) (a .1 .1 .1 .1 .0) (now (a .1 .1 .1 .1 .1 .0)) (a .1 .1 .1 .1 .1 .1 .0) ∷ ts)
+      (record { status = r; byte = none } ∷ vs) x z
   write-cycle : {ts : List Step} {vs : List Shown} {x y z : List ℕ} (κs : _) (a : _) (r : _) (s : _) → gm-register-write-cycle.Learnt κs a r s
-      → now (a .0) ≡ x → now (s .0) ≡ y → Done ts vs y z
-      → Done (WriteCycle (a .1 .0) (a .1 .1 .0) (a .1 .1 .1 .0) (a .1 .1 .1 .1 .0) (now (a .1 .1 .1 .1 .1 .0)) (a .1 .1 .1 .1 .1 .1 .0) ∷ ts)
+      → now (a .1 .0) ≡ x → now (s .1 .0) ≡ y → Done ts vs y z
+      → Done (WriteCycle (a .0) (a .1 .1 .0) (a .1 .1 .1 .0) (a .1 .1 .1 .1 .0) (a .1 .1 .1 .1 .1 .0) (a .1 .1 .1 .1 .1 .1 .0) (now (a .1 .1 .1 .1 .1 .1 .1 .0)) (a .1 .1 .1 .1 .1 .1 .1 .1 .0) ∷ ts)
       (record { status = r; byte = none } ∷ vs) x z
 
--- on the block of any machine, the calls show and leave what the machine does
+-- on the block of any machine, in whatever modes, the calls show and leave what the machine does
 abbrev pub OverBlocks : Type 1
 OverBlocks =
-    (m : Machine) (ts : List Step) (vs : List Shown) (z : List ℕ) → formedMachine m ≡ true → Done ts vs (blockOf m) z
+    (m : Machine) (ts : List Step) (vs : List Shown) (z : List ℕ) → formedMachine true m ≡ true → Done ts vs (blockOf m) z
     → (vs ≡ shows m ts) × (z ≡ blockOf (after m ts))
