@@ -89,7 +89,7 @@ make_room() {
     cp tools/{kit,evidence}.sh "$room/tools"
     cp tests/edits.sh "$room/tests"
     cp .gitignore "$room"
-    printf '# NAME: the crates it rests on\nlow:\ngrouprun: low\nvectors: low\nrowrun: low grouprun\n' >"$room/crates.txt"
+    printf '# NAME: the crates it rests on\nlow:\nprint_program: low\ngrouprun: low print_program\nquietrun: print_program\nvectors: low\nrowrun: low grouprun\n' >"$room/crates.txt"
     printf 'refused by: low::half\nfile: src/lib.rt\nold: 2\nnew: 3\n' >"$room/crates/low/must-fail/third.edit"
     printf 'uint32_t gm_%s(uint8_t *state);\n' begin stop >"$room/include/gm.h"
     touch -d '1 hour ago' "$room/crates/low/must-fail/third.edit"
@@ -105,34 +105,39 @@ run_kit() { # WORDS OF kit.sh
 }
 proof='logic=proved functions=1'
 libc='axioms libc: libc::' os='axioms os: os::c::'
+# of a program over tables: the kit names what is assumed with a program, and not with the library that calls it
+assumed=("${libc}isatty, libc::read, libc::write (3 of the 50 declared)" "${os}rattle_arg, os::c::rattle_arg_count, os::c::rattle_set_errno (3 of the 10 declared)"
+    "$proof axioms=6 sum=1")
 # with a byte 0 in a message, as the kit may quote one
-gate_lines=("$proof sum=1" 'rt: low proved (1 s)'
-    "${libc}isatty, libc::read, libc::write (3 of the 50 declared)" "${os}rattle_arg, os::c::rattle_arg_count, os::c::rattle_set_errno (3 of the 10 declared)"
-    "$proof axioms=6 sum=1" 'rt: grouprun proved (2 s)' 'a note on \0'
+gate_lines=("$proof sum=1" 'rt: low proved (1 s)' "$proof sum=1" 'rt: print_program proved (1 s)'
+    "${assumed[@]}" 'rt: grouprun proved (2 s)' 'a note on \0' "${assumed[@]}" 'rt: quietrun proved (2 s)'
     "${libc}write (1 of the 50 declared)" "$proof axioms=1 sum=1" 'rt: vectors proved (2 s)'
     "${libc}read, libc::write (2 of the 50 declared)" "$proof axioms=2 sum=1" 'rt: rowrun proved (3 s)'
     'rt: must-fail low/third: refused, as it must be (first at src/lib.rt:1:1; 1 s)' 'rt: rowrun ran, and wrote what its file has (0 s)'
-    'rt: ok, 4 crates proved, 1 must-fail edits refused' '5 passed, 0 failed')
+    'rt: ok, 6 crates proved, 1 must-fail edits refused' '7 passed, 0 failed')
 
 # ---- how far the kit is
 
 check_lines() {
     says "${gate_lines[@]}"
     run_kit gate "an hour" ci
-    [ "$ended $(<"$work/out")" = '0 5 passed, 0 failed' ] || fail "a gate that passes ends with $ended and prints: $(<"$work/out")"
+    [ "$ended $(<"$work/out")" = '0 7 passed, 0 failed' ] || fail "a gate that passes ends with $ended and prints: $(<"$work/out")"
     diff - <(sed -E 's/[0-9]+ s:/T s:/' "$work/err") <<'LINES' || fail "what is told of a gate (>) is not what is expected (<)"
 rt ci: from nothing an hour; what it says goes to log/gate.log
-crate 1 of 4, T s: low proved (1 s)
-crate 2 of 4, T s: grouprun proved (2 s)
-crate 3 of 4, T s: vectors proved (2 s)
-crate 4 of 4, T s: rowrun proved (3 s)
+crate 1 of 6, T s: low proved (1 s)
+crate 2 of 6, T s: print_program proved (1 s)
+crate 3 of 6, T s: grouprun proved (2 s)
+crate 4 of 6, T s: quietrun proved (2 s)
+crate 5 of 6, T s: vectors proved (2 s)
+crate 6 of 6, T s: rowrun proved (3 s)
 edit 1 of 1, T s: low/third: refused, as it must be (first at src/lib.rt:1:1; 1 s)
 LINES
     cmp "$work/says" "$room/log/gate.log" || fail "the log is not what the kit said"
-    says 'rt: low proved (1 s)' 'rt: grouprun proved (unchanged since it was last proved)' 'rt: ok, 2 crates proved'
+    says 'rt: low proved (1 s)' 'rt: print_program proved (unchanged since it was last proved)' 'rt: grouprun proved (unchanged since it was last proved)' \
+        'rt: ok, 3 crates proved'
     run_kit try "an hour" check grouprun
-    has "$work/err" 'crate 1 of 2, '
-    [ ! -s "$work/out" ] && [ "$(wc -l <"$work/err")" = 2 ] || fail "a check of two crates prints: $(<"$work/out") and $(<"$work/err")"
+    has "$work/err" 'crate 1 of 3, '
+    [ ! -s "$work/out" ] && [ "$(wc -l <"$work/err")" = 2 ] || fail "a check of three crates prints: $(<"$work/out") and $(<"$work/err")"
 }
 check_quiet() {
     says 'rt: low proved (unchanged since it was last proved)' 'rt: ok, 1 crates proved'
@@ -148,9 +153,9 @@ check_life() {
     says "${gate_lines[@]:1}"
     touch "$work/says.wait"
     run_kit gate "an hour" ci &
-    for _ in {1..80}; do grep -q 'crate 1 of 4' "$work/err" 2>/dev/null || sleep 0.1; done
-    has "$work/err" 'crate 1 of 4'
-    ! grep -q 'crate 2 of 4' "$work/err" || fail "the kit did not wait"
+    for _ in {1..80}; do grep -q 'crate 1 of 6' "$work/err" 2>/dev/null || sleep 0.1; done
+    has "$work/err" 'crate 1 of 6'
+    ! grep -q 'crate 2 of 6' "$work/err" || fail "the kit did not wait"
     rm "$work/says.wait"
     wait $!
     has "$work/err" 'edit 1 of 1'
@@ -178,14 +183,14 @@ check_terminal() {
     local gate="'$room/tools/kit.sh' gate 'an hour' ci"
     says "${gate_lines[@]}"
     on_terminal "$gate"
-    has "$work/shown" $'\rcrate 2 of 4, '
-    [ "$ended $(tail -n 1 "$work/shown" | tr -d '\r')" = '0 5 passed, 0 failed' ] || fail "on a terminal a gate that passes ends with $ended: $(<"$work/shown")"
+    has "$work/shown" $'\rcrate 2 of 6, '
+    [ "$ended $(tail -n 1 "$work/shown" | tr -d '\r')" = '0 7 passed, 0 failed' ] || fail "on a terminal a gate that passes ends with $ended: $(<"$work/shown")"
     [ "$(wc -l <"$work/shown")" = 3 ] || fail "on a terminal a gate takes other than three lines: $(<"$work/shown")"
     ENDS=1 on_terminal "$gate >'$work/out'"
-    [ "$ended $(<"$work/out")" = '1 5 passed, 0 failed' ] || fail "on a terminal a gate that fails ends with $ended: $(<"$work/out")"
+    [ "$ended $(<"$work/out")" = '1 7 passed, 0 failed' ] || fail "on a terminal a gate that fails ends with $ended: $(<"$work/out")"
 }
 # a kit that says nothing yet: the first crate is in work, and the seconds go on
-rewritten() { tr '\r' '\n' <"$work/shown" | grep -c '^crate 1 of 4, ' || true; }
+rewritten() { tr '\r' '\n' <"$work/shown" | grep -c '^crate 1 of 6, ' || true; }
 check_waiting() {
     says "${gate_lines[@]}"
     touch "$work/says.wait"
@@ -195,7 +200,7 @@ check_waiting() {
     [ "$(rewritten)" -ge 2 ] || fail "a kit that says nothing is not told of: $(<"$work/shown")"
     rm "$work/says.wait"
     wait $!
-    has "$work/shown" '5 passed, 0 failed'
+    has "$work/shown" '7 passed, 0 failed'
 }
 
 # ---- evidence
@@ -236,9 +241,10 @@ tree: as committed
 SUM  target/libgm.a
 SUM  include/gm.h
 tests passed: 2, host run
-gate: 5 passed, 0 failed
-crates proved: 4 of 4, without an axiom 1
+gate: 7 passed, 0 failed
+crates proved: 6 of 6, without an axiom 2
 axioms of grouprun: 6, libc::isatty libc::read libc::write os::c::rattle_arg os::c::rattle_arg_count os::c::rattle_set_errno
+axioms of quietrun: 6, libc::isatty libc::read libc::write os::c::rattle_arg os::c::rattle_arg_count os::c::rattle_set_errno
 axioms of vectors: 1, libc::write
 axioms of rowrun: 2, libc::read libc::write
 edits refused: 1 of 1
@@ -267,9 +273,9 @@ check_other_state() {
 # a gate that did not pass, one of fewer crates, and edits that were not refused, or not by what they name
 check_gate() {
     local word
-    for word in '4 passed, 1 failed' '3 passed, 0 failed'; do
-        tested "${gate_lines[@]/5 passed, 0 failed/$word}"
-        refused "4 crates and 1 edits were to pass, and the gate says: $word"
+    for word in '6 passed, 1 failed' '5 passed, 0 failed'; do
+        tested "${gate_lines[@]/7 passed, 0 failed/$word}"
+        refused "6 crates and 1 edits were to pass, and the gate says: $word"
     done
     tested "${gate_lines[@]/*: refused, as it must be*/rt: ok}"
     refused "not every edit was refused"

@@ -10,6 +10,7 @@ lacks() { lacking+="NOT EVIDENCE: $*"$'\n'; }
 
 # the C functions whose contracts are assumed, by these programs and by no other crate: docs/SAFETY.md, "How a builder checks the delivery", step 3
 assumed='axioms of grouprun: 6, libc::isatty libc::read libc::write os::c::rattle_arg os::c::rattle_arg_count os::c::rattle_set_errno
+axioms of quietrun: 6, libc::isatty libc::read libc::write os::c::rattle_arg os::c::rattle_arg_count os::c::rattle_set_errno
 axioms of rowrun: 2, libc::read libc::write
 axioms of vectors: 1, libc::write'
 
