@@ -1,5 +1,5 @@
 #!/usr/bin/env bash
-# Whether docs/TRACE.md is whole: every sentence of the product paper and of requests 1 and 2 has its row, no cell is empty and no row too long to read, every name that a
+# Whether docs/TRACE.md is whole: every sentence of the product paper and of requests 1 to 3 has its row, no cell is empty and no row too long to read, every name that a
 # row cites is there, and every must-fail edit is cited, and names in its line `refused by:` a law or contract that is there. Usage: trace.sh [FILE], by default
 # docs/TRACE.md
 set -euo pipefail
@@ -9,7 +9,7 @@ cd "$root"
 
 # how many sentences each section of the paper has, and each request, by the section's short name; the examples are counted from 0
 declare -A sentences=([product]=12 [state]=5 [cycle]=16 [faults]=9 [frames]=12 [table]=5 [refused]=16 [printed]=5 [examples]=10 [mistakes]=4
-    [forms]=16 [questions]=20 [registers]=13 [drive]=7)
+    [forms]=16 [questions]=20 [registers]=13 [drive]=7 [quiet]=11)
 # what a reader takes in at once: characters of a row, names of a cell
 longest=420 most=4
 declare -A there=() cited=() last=()

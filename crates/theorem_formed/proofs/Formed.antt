@@ -69,6 +69,12 @@ allowed-none : (quiet : Bool) → (quiet || not false) ≡ true
 allowed-none true = refl
 allowed-none false = refl
 
+-- no member of a well-formed state requests in a press that votes in every cycle
+pub none-requests : (n q : ℕ) (s : State) → formedState false q n s ≡ true → asks s ≡ false
+none-requests n q (Out r) f = refl
+none-requests n q Joining f = refl
+none-requests n q (Member g a) f = not-e a (and-l (not a) (ltb (g .number) (2 ^ 32) && formedSets q n (g .set) (g .base)) f)
+
 sound-group : (quiet : Bool) (n q : ℕ) (g : Group) (a : Bool) → formedState quiet q n (Member g a) ≡ true → Sound n q g
 unfolding formedSets
 sound-group quiet n q g a f =

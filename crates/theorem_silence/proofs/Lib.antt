@@ -1,3 +1,4 @@
 pub mod Silence
 pub mod There
 pub mod Based
+pub mod Founder

@@ -21,7 +21,7 @@ use Rattle.rules.specs.OneCycle.{Ballots, quietly, stopped, stopAndStart, sends
 use Rattle.rules.specs.Faults.{Row, at, tabulate, founding, heartbeatReaches, disturbed, ruleOne, heard, ownVote, votesNow, voteOf, votes, voteReaches, arriveIf, arrivedAt, decides, decisions, cycle}
 use Rattle.rules.specs.Reference.{Cluster, beginning, step, after}
 use Rattle.rules.proofs.Rows.{get-tabulate, tabulate-ext}
-use Rattle.rules.proofs.Votes.{has-view, view-others}
+use Rattle.rules.proofs.Votes.{has-view}
 use Rattle.rules.proofs.Undisturbed.{Undisturbed, undisturbed, reach-heartbeat}
 use Rattle.rules.proofs.States.{rule1-member}
 use Rattle.theorem_silence.specs.Silence.{leftAlone, allLeft, quietRow, sentIn, noVotes, Silence}
@@ -30,17 +30,23 @@ and-no : (b : Bool) → (b && false) ≡ false
 and-no true = refl
 and-no false = refl
 
--- ---- who hears all members, and nobody else, has the set as its view
+-- ---- who hears all members with join 0, and nobody outside with join 1, has the set as its view
 
-full-view : (N q F : ℕ) → below N F ≡ F → has q F ≡ true → viewOf N q F F 0 ≡ F
-full-view N q F low m = set-ext (λ x.
-    has-view x N q F F 0 ∙ ap₂ (λ (a b : Bool). eqb x q || (has x F && a) || ((ltb x N && b) && not (has x F))) (sym (has-below x N F) ∙ ap (has x) low) (has-none x)
-    ∙ go x (eqb x q) (ltb x N) (has x F) refl refl)
+pub sees-set : (N q F heard0 heard1 : ℕ) → below N F ≡ F → has q F ≡ true → ((x : ℕ) → x < N → eqb x q ≡ false → has x F ≡ true → has x heard0 ≡ true)
+    → ((x : ℕ) → x < N → eqb x q ≡ false → has x heard1 ≡ true → has x F ≡ true) → viewOf N q F heard0 heard1 ≡ F
+sees-set N q F heard0 heard1 low m all alone = set-ext (λ x. has-view x N q F heard0 heard1 ∙ go x (eqb x q) (ltb x N) (has x F) (has x heard1) refl refl refl refl)
   where
-    go : (x : ℕ) (own there in-set : Bool) → eqb x q ≡ own → has x F ≡ in-set → (own || (in-set && in-set) || ((there && false) && not in-set)) ≡ in-set
-    go x true there in-set e f = sym (sym f ∙ ap (λ (y : ℕ). has y F) (eqb-true e) ∙ m)
-    go x false there true e f = refl
-    go x false there false e f = ap (λ (b : Bool). b && true) (and-no there)
+    under : (x : ℕ) → has x F ≡ true → ltb x N ≡ true
+    under x f = and-l (ltb x N) (has x F) (sym (has-below x N F) ∙ ap (has x) low ∙ f)
+
+    go : (x : ℕ) (own there in-set joins : Bool) → eqb x q ≡ own → ltb x N ≡ there → has x F ≡ in-set → has x heard1 ≡ joins
+        → (own || (in-set && (there && has x heard0)) || ((there && joins) && not in-set)) ≡ in-set
+    go x true there in-set joins e l f h = sym (sym f ∙ ap (λ (y : ℕ). has y F) (eqb-true e) ∙ m)
+    go x false true true joins e l f h = ap (λ (b : Bool). b || (joins && false)) (all x (ltb-lt l) e f)
+    go x false true false true e l f h = absurd (false≢true (sym f ∙ alone x (ltb-lt l) e h))
+    go x false true false false e l f h = refl
+    go x false false true joins e l f h = absurd (false≢true (sym l ∙ under x f))
+    go x false false false joins e l f h = refl
 
 -- ---- no votes at all
 
@@ -50,7 +56,7 @@ same-there zero p d = refl
 same-there (suc n) zero d = refl
 same-there (suc n) (suc p) d = same-there n p d
 
-rests-alone : (C : Config) (q : ℕ) (g : Group) (b : Ballots) → ((p : ℕ) → b p ≡ none) → silentDecides C q g b ≡ Member (rests g) false
+pub rests-alone : (C : Config) (q : ℕ) (g : Group) (b : Ballots) → ((p : ℕ) → b p ≡ none) → silentDecides C q g b ≡ Member (rests g) false
 unfolding silentDecides
 rests-alone C q g b e = go (any (C .nodes) rivals) refl
   where
@@ -136,8 +142,8 @@ module _ (N G F : ℕ) (low : below N F ≡ F) (c : Faults) (left : leftAlone N 
 
   sees-all : (q : ℕ) → q < N → has q F ≡ true → viewOf N q F (heard N c r sendsMember q) (heard N c r sendsJoin q) ≡ F
   sees-all q l e =
-      view-others N q F (heard N c r sendsMember q) (heard N c r sendsJoin q) F 0 (λ x k n. heard-founders q x l k n) (λ x k n. ap (has x) (heard-none sendsJoin refl refl q))
-      ∙ full-view N q F low e
+      sees-set N q F (heard N c r sendsMember q) (heard N c r sendsJoin q) low e (λ x k n f. heard-founders q x l k n ∙ f)
+      (λ x k n f. absurd (false≢true (sym (ap (has x) (heard-none sendsJoin refl refl q) ∙ has-none x) ∙ f)))
 
   uncalled : (q : ℕ) → called F false (heard N c r asks q) ≡ false
   unfolding called

@@ -4,7 +4,6 @@ use mathlib.Core.Bool.{true, false, true≢false}
 use borrow.Author.Tests.{not-true, not-false}
 use Rattle.frames.specs.declared.HeartbeatRead.{HeartbeatRead}
 use Rattle.frames.specs.declared.HeartbeatRead.the-variants as beat
-use Rattle.frames.specs.declared.HeartbeatCounted.{HeartbeatCounted}
 use Rattle.frames.specs.declared.Copy.{Copy}
 use Rattle.frames.specs.declared.Copy.the-variants.{Neither}
 use Rattle.frames.specs.Read.{isGood, countedOn}
