@@ -9,7 +9,7 @@ mkdir -p "$build"
 fail() { echo "stack: $*" >&2; exit 1; }
 
 # of memset and memcpy the return address is counted: those of glibc for x86-64 take no more
-objdump -drz --no-show-raw-insn "$archive" | awk -v outside="memset memcpy" -f tests/stackwalk.awk >"$build/stack.walked"
+{ objdump -r "$archive" && echo code: && objdump -drz --no-show-raw-insn "$archive"; } | awk -v outside="memset memcpy" -f tests/stackwalk.awk >"$build/stack.walked"
 
 sample() { # BINDING: every call from the same depth, and no memset but the entries'
     gcc -std=gnu99 -Wall -Wextra -Werror -O2 -maccumulate-outgoing-args -fno-optimize-sibling-calls -fno-tree-loop-distribute-patterns -Iinclude \

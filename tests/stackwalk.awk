@@ -1,7 +1,8 @@
 # The deepest stack of every function of an x86-64 object or archive, by a walk of its code: through each function along every jump, with the depth of the
-# stack pointer at each instruction, and over the calls between functions. Reads `objdump -drz --no-show-raw-insn OBJECT`.
+# stack pointer at each instruction, and over the calls between functions. Reads `objdump -r OBJECT`, a line `code:`, and `objdump -drz --no-show-raw-insn OBJECT`.
 # Prints "FUNCTION BYTES CHAIN.." a line: the bytes below the caller's stack pointer, the return address among them, and the functions that go so deep.
-# Whatever the walk does not know for certain ends it with a message and status 1: a call or jump by a register or by memory, a change of the stack pointer
+# Whatever the walk does not know for certain ends it with a message and status 1: a call or jump by a register or by memory (but a jump by a table of
+# distances, which goes to every place of the table), a change of the stack pointer
 # that is no constant, a depth that differs between two ways to an instruction, a way out with bytes left on the stack, code that no way leads to, recursion,
 # and a call of a function that is neither here nor named by -v outside="NAME..". Of those named the return address alone is counted.
 BEGIN {
@@ -36,6 +37,16 @@ function number(text,    sign, value, k) {
 
 /file format/ { member++ }
 
+# of tables of distances: the places that the linker puts into them
+/^RELOCATION RECORDS FOR \[/ { table = substr($0, 25, length($0) - 26) }
+
+/^[0-9a-f]+ R_X86_64_PC32 / && table ~ /^\.rodata/ {
+    split($0, part, / +/)
+    put[member, table, number(part[1])] = part[3]
+}
+
+/^code:$/ { member = 0 }
+
 /^Disassembly of section/ {
     section = substr($0, 24, length($0) - 24)
 }
@@ -62,7 +73,25 @@ function number(text,    sign, value, k) {
     sub(/^[^ ]* */, "", operands[count])
 }
 
-/: R_X86_64_/ { linked[count] = $NF }
+/: R_X86_64_/ {
+    linked[count] = $NF
+    begun[member, symbol_of($NF), offset_of($NF)] = 1
+}
+
+# the symbol of a place, and how far behind it the place is; where code is filled in, the linker counts from the end of the four bytes that it fills
+function symbol_of(text) {
+    match(text, /[-+]0x[0-9a-f]+$/)
+    return substr(text, 1, RSTART - 1)
+}
+
+function distance(text) {
+    match(text, /[-+]0x[0-9a-f]+$/)
+    text = substr(text, RSTART)
+    sub(/^\+/, "", text)
+    return number(text)
+}
+
+function offset_of(text) { return distance(text) + 4 }
 
 # the function at whose beginning a call or jump arrives, "" where there is none
 function arrival(i,    f, at, symbol) {
@@ -71,11 +100,8 @@ function arrival(i,    f, at, symbol) {
         fail_at(i, "where it leads is not known")
     if (!(i in linked))
         return begins[where[f], number(operands[i])]
-    match(linked[i], /[-+]0x[0-9a-f]+$/)
-    symbol = substr(linked[i], 1, RSTART - 1)
-    at = substr(linked[i], RSTART)
-    sub(/^\+/, "", at)
-    at = number(at) + 4 # the linker counts from the end of the four bytes that it fills
+    symbol = symbol_of(linked[i])
+    at = offset_of(linked[i])
     if (at == 0 && (symbol in where || symbol in is_outside))
         return symbol
     return begins[substr(where[f], 1, index(where[f], SUBSEP) - 1), symbol, at]
@@ -137,9 +163,42 @@ function leaves(i,    other) {
     return i in linked || other != "" && other != owner[i]
 }
 
+# a jump to what is found in a table of distances from its own beginning, by these four instructions and no others: every place of the table is reached
+function jump_by_table(f, i,    base, to, file, start, at, target) {
+    base = operands[i - 3]
+    sub(/^.*,/, "", base)
+    to = substr(operands[i], 2)
+    if (opcode[i - 3] != "lea" || !(i - 3 in linked) || opcode[i - 2] != "movslq" || operands[i - 2] !~ "^[(]" base ",%r[a-z0-9]+,4[)]," to "$" ||
+        opcode[i - 1] != "add" || operands[i - 1] != base "," to || base == to)
+        fail_at(i, "where it leads is not known")
+    file = substr(where[f], 1, index(where[f], SUBSEP) - 1)
+    start = offset_of(linked[i - 3])
+    tables[i] = f
+    for (at = start; (file, symbol_of(linked[i - 3]), at) in put && (at == start || !((file, symbol_of(linked[i - 3]), at) in begun)); at += 4) {
+        target = put[file, symbol_of(linked[i - 3]), at]
+        if (file SUBSEP symbol_of(target) != where[f])
+            fail_at(i, "its table leads out of the function")
+        reach(f, place[f, distance(target) - (at - start)], depth[i])
+    }
+    if (at == start)
+        fail_at(i, "where it leads is not known")
+}
+
+# a way that comes into the middle of such a jump would bring another table
+function refuse_entered(    i, k) {
+    for (i in tables)
+        for (k = 0; k < 3; k++)
+            if (i - k in landed)
+                fail_at(i, "where it leads is not known")
+}
+
 # one instruction further on every way from it
 function step(f, i,    op, out) {
     op = opcode[i]
+    if (op == "jmp" && operands[i] ~ /^\*%r[a-z0-9]+$/) {
+        jump_by_table(f, i)
+        return
+    }
     out = op == "ret" || op ~ /^j/ && leaves(i)
     if (out && depth[i] != 0 || op == "ret" && operands[i] != "")
         fail_at(i, "leaves the function with " depth[i] " bytes on the stack")
@@ -147,8 +206,10 @@ function step(f, i,    op, out) {
         call(f, i, WORD + depth[i])
     if (op ~ /^j/ && out)
         call(f, i, 0)
-    if (op ~ /^j/ && !out)
+    if (op ~ /^j/ && !out) {
+        landed[place[f, number(operands[i])]] = 1
         reach(f, place[f, number(operands[i])], depth[i])
+    }
     if (op != "jmp" && op != "ret")
         reach(f, i + 1, depth[i] + (op ~ /^(call$|j)/ ? 0 : taken(i)))
 }
@@ -193,6 +254,7 @@ END {
     for (k = 1; k <= many; k++)
         walk(functions[k])
     refuse_unreached()
+    refuse_entered()
     for (k = 1; k <= many; k++)
         print functions[k], deepest(functions[k]), chain[functions[k]]
 }

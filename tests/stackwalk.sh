@@ -7,7 +7,7 @@ mkdir -p "$build"
 fail() { echo "stackwalk: $*" >&2; exit 1; }
 
 walk() { # OBJECT..
-    objdump -drz --no-show-raw-insn "$@" | awk -v outside=memset -v red_zone="${red_zone-}" -f tests/stackwalk.awk
+    { objdump -r "$@" && echo code: && objdump -drz --no-show-raw-insn "$@"; } | awk -v outside=memset -v red_zone="${red_zone-}" -f tests/stackwalk.awk
 }
 compile() { # NAME OPTION..: of the C on standard input
     gcc -std=c11 -Wall -Wextra -Werror -Wno-infinite-recursion -O2 -fno-inline -fstack-usage "${@:2}" -c -x c - -o "$build/$1.o"
@@ -59,6 +59,22 @@ objdump -d "$build/negative.o" | grep -q 'sub *$0xffffffffffffff80,%rsp' || fail
 walk "$build/negative.o" >"$build/negative.out"
 is negative f $((8 + 256))
 
+# a jump by a table goes to each of its places, and to none of the next table's
+jump='lea 9f(%rip),%rdx; movslq (%rdx,%rdi,4),%rax; add %rdx,%rax; jmp *%rax'
+assemble() { gcc -c -x assembler - -o "$build/$1.o"; } # NAME: of the assembler text on standard input
+assemble tables <<S
+f: $jump
+1: push %rax; pop %rax
+2: ret
+   .section .rodata; 9: .long 1b-9b, 2b-9b; .text
+g: $jump
+1: ret
+   .section .rodata; 9: .long 1b-9b; .text
+S
+walk "$build/tables.o" >"$build/tables.out"
+is tables f $((8 + 8))
+is tables g 8
+
 refused() { # NAME MESSAGE OBJECT..
     if walk "${@:3}" >"$build/$1.out" 2>"$build/$1.err"; then fail "$1: is not refused"; fi
     grep -q "^stackwalk: .*$2" "$build/$1.err" || fail "$1: is refused otherwise: $(cat "$build/$1.err")"
@@ -82,6 +98,26 @@ refused_c end 'a way leads out of it' '__asm__("f: ret\n .globl g\n g: nop");'
 refused_c unreached 'no way leads here' '__asm__("f: ret\n mov %rax,%rbx\n ret");'
 refused_c lea 'the stack pointer is not known' '__asm__("f: lea -0x40(%rsp),%rsp\n lea 0x40(%rsp),%rsp\n ret");'
 refused_c given 'more was given back than taken' '__asm__("f: pop %rax\n push %rax\n ret");'
+refused_s() { # NAME MESSAGE: of the assembler text on standard input
+    assemble "$1"
+    refused "$1" "$2" "$build/$1.o"
+}
+refused_s entered 'where it leads is not known' <<S
+f: je 2f; lea 9f(%rip),%rdx; movslq (%rdx,%rdi,4),%rax
+2: add %rdx,%rax; jmp *%rax
+1: ret
+   .section .rodata; 9: .long 1b-9b; .text
+S
+refused_s tableless 'where it leads is not known' <<S
+f: $jump
+   .section .rodata; 9: .long 5; .text
+S
+refused_s elsewhere 'leads out of the function' <<S
+f: $jump
+   .section .rodata; 9: .long 8f-9b; .section .text.other,"ax"
+g: nop
+8: ret
+S
 refused_c unknown 'this is not understood' '__asm__("f: .byte 6\n ret");'
 refused twice 'two functions are named f' "$build/negative.o" "$build/negative.o"
 echo "stackwalk: frames as the compiler states them, $kinds kinds of code refused"

@@ -5,7 +5,6 @@ ghost use lib.ListN.{length};
 ghost use Rattle.parts.specs.Parts.{atFront};
 ghost use Rattle.rules.specs.OneCycle.{sameVote};
 ghost use Rattle.frames.specs.Written.{formedVote};
-ghost use Rattle.frames.specs.declared.Copy.the-variants.{Neither};
 ghost use Rattle.frames.specs.Read.{faultCode, driveOf, heartbeatOf, readHeartbeat, isGood, countedOn, samePayload, receiveHeartbeat, voteContent, readVote, receiveVote};
 use frames::Copy;
 use frames::Fault;
@@ -131,31 +130,27 @@ fn is_good(r: HeartbeatRead) -> bool
     }
 }
 
-// What a copy says that is not refused; missed where it is.
-fn heard_in(r: HeartbeatRead) -> HeartbeatReceived
-    ensures { λ x. ⌜ x ≡ countedOn Neither r .heard ⌝ }
-{
-    match r {
-        HeartbeatRead::Alive => HeartbeatReceived::Alive,
-        HeartbeatRead::Join => HeartbeatReceived::Join,
-        HeartbeatRead::Request => HeartbeatReceived::Request,
-        HeartbeatRead::Refused(_) => HeartbeatReceived::Missed,
-    }
-}
-
-// What a copy gives that is the only one, or equal to the other. A refused one leaves first: of four cases at once a jump by a table is made.
+// What a copy gives that is the only one, or equal to the other.
 fn counted_on(copy: Copy, r: HeartbeatRead) -> HeartbeatCounted
     ensures { λ x. ⌜ x ≡ countedOn copy r ⌝ }
 {
-    if !is_good(r) {
-        return HeartbeatCounted {
+    match r {
+        HeartbeatRead::Alive => HeartbeatCounted {
+            heard: HeartbeatReceived::Alive,
+            copy,
+        },
+        HeartbeatRead::Join => HeartbeatCounted {
+            heard: HeartbeatReceived::Join,
+            copy,
+        },
+        HeartbeatRead::Request => HeartbeatCounted {
+            heard: HeartbeatReceived::Request,
+            copy,
+        },
+        HeartbeatRead::Refused(_) => HeartbeatCounted {
             heard: HeartbeatReceived::Missed,
             copy: Copy::Neither,
-        };
-    }
-    HeartbeatCounted {
-        heard: heard_in(r),
-        copy,
+        },
     }
 }
 
