@@ -2,8 +2,8 @@ use mathlib.Core.Path.{ap₂, _∙_}
 use mathlib.Core.Bool.{Bool, cond}
 use Prim.Native.Nat.{ℕ}
 use borrow.Author.Needs.{needs}
-use Rattle.rule_member.proofs.known.Statement.{statement}
-use Rattle.rule_member.proofs.known.Tie as tie
+use Rattle.rule_tally.proofs.known.Statement.{statement}
+use Rattle.rule_tally.proofs.known.Tie as tie
 
 contains-requires : tie.Need-contains-requires
 contains-requires c κs = search needs

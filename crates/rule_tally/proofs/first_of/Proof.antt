@@ -4,8 +4,8 @@ use Prim.Native.Nat.{ℕ}
 use lib.Dec.{eqb}
 use Rattle.sets.specs.Sets.{has, lowest}
 use borrow.Author.Needs.{needs}
-use Rattle.rule_member.proofs.first_of.Statement.{statement}
-use Rattle.rule_member.proofs.first_of.Tie as tie
+use Rattle.rule_tally.proofs.first_of.Statement.{statement}
+use Rattle.rule_tally.proofs.first_of.Tie as tie
 
 intersection-requires : tie.Need-intersection-requires
 intersection-requires c κs = search needs

@@ -1,6 +1,6 @@
 use borrow.Author.Needs.{needs}
-use Rattle.rule_member.proofs.completes.Statement.{statement}
-use Rattle.rule_member.proofs.completes.Tie as tie
+use Rattle.rule_tally.proofs.completes.Statement.{statement}
+use Rattle.rule_tally.proofs.completes.Tie as tie
 
 is-quorum-requires : tie.Need-is-quorum-requires
 is-quorum-requires c κs = search needs

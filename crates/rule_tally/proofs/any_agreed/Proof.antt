@@ -5,10 +5,10 @@ use Prim.Native.Nat.{_<_}
 use native.Mathlib.Omega.{arith}
 use Rattle.sets.specs.Sets.{has}
 use Rattle.sets.proofs.Dropping.{lowest-node}
-use Rattle.rule_member.proofs.Candidates.{rest-less, left-less, Tried, Counted, tried-none, tried-next, tried-end, candidate-in, counted-none, counted-next, counted-won}
+use Rattle.rule_tally.proofs.Candidates.{rest-less, left-less, Tried, Counted, tried-none, tried-next, tried-end, candidate-in, counted-none, counted-next, counted-won}
 use borrow.Author.Needs.{needs}
-use Rattle.rule_member.proofs.any_agreed.Statement.{statement}
-use Rattle.rule_member.proofs.any_agreed.Tie as tie
+use Rattle.rule_tally.proofs.any_agreed.Statement.{statement}
+use Rattle.rule_tally.proofs.any_agreed.Tie as tie
 
 abbrev Inv-loop : tie.InvT-loop
 Inv-loop n numbers sets bases views lead present group left k view v m₀ rest₀ m rest = Counted numbers sets bases views n present group v left m rest
