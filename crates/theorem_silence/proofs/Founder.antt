@@ -1,9 +1,9 @@
 -- A founder of a quiet press that hears the other founders and nothing new sends no vote, and its image stays. Assumes nothing.
 use mathlib.Core.Path.{_≡_, refl, sym, ap, _∙_}
-use mathlib.Core.Bool.{Bool, true, false, not, _&&_, _||_, cond}
+use mathlib.Core.Bool.{Bool, true, false, not, _&&_, cond}
 use mathlib.Core.List.{List}
 use mathlib.Core.Option.{none, some}
-use Prim.Native.Nat.{ℕ, _<_}
+use Prim.Native.Nat.{ℕ}
 use lib.Dec.{eqb, ltb}
 use Rattle.sets.specs.Sets.{has, single, subset, below, _∩_, _∖_}
 use Rattle.sets.proofs.Booleans.{and-l, and-r, eqb-self, eqb-true, ltb-true}
@@ -16,11 +16,11 @@ use Rattle.state.specs.declared.Reason.the-variants.{Stopped}
 use Rattle.state.specs.declared.Node.{Node}
 use Rattle.state.specs.declared.Decoded.{Decoded}
 use Rattle.state.specs.declared.Decoded.the-variants.{Good}
-use Rattle.state.specs.State.{formed, foundingGroup, initial}
+use Rattle.state.specs.State.{formed, foundingGroup}
 use Rattle.state.specs.Image.{imageOf, decoded}
 use Rattle.state.proofs.RoundTrip.{round-trip}
 use Rattle.refusal.specs.Refusal.{unless}
-use Rattle.rules.specs.OneCycle.{Ballots, viewOf, called, willVote, memberDecides, rests, silentDecides}
+use Rattle.rules.specs.OneCycle.{Ballots, viewOf, called, willVote, memberDecides, silentDecides}
 use Rattle.frames.specs.Written.{formedVote}
 use Rattle.entry_slots.specs.Slots.{slotVote, arrivedIn, bufferBallots}
 use Rattle.entry_send_vote.specs.Voting.{ownView, pressOf, requestsHeard, votesOn, sendVoteStatus, votesByte, votedOf, voteIn, voteFrom, sendVoteSent, sendVoteLeft}

@@ -1,11 +1,9 @@
 -- `entry_decide::member_decides` meets its contract: by whether it votes. Assumes nothing.
 use mathlib.Core.Path.{_≡_, sym, ap, ap₂, _∙_}
 use mathlib.Core.Bool.{Bool, true, false, cond}
-use mathlib.Core.List.{List}
 use Prim.Native.Nat.{ℕ}
 use native.Mathlib.Omega.{arith}
 use Rattle.state.specs.declared.Group.{Group}
-use Rattle.state.specs.declared.State.{State}
 use Rattle.state.specs.declared.Node.{Node}
 use Rattle.rules.specs.declared.Vote.{Vote}
 use Rattle.rules.specs.OneCycle.{Ballots, memberDecides, silentDecides}
