@@ -8,4 +8,5 @@ pub mod States
 pub mod Counting
 pub mod Slots
 pub mod Own
+pub mod Modes
 pub mod Entering

@@ -299,6 +299,16 @@ examples =
           ∷ kept (group 3 0x3 0x7) 0x4 0 (times 2 (requesting 3 0x3 0x7) ++ (Out NoQuorum ∷ []))
           ∷ [];
     }
+    -- "its new set is the senders whose counted vote has that V": four nodes, node 3 starts, and node 2 misses its heartbeat. Nodes 0 and 1 vote and let node 3
+    -- in; node 2, which they heard, saw its set and did not vote: it is not in the new set, and halts.
+    ∷ record {
+      example = 28;
+      config = quietly 4;
+      founders = 0x7;
+      number = 0;
+      cycles = missing 0 0x8 0 0 (λ q. cond (eqb q 2) 0x8 0) nobody's ∷ [];
+      expected = kept (group 1 0xb 0xf) 0x4 0x8 (times 2 (requesting 1 0xb 0xf) ++ (Out Outvoted ∷ requesting 1 0xb 0xf ∷ [])) ∷ [];
+    }
     ∷ []
 
 -- ---- cycles from given states
@@ -432,6 +442,25 @@ given =
       example = 24;
       rule = silentDecides (quietly 3) 0 (group 4 0x7 0x7);
       votes = none ∷ vote 4 0x7 0x7 0x7 ∷ none ∷ [];
+      expected = member 4 0x7 0x7;
+    }
+    -- "with its own G, M and B": votes with another G, with another M and with another B are no reason to halt.
+    ∷ record {
+      example = 29;
+      rule = silentDecides (quietly 3) 0 (group 4 0x7 0x7);
+      votes = none ∷ vote 5 0x7 0x7 0x7 ∷ vote 5 0x7 0x7 0x7 ∷ [];
+      expected = member 4 0x7 0x7;
+    }
+    ∷ record {
+      example = 30;
+      rule = silentDecides (quietly 3) 0 (group 4 0x7 0x7);
+      votes = none ∷ vote 4 0x6 0x7 0x7 ∷ vote 4 0x6 0x7 0x7 ∷ [];
+      expected = member 4 0x7 0x7;
+    }
+    ∷ record {
+      example = 31;
+      rule = silentDecides (quietly 4) 0 (group 4 0x7 0xf);
+      votes = none ∷ vote 4 0x7 0x7 0x7 ∷ vote 4 0x7 0x7 0x7 ∷ none ∷ [];
       expected = member 4 0x7 0x7;
     }
     -- "It requests in the cycle after one in which its V differed from M": also where its set did not change, by a vote of node 1 that does not hold node 1.

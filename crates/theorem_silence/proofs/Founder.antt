@@ -1,13 +1,13 @@
 -- A founder of a quiet press that hears the other founders and nothing new sends no vote, and its image stays. Assumes nothing.
 use mathlib.Core.Path.{_≡_, refl, sym, ap, _∙_}
-use mathlib.Core.Bool.{Bool, true, false, not, _&&_, cond}
+use mathlib.Core.Bool.{Bool, true, false, not, _&&_, cond, false≢true}
 use mathlib.Core.List.{List}
 use mathlib.Core.Option.{none, some}
-use Prim.Native.Nat.{ℕ}
+use Prim.Native.Nat.{ℕ, _<_, _^_}
 use lib.Dec.{eqb, ltb}
 use Rattle.sets.specs.Sets.{has, single, subset, below, _∩_, _∖_}
-use Rattle.sets.proofs.Booleans.{and-l, and-r, eqb-self, eqb-true, ltb-true}
-use Rattle.sets.proofs.Membership.{has-inter, has-diff, has-single, has-none, set-ext, subset-in}
+use Rattle.sets.proofs.Booleans.{and-l, and-r, and-i, eqb-self, eqb-true, ltb-true}
+use Rattle.sets.proofs.Membership.{has-inter, has-diff, has-single, has-none, set-ext, subset-in, subset-of}
 use Rattle.sets.proofs.Nodes.{has-below, has-those}
 use Rattle.state.specs.declared.Group.{Group}
 use Rattle.state.specs.declared.State.{State}
@@ -16,17 +16,19 @@ use Rattle.state.specs.declared.Reason.the-variants.{Stopped}
 use Rattle.state.specs.declared.Node.{Node}
 use Rattle.state.specs.declared.Decoded.{Decoded}
 use Rattle.state.specs.declared.Decoded.the-variants.{Good}
-use Rattle.state.specs.State.{formed, foundingGroup}
+use Rattle.state.specs.State.{formedSets, formedPlace, formedState, formed, foundingGroup, initial}
 use Rattle.state.specs.Image.{imageOf, decoded}
 use Rattle.state.proofs.RoundTrip.{round-trip}
 use Rattle.refusal.specs.Refusal.{unless}
+use Rattle.refusal.proofs.Laws.{unless-done}
 use Rattle.rules.specs.OneCycle.{Ballots, viewOf, called, willVote, memberDecides, silentDecides}
 use Rattle.frames.specs.Written.{formedVote}
+use Rattle.entry_begin.specs.Begin.{beginStatus, beginLeft}
 use Rattle.entry_slots.specs.Slots.{slotVote, arrivedIn, bufferBallots}
 use Rattle.entry_send_vote.specs.Voting.{ownView, pressOf, requestsHeard, votesOn, sendVoteStatus, votesByte, votedOf, voteIn, voteFrom, sendVoteSent, sendVoteLeft}
 use Rattle.entry_decide.specs.Decide.{decideStatus, decision, decidedFrom, decideLeft}
-use Rattle.theorem_silence.specs.Founder.{founder, hearsFounders, FounderRests}
-use Rattle.theorem_silence.proofs.Silence.{sees-set, rests-alone}
+use Rattle.theorem_silence.specs.Founder.{founder, begun, hearsFounders, FounderRests, FoundersRest}
+use Rattle.theorem_silence.proofs.Silence.{and-no, sees-set, rests-alone}
 
 none-arrived : (n q : ℕ) (votes : List ℕ) (p : ℕ) → bufferBallots n q votes 0 p ≡ none
 unfolding bufferBallots arrivedIn
@@ -46,13 +48,23 @@ either-kept status x y e = go (eqb status 0)
     go true = e
     go false = refl
 
-module _ (n q G F heard0 heard1 requests : ℕ) (good : formed true (founder n q G F) ≡ true) (low : below n F ≡ F) (m : has q F ≡ true)
+module _ (n q G F heard0 heard1 requests : ℕ) (good : formed true (founder n q G F) ≡ true) (m : has q F ≡ true)
     (hears : hearsFounders n q F heard0 heard1 requests ≡ true) where
   abbrev g : Group
   g = foundingGroup G F
 
   abbrev node : Node
   node = founder n q G F
+
+  begins : node .state ≡ Member g false
+  begins = ap (λ (b : Bool). cond b (Member g false) (Out Stopped)) m
+
+  -- the founding set has no node at n or above
+  low : below n F ≡ F
+  unfolding formed formedSets
+  low =
+      let state = ap (formedState true q n) (sym begins) ∙ and-r (formedPlace q n) (formedState true q n (node .state)) good in
+      eqb-true (and-r (has q F && subset F F) (eqb (below n F) F) (and-r (ltb G (2 ^ 32)) (formedSets q n F F) state))
 
   others : (subset (F ∖ single q) heard0 ≡ true) × (subset (below n heard1) F ≡ true) × ((F ∩ requests) ∖ single q ≡ 0)
   unfolding hearsFounders
@@ -80,9 +92,6 @@ module _ (n q G F heard0 heard1 requests : ℕ) (good : formed true (founder n q
   silent : votesOn true node g false heard0 heard1 requests ≡ false
   unfolding willVote called
   silent = rw (sees, eqb-self F, uncalled)
-
-  begins : node .state ≡ Member g false
-  begins = ap (λ (b : Bool). cond b (Member g false) (Out Stopped)) m
 
   found : decoded true (imageOf node) ≡ Good node
   found = round-trip true node good
@@ -118,5 +127,43 @@ module _ (n q G F heard0 heard1 requests : ℕ) (good : formed true (founder n q
         (ap (λ (d : Decoded). decidedFrom true d heard0 heard1 requests votes 0 (imageOf node)) found
         ∙ ap (λ (s : State). imageOf (record { state = s; id = q; nodes = n })) (ap (λ (s : State). decision true node s heard0 heard1 requests votes 0) begins ∙ rests-on ∙ sym begins))
 
-  pub founder-rests : FounderRests n q G F heard0 heard1 requests
-  founder-rests = record { silent = sends-none; unwritten = writes-none; unchanged = leaves }
+  rests-all : FounderRests n q G F heard0 heard1 requests
+  rests-all = record { silent = sends-none; unwritten = writes-none; unchanged = leaves }
+
+pub founder-rests : FoundersRest
+founder-rests n q G F heard0 heard1 requests good m hears = rests-all n q G F heard0 heard1 requests good m hears
+
+-- ---- the image is that of the beginning, and the premises can be met
+
+pub begins-so : (n q F : ℕ) (s : List ℕ) → beginStatus n q F s ≡ 0 → beginLeft n q F s ≡ begun n q 0 F
+unfolding beginLeft
+begins-so n q F s e = unless-done (beginStatus n q F s) (begun n q 0 F) s e
+
+pub founder-there : (n q G F : ℕ) → formedPlace q n ≡ true → G < 2 ^ 32 → has q F ≡ true → below n F ≡ F
+    → (formed true (founder n q G F) ≡ true) × (hearsFounders n q F F 0 0 ≡ true)
+unfolding formed formedSets hearsFounders
+founder-there n q G F place small m bound = (whole, hears)
+  where
+    inside : subset F F ≡ true
+    inside = subset-of F F (λ x h. h)
+
+    whole : (formedPlace q n && formedState true q n (initial G F q)) ≡ true
+    whole =
+        and-i (formedPlace q n) (formedState true q n (initial G F q)) place
+        (ap (λ (b : Bool). formedState true q n (cond b (Member (foundingGroup G F) false) (Out Stopped))) m
+        ∙ and-i (ltb G (2 ^ 32)) (formedSets q n F F) (ltb-true small)
+        (and-i (has q F && subset F F) (eqb (below n F) F) (and-i (has q F) (subset F F) m inside) (ap (λ (x : ℕ). eqb x F) bound ∙ eqb-self F)))
+
+    others-in : subset (F ∖ single q) F ≡ true
+    others-in = subset-of (F ∖ single q) F (λ x h. and-l (has x F) (not (has x (single q))) (sym (has-diff x F (single q)) ∙ h))
+
+    nobody : below n 0 ≡ 0
+    nobody = set-ext (λ x. has-below x n 0 ∙ ap (λ (b : Bool). ltb x n && b) (has-none x) ∙ and-no (ltb x n) ∙ sym (has-none x))
+
+    none-asks : (F ∩ 0) ∖ single q ≡ 0
+    none-asks = set-ext (λ x. has-diff x (F ∩ 0) (single q) ∙ ap (λ (b : Bool). b && not (has x (single q))) (has-inter x F 0 ∙ ap (λ (b : Bool). has x F && b) (has-none x) ∙ and-no (has x F)) ∙ sym (has-none x))
+
+    hears : (subset (F ∖ single q) F && (subset (below n 0) F && eqb ((F ∩ 0) ∖ single q) 0)) ≡ true
+    hears = and-i (subset (F ∖ single q) F) (subset (below n 0) F && eqb ((F ∩ 0) ∖ single q) 0) others-in
+        (and-i (subset (below n 0) F) (eqb ((F ∩ 0) ∖ single q) 0)
+        (ap (λ (x : ℕ). subset x F) nobody ∙ subset-of 0 F (λ x h. absurd (false≢true (sym (has-none x) ∙ h)))) (ap (λ (x : ℕ). eqb x 0) none-asks ∙ eqb-self 0))

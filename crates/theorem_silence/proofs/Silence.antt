@@ -26,7 +26,7 @@ use Rattle.rules.proofs.Undisturbed.{Undisturbed, undisturbed, reach-heartbeat}
 use Rattle.rules.proofs.States.{rule1-member}
 use Rattle.theorem_silence.specs.Silence.{leftAlone, allLeft, quietRow, sentIn, noVotes, Silence}
 
-and-no : (b : Bool) → (b && false) ≡ false
+pub and-no : (b : Bool) → (b && false) ≡ false
 and-no true = refl
 and-no false = refl
 

@@ -1,13 +1,13 @@
--- Request 3 at the node end: what a founder of a quiet press does that hears the other founders and nothing new. Its image is the one that `beginLeft` gives.
+-- Request 3 at the node end: what a founder of a quiet press does that hears the other founders and nothing new. Its image is the one that `beginLeft` gives (`begins-so`).
 -- Assumes nothing.
 use mathlib.Core.Path.{_≡_}
-use mathlib.Core.Bool.{Bool, _&&_}
+use mathlib.Core.Bool.{Bool, true, _&&_}
 use mathlib.Core.List.{List}
 use Prim.Native.Nat.{ℕ}
 use lib.Dec.{eqb}
-use Rattle.sets.specs.Sets.{single, subset, below, _∩_, _∖_}
+use Rattle.sets.specs.Sets.{has, single, subset, below, _∩_, _∖_}
 use Rattle.state.specs.declared.Node.{Node}
-use Rattle.state.specs.State.{initial}
+use Rattle.state.specs.State.{formed, initial}
 use Rattle.state.specs.Image.{imageOf}
 use Rattle.refusal.specs.Refusal.{unless}
 use Rattle.entry_send_vote.specs.Voting.{sendVoteStatus, sendVoteSent, sendVoteLeft}
@@ -30,3 +30,9 @@ pub record FounderRests (n q G F heard0 heard1 requests : ℕ) : Type 0 where
   pub unwritten : (cycle channel : ℕ) (f : List ℕ) → sendVoteLeft 1 (begun n q G F) heard0 heard1 requests cycle channel f ≡ f
   -- where no vote arrived, its image stays
   pub unchanged : (votes : List ℕ) → decideLeft 1 (begun n q G F) heard0 heard1 requests votes 0 ≡ begun n q G F
+
+-- for every founder whose image is well formed: 2 to 64 nodes, the node below them and in the founding set, which has no node at N or above
+abbrev pub FoundersRest : Type 0
+FoundersRest =
+    (n q G F heard0 heard1 requests : ℕ) → formed true (founder n q G F) ≡ true → has q F ≡ true → hearsFounders n q F heard0 heard1 requests ≡ true
+    → FounderRests n q G F heard0 heard1 requests
