@@ -1143,20 +1143,23 @@ fn decisions_of_two(compare: &mut Compare) {
 }
 
 /// every decision and vote of a member of two or three nodes: all sets and bases, whether it requests, all masks that it heard, and of each other node no vote,
-/// one with its own view or one with another
+/// one with its own view or one with another; some that voted, and in a quiet press some that did not, are put out by the other
 fn decisions_of_two_and_three(compare: &mut Compare) {
+    let mut outvoted = [0; 2];
     let requests = if compare.press_mode().is_quiet() { &[false, true][..] } else { &[false] };
     for (n, node) in [(2, 0), (2, 1), (3, 0), (3, 1), (3, 2)] {
         let pairs = (1..1_u64 << n).flat_map(|set| (set..1 << n).map(move |base| (set, base)));
         for (set, base) in pairs.filter(|(set, base)| has(*set, node) && inside(*set, *base)) {
             for &request in requests {
-                decisions_of(compare, &Unit { n, node, state: State::Member { group: Group { number: 9, set, base }, request } });
+                decisions_of(compare, &Unit { n, node, state: State::Member { group: Group { number: 9, set, base }, request } }, &mut outvoted);
             }
         }
     }
+    assert!(outvoted[1] > 0 && (outvoted[0] > 0) == compare.press_mode().is_quiet(), "outvoted by another view: {outvoted:?}");
 }
 
-fn decisions_of(compare: &mut Compare, unit: &Unit) {
+/// adds to `outvoted`, by whether the member voted, how often a view that is not its own put it out
+fn decisions_of(compare: &mut Compare, unit: &Unit, outvoted: &mut [usize; 2]) {
     let State::Member { group, .. } = unit.state else { unreachable!() };
     let (n, state) = (unit.n, image(unit));
     // where requests are not looked at, none and all are enough
@@ -1166,25 +1169,32 @@ fn decisions_of(compare: &mut Compare, unit: &Unit) {
         let view = make::view(unit, &group, Heard { join0, join1, requests: 0 });
         for &requests in &requests {
             let heard = Heard { join0, join1, requests };
-            compare.send_vote(&state, heard, [9, 1], &[7; 36], 9);
-            for choice in 0..3_usize.pow(n as u32 - 1) {
-                let (slots, arrived) = chosen_votes(unit, &group, view, choice);
-                compare.decide(&state, heard, &slots, arrived);
+            let voted = compare.send_vote(&state, heard, [9, 1], &[7; 36], 9).0 == 1;
+            for (other, choice) in other_views(n, &group, view).flat_map(|other| (0..3_usize.pow(n as u32 - 1)).map(move |choice| (other, choice))) {
+                let (slots, arrived, own) = chosen_votes(unit, &group, [view, other], choice);
+                let left = compare.decide(&state, heard, &slots, arrived);
+                outvoted[usize::from(voted)] += usize::from(!own && left[..2] == [0, Reason::Outvoted as u8]);
             }
         }
     }
 }
 
-/// of each other node, by a digit of the choice: no vote, one with this view, or one with another that holds its sender
-fn chosen_votes(unit: &Unit, group: &Group, view: u64, choice: usize) -> (Vec<u8>, u64) {
-    let (mut slots, mut arrived, mut choice) = (vec![0; VOTES_BYTES], 0, choice);
+/// other views than this one: the set, or, where it is the set, the sets that lack one of its nodes or have one more
+fn other_views(n: usize, group: &Group, view: u64) -> impl Iterator<Item = u64> {
+    let set = group.set;
+    (0..n).map(move |q| if view == set { set ^ only(q) } else { set }).take(if view == set { n } else { 1 })
+}
+
+/// of each other node, by a digit of the choice: no vote, one with the first view, or one with the second; and whether some have the first
+fn chosen_votes(unit: &Unit, group: &Group, views: [u64; 2], choice: usize) -> (Vec<u8>, u64, bool) {
+    let (mut slots, mut arrived, mut choice, mut first) = (vec![0; VOTES_BYTES], 0, choice, false);
     for q in (0..unit.n).filter(|&q| q != unit.node) {
-        let other = view ^ only((q + 1) % unit.n);
-        make::put_vote(&mut slots, q, &Vote { group: *group, view: if choice % 3 == 2 { other } else { view } });
+        make::put_vote(&mut slots, q, &Vote { group: *group, view: views[usize::from(choice % 3 == 2)] });
         arrived |= if choice % 3 == 0 { 0 } else { only(q) };
+        first |= choice % 3 == 1;
         choice /= 3;
     }
-    (slots, arrived)
+    (slots, arrived, first)
 }
 
 /// a single cycle from every state that kept cycles reach at N 2 and 3, under every fault record that keeps the promise
