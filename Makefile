@@ -38,7 +38,7 @@ INSTALLED = $(call below,bin,$(PROGRAMS)) lib/libgm.a $(HEADERS) $(PACKAGES) $(c
 TO = $(DESTDIR)$(PREFIX)
 
 # in the order of `make help`: first the commands, then the parts of `test` and of `load`; the line above a target is what `make help` says of it
-.PHONY: help run archive host test evidence trace edits install uninstall compare bench stack load load-full
+.PHONY: help run archive host test tests evidence trace edits install uninstall compare bench stack load load-full
 .PHONY: format trace-test commands-test archive-test series-test heartbeats-test quiet-test vectors-test badinput-test examples-test text-test arguments-test install-test compare-test load-test load-program load-archive
 
 # a command that is needed and not there is named in one sentence, before anything is done
@@ -66,29 +66,33 @@ run: $(GROUPRUN) $(TABLETEXT)
 	@echo "make run: this is the run of examples/p1.txt, line by line the paper's; a text of your own:" \
 	    "$(TABLETEXT) table <my.txt >my.tab && $(GROUPRUN) <my.tab" >&2
 
-# what `make test` runs before the gate: first what needs no archive, then the archive and the programs, last what takes longest
+# what `make test` runs: before the gate what needs no archive, then, beside the edits of the gate, the archive and the programs, last what takes longest
 FIRST_TESTS = format trace-test commands-test
 BUILT_TESTS = archive-test series-test heartbeats-test quiet-test host run examples-test vectors-test badinput-test text-test arguments-test install-test
 LONG_TESTS = compare-test load-test
 # whether make was given an option of one letter
 option = $(findstring $1,$(filter-out -%,$(firstword $(MAKEFLAGS))))
 
-# all tests, then everything proved from nothing and every wrong edit tried; the last line is 'N passed, 0 failed'
+# the gate: everything proved from nothing, every wrong edit tried, and all tests beside that; the last line is 'N passed, 0 failed'
 test:
 	@$(if $(call option,i),$(error make test ends with the first test that fails: run it without -i))\
 	    $(call needs,rt cargo gcc g++ git script)echo "make test: 17 to 29 minutes on two idle cores" >&2
 	@tools/evidence.sh begin
-	@$(MAKE) --no-print-directory --silent $(FIRST_TESTS) archive
+	@$(MAKE) --no-print-directory --silent $(FIRST_TESTS)
+	@tools/gate.sh "20 to 30 minutes on two idle cores" make --no-print-directory tests
+
+# those tests of `test` that need the archive and the programs, built first where they are not there
+tests:
+	@$(MAKE) --no-print-directory --silent archive
 	@$(MAKE) --no-print-directory -j2 --output-sync $(BUILT_TESTS)
 	@$(MAKE) --no-print-directory -j2 --output-sync $(LONG_TESTS) | $(if $(call option,n),cat,tee log/compared.log)
 	@tools/evidence.sh passed "$(FIRST_TESTS) $(BUILT_TESTS) $(LONG_TESTS)" $(ARCHIVE) $(HEADERS) $(PROGRAMS)
-	@tools/kit.sh gate "13 to 23 minutes on two idle cores" ci
 
 # one text, evidence.txt, for the record of a delivery: kit, commit, sums, and what the last `make test` tested, proved, refused and compared
 evidence: $(if $(wildcard log/gate.log),$(ARCHIVE) $(PROGRAMS))
 	@$(call needs,rt git)tools/evidence.sh $(VERSION) $(ARCHIVE) $(HEADERS) $(PROGRAMS)
 
-# five units run the example of the paper through frames with drive bytes on both channels, beside gm_cycle and over a bus with damage; then drive cards on register blocks
+# five units run the example of the paper through frames with drive bytes on both channels, beside gm_cycle and over a bus with damage; then drive cards on register blocks; both in both modes
 host: archive
 	@mkdir -p $(BUILD)
 	@for host in $(HOSTS); do $(C99) examples/$$host.c $(ARCHIVE) -o $(BUILD)/$$host && $(BUILD)/$$host | tee $(BUILD)/$$host.out && \
@@ -158,8 +162,9 @@ vectors-test: $(GROUPRUN) $(QUIETRUN)
 	@tests/vectors.sh $(GROUPRUN) $(QUIETRUN)
 
 # cut, changed and random input is answered as by plain C
-badinput-test: $(GROUPRUN) $(PLAIN) $(TABLEGEN) $(TABLETEXT)
-	@tests/badinput.sh $(GROUPRUN) $(PLAIN) $(TABLEGEN) $(BUILD)
+badinput-test: $(GROUPRUN) $(QUIETRUN) $(PLAIN) $(TABLEGEN) $(TABLETEXT)
+	@tests/badinput.sh $(GROUPRUN) $(TABLEGEN) $(BUILD) $(PLAIN)
+	@tests/badinput.sh $(QUIETRUN) $(TABLEGEN) $(BUILD) $(PLAIN) quiet
 
 # the examples of the product paper and of a quiet press print their runs
 examples-test: $(GROUPRUN) $(QUIETRUN) $(TABLETEXT)

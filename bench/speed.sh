@@ -12,7 +12,7 @@ Ratios are of times: below 1, ours is faster. No entry gives a check alone: the 
 the frame check as a frame of 262 bytes that is refused after it, as not due (refusal 9).
 Heartbeats are written, read and received without drive bytes (words 1) and with 2, 30 and 252 of them. Asked for are at most 1.25 times C's time each, and
 for two channels at most 2.1 times one read.
-Rows that begin with "quiet", and quietrun, are of presses in mode 1, all others of presses that vote in every cycle. Asked for are at most 1.4 times C's
+Rows that say "quiet", and quietrun, are of presses in mode 1, all others of presses that vote in every cycle. Asked for are at most 1.4 times C's
 time for quietrun without faults at 64 nodes, and 1.15 for decide, send vote and receive heartbeat.
 Steps on a register block: a read of the pending byte, a write that clears a flag, a cycle, and both together.
 "to ours" is ours to another operation of ours, timed in the same rotation: two channels to one read of the same words, a cycle of a block, alone and with

@@ -140,18 +140,18 @@
  * AGREEMENT. A node receives a frame if gm_receive_heartbeat or gm_receive_vote makes something of its
  * copies: not GM_MISSED, or the bit of `arrived` set. A node is touched in a cycle if it is stopped in it,
  * if one of its frames is lost in sending, that is, received by nobody, or if it does not receive a frame
- * that somebody else receives. (A unit that is out and makes no calls may be counted as having received a
- * frame or not. In a table a mark counts as the fault, also where nothing was sent.) Nobody is touched
- * before the first cycle. The group of record is the founding set at first. The steady nodes of a cycle are
- * those in the group of record at its beginning that were touched neither in it nor in the cycle before;
- * after the cycle the group of record is the one that they hold. As long as in every cycle the steady nodes
- * are more than half of the group of record at its beginning and that of one cycle earlier together (in the
- * first cycle both are the founding set), all members that were untouched in a cycle hold after it the
- * group of record: one set and number. A member that was touched may hold another set for one cycle, ALSO
- * UNDER THE SAME NUMBER, and halts or is stopped in the next; it cannot tell. So compare sets and not
- * numbers alone. From the first cycle in which the steady nodes are half or fewer nothing more is promised,
- * and no entry reports it: grouprun(1) does, of a table of faults. Of a group of two, neither may be
- * touched.
+ * that somebody else receives. (A vote that rests is no frame, and touches nobody. A unit that is out and
+ * makes no calls may be counted as having received a frame or not. In a table a mark counts as the fault,
+ * also where nothing was sent.) Nobody is touched before the first cycle. The group of record is the
+ * founding set at first. The steady nodes of a cycle are those in the group of record at its beginning that
+ * were touched neither in it nor in the cycle before; after the cycle the group of record is the one that
+ * they hold. As long as in every cycle the steady nodes are more than half of the group of record at its
+ * beginning and that of one cycle earlier together (in the first cycle both are the founding set), all
+ * members that were untouched in a cycle hold after it the group of record: one set and number. A member
+ * that was touched may hold another set for one cycle, ALSO UNDER THE SAME NUMBER, and halts or is stopped
+ * in the next; it cannot tell. So compare sets and not numbers alone. From the first cycle in which the
+ * steady nodes are half or fewer nothing more is promised, and no entry reports it: grouprun(1) and
+ * quietrun(1) do, of a table of faults. Of a group of two, neither may be touched.
  *
  * DUTIES OF THE HOST. No call can see these, and agreement is promised only where they are kept (SAFETY.md
  * has them with their reasons):
@@ -398,8 +398,8 @@ uint32_t gm_state(uint32_t mode, const uint8_t *state, size_t state_len, uint32_
 
 /*
  * Writes the heartbeat of a node from numbers, with the drive bytes behind its first word. Where there are
- * none, `drive` is any pointer that is not null, and drive_len 0. A request goes without join and in a
- * quiet press.
+ * none, `drive` is any pointer that is not null, and drive_len 0. A request goes without join, and in a
+ * quiet press alone.
  * drive: an even number of bytes, at most GM_DRIVE_BYTES; frame: GM_HEARTBEAT_BYTES + drive_len. Refusals:
  * COUNT, NUMBER, LENGTH, CONTENT.
  */

@@ -1,8 +1,8 @@
 #!/usr/bin/env bash
 # Whether a program answers input of any kind as plain C does: cut, changed and random tables, and one that comes in pieces.
-# Usage: badinput.sh GROUPRUN PLAIN TABLEGEN BUILD-FOLDER, which holds tabletext
+# Usage: badinput.sh PROGRAM TABLEGEN BUILD-FOLDER PLAIN [ITS ARGUMENT]; the folder holds tabletext, and the argument is the mode of plain C
 set -euo pipefail
-grouprun=$1 plain=$2 tablegen=$3 build=$4 here=$(dirname "$0")
+program=$1 tablegen=$2 build=$3 plain=("${@:4}") here=$(dirname "$0")
 table=$build/badinput.p1 input=$build/badinput.tab expected=$build/badinput.expected given=$build/badinput.out
 count=0 refused=0
 fail() { echo "tests/badinput: $* (kept in $input)" >&2; exit 1; }
@@ -10,8 +10,8 @@ fail() { echo "tests/badinput: $* (kept in $input)" >&2; exit 1; }
 # the input stands in its file; `must` says that it is no table
 try() { # NAME [must]
     local last
-    timeout 10 "$plain" <"$input" >"$expected" || fail "$1: plain C ended with status $?"
-    timeout 10 "$grouprun" <"$input" >"$given" || fail "$1: ended with status $?"
+    timeout 10 "${plain[@]}" <"$input" >"$expected" || fail "$1: plain C ended with status $?"
+    timeout 10 "$program" <"$input" >"$given" || fail "$1: ended with status $?"
     cmp -s "$given" "$expected" || fail "$1: another run than plain C"
     last=$(tail -n 1 "$given")
     case $last in
@@ -55,11 +55,11 @@ for n in 2 5 64; do
     truncate -s -1 "$input"
     try "5000 cycles of $n nodes without the last byte" must
 done
-# what comes through a pipe in two pieces is one input
+# what comes through a pipe in two pieces is one input; P1 prints the same in both modes
 for cut in 1 2 3 12 13 47 48 191; do
-    { head -c "$cut" "$table"; sleep 0.05; tail -c +$((cut + 1)) "$table"; } | timeout 10 "$grouprun" >"$given" || fail "P1 in two pieces: status $?"
+    { head -c "$cut" "$table"; sleep 0.05; tail -c +$((cut + 1)) "$table"; } | timeout 10 "$program" >"$given" || fail "P1 in two pieces: status $?"
     cmp -s "$given" "$here/../examples/p1.out" || fail "P1 in two pieces, the first of $cut bytes: another run"
     count=$((count + 1))
 done
 rm -f "$input" "$table" "$expected" "$given"
-echo "tests/badinput: $count inputs answered as by plain C, $refused of them refused"
+echo "tests/badinput: ${program##*/}: $count inputs answered as by plain C, $refused of them refused"

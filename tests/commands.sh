@@ -212,7 +212,7 @@ refused() { # REASON
     has "$room/evidence.txt" "NOT EVIDENCE: $1"
     has "$work/err" "NOT EVIDENCE: $1"
 }
-compared_lines=('compare: seed 7, 9 random calls' 'gm_begin    5 calls; by status 0: 5' 'gm_stop     4 calls; by status 0: 4' 'gm_stop: joining: 4'
+compared_lines=('stored: 8 votes and decisions come out' 'compare: seed 7, 9 random calls' 'gm_begin    5 calls; by status 0: 5' 'gm_stop     4 calls; by status 0: 4' 'gm_stop: joining: 4'
     'compare: 9 calls agree' 'press: mistake SenderSkipped is noticed by press 0' 'press: all presses agree, and every mistake is noticed'
     'printed: 3 tables agree' 'demand3: all claims hold, and every mistake is found' 'load: other lines')
 # the logs of a run, from a gate that says what is given
@@ -249,6 +249,7 @@ axioms of vectors: 1, libc::write
 axioms of rowrun: 2, libc::read libc::write
 edits refused: 1 of 1
 tests/edits: 1 edits, each refused by what it names
+stored: 8 votes and decisions come out
 compare: seed 7, 9 random calls
 gm_begin    5 calls; by status 0: 5
 gm_stop     4 calls; by status 0: 4
@@ -309,7 +310,7 @@ check_axioms() {
 # a comparison without one of its parts, or without an entry
 check_comparison() {
     local part
-    for part in 'compare: 9' 'press: all' 'printed: ' 'demand3: ' 'gm_stop  '; do
+    for part in 'stored: ' 'compare: 9' 'press: all' 'printed: ' 'demand3: ' 'gm_stop  '; do
         tested "${gate_lines[@]}"
         sed -i "/^$part/d" "$room/log/compared.log"
         refused "the comparison with other code has no line '${part%% *}"
@@ -317,7 +318,7 @@ check_comparison() {
     printf '%s\n' "${compared_lines[@]/gm_stop     4/gm_stop     0}" >"$room/log/compared.log"
     refused "the comparison with other code has no line 'gm_stop"
     rm "$room/log/compared.log"
-    refused "the comparison with other code has no line 'compare: "
+    refused "the comparison with other code has no line 'stored: "
 }
 # a run that ended before its gate
 check_begun() {

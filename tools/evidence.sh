@@ -1,7 +1,7 @@
 #!/usr/bin/env bash
 # Writes evidence.txt, for the record of a delivery: kit, commit, sums of the files delivered, and what the last `make test` tested, proved, refused and compared. It
 # reads the logs of that run and proves nothing. What is missing, failed, or other than what was tested is said in the text, first of all, and the command fails.
-# Usage: evidence.sh begin, as `make test` begins; evidence.sh passed "TEST..." FILE..., before its gate; evidence.sh VERSION FILE... afterwards
+# Usage: evidence.sh begin, as `make test` begins; evidence.sh passed "TEST..." FILE..., when its tests have passed; evidence.sh VERSION FILE... afterwards
 set -euo pipefail
 cd "$(dirname "$0")/.."
 begun=log/begun tested=log/tested gate=log/gate.log compared=log/compared.log
@@ -25,7 +25,7 @@ begin() {
     rm -f "$tested" "$gate" "$compared"
     state >"$begun"
 }
-# the gate removes the files that were tested: their sums stay
+# the sums of the files that were tested
 passed() { # "TEST..." FILE...
     { echo "tests passed: $(wc -w <<<"$1"), $1"; sha256sum "${@:2}"; } >"$tested"
 }
@@ -92,10 +92,10 @@ proofs() { # CRATES
 # what the comparison with other code says of its seeds and numbers; each of its parts must have come to its end, and each entry of the header have been called
 compared() {
     local line absent=
-    grep -asE '^(compare|press|printed|demand3): |^gm_[a-z_]+ +[0-9]+ calls' "$compared" | grep -v ': mistake ' || true
+    grep -asE '^(stored|compare|press|printed|demand3): |^gm_[a-z_]+ +[0-9]+ calls' "$compared" | grep -v ': mistake ' || true
     while read -r line; do
         grep -qasE "^$line" "$compared" || absent+=" '$line'"
-    done < <(printf '%s\n' 'compare: [0-9]+ calls agree' 'press: all presses agree' 'printed: [0-9]+ tables agree' 'demand3: all claims hold' &&
+    done < <(printf '%s\n' 'stored: [0-9]+ votes and decisions' 'compare: [0-9]+ calls agree' 'press: all presses agree' 'printed: [0-9]+ tables agree' 'demand3: all claims hold' &&
         sed -nE 's/^uint32_t (gm_[a-z_]+).*/\1 +[1-9][0-9]* calls/p' include/gm.h)
     [ -z "$absent" ] || lacks "the comparison with other code has no line$absent"
 }

@@ -29,7 +29,7 @@ static const size_t mask_places[MASKS] = {GM_CYCLE_AT_STOP, GM_CYCLE_AT_START, G
 static const char *const phase_names[PHASES] = {"heartbeat", "vote"};
 
 static const char help[] =
-    "usage: tabletext table < x.txt > x.tab    makes a table for grouprun from a text\n"
+    "usage: tabletext table < x.txt > x.tab    makes a table for grouprun and quietrun from a text\n"
     "       tabletext text < x.tab > x.txt     makes a text from a table\n"
     "       tabletext --help | --version\n"
     "\n"

@@ -1,6 +1,6 @@
 /*
  * A table's run in plain C, from the product paper and the requests made after it alone: what `grouprun` is timed beside, and held to on damaged tables;
- * with the argument `quiet` the same for `quietrun`.
+ * with the argument `quiet` the same for `quietrun`, in mode 1.
  * It reads and writes in large blocks, and its memory does not grow with the table. Reasons of halting are not kept, since no line shows them.
  */
 #include "records.h"

@@ -160,13 +160,7 @@ fn decisions(
     requires { ⌜ (length (now a) ≡ 2304) × (length (now b) ≡ 2304) ⌝ }
     ensures { λ r. ⌜ ((q : ℕ) → q < config .nodes → stateAt r q ≡ decidedRead (now (numbers .entry)) (now (sets .entry)) (now (bases .entry)) (now (views .entry)) config count w voting (sent ∖ getD (now (missed .entry)) q 0) (now (a .entry)) (now (b .entry)) q) ⌝ }
 {
-    let mut next = Roles {
-        members: 0,
-        asking: 0,
-        joining: 0,
-        no_quorum: 0,
-        outvoted: 0,
-    };
+    let mut next = cluster_states::no_roles();
     let mut new_numbers = [0u32; 64];
     let mut new_sets = [0u64; 64];
     let mut new_bases = [0u64; 64];
@@ -271,17 +265,10 @@ pub fn cycle(config: Config, count: u32, s: States, f: Faults, frames: &mut [u8]
     let numbers = s.numbers;
     let sets = s.sets;
     let bases = s.bases;
+    let lost = f.heartbeat_lost;
     let unheard = f.heartbeat_missed;
     let missed = f.vote_missed;
-    let seen = bus_channels::heartbeat_phase(
-        config,
-        count,
-        w,
-        f.heartbeat_lost,
-        &unheard,
-        &sets,
-        frames,
-    );
+    let seen = bus_channels::heartbeat_phase(config, count, w, lost, &unheard, &sets, frames);
     let views = seen.views;
     let after = vote_phase(
         config,

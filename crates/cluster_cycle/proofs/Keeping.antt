@@ -1,6 +1,6 @@
 -- A member that stays, and those that cast its vote and count the same. Assumes nothing.
 use mathlib.Core.Path.{_≡_, refl, sym, ap, ap₂, _∙_}
-use mathlib.Core.Bool.{Bool, true, false≢true}
+use mathlib.Core.Bool.{Bool, true, false, _&&_, cond, false≢true}
 use mathlib.Core.List.{List}
 use Prim.Native.Nat.{ℕ, _<_}
 use lib.Dec.{eqb}
@@ -21,7 +21,7 @@ use Rattle.cluster_states.specs.declared.Roles.{Roles}
 use Rattle.cluster_cycle.specs.declared.Followed.{Followed}
 use Rattle.cluster_tallies.specs.Grouped.{Grouped, Within, spreadAt, ownTally, memberWith}
 use Rattle.cluster_states.specs.Decided.{decidedAt, heldBy}
-use Rattle.cluster_cycle.specs.Follows.{Worth}
+use Rattle.cluster_cycle.specs.Follows.{Worth, kept}
 use Rattle.cluster_tallies.proofs.Tallies.{cast-it, own-wins, goes-on}
 
 module _ (numbers sets bases views : List ℕ) (C : Config) (w : Roles) (voting : ℕ) where
@@ -36,7 +36,7 @@ module _ (numbers sets bases views : List ℕ) (C : Config) (w : Roles) (voting 
     unfolding decidedAt
     member-is q present i = rw i
 
-    pub keeps : (q present : ℕ) (d : State) (k : Followed) → q < C .nodes → Within present voting → has q voting ≡ true → d ≡ decidedAt numbers sets bases views C w voting present q
+    keeps : (q present : ℕ) (d : State) (k : Followed) → q < C .nodes → Within present voting → has q voting ≡ true → d ≡ decidedAt numbers sets bases views C w voting present q
         → sendsMember d ≡ true → k .votes ≡ spreadAt lead same q → k .set ≡ getD sets q 0 → k .counted ≡ ownTally (k .votes) (k .set) present q → k .group ≡ heldBy d → k .request ≡ asks d → Worth numbers sets bases views C w voting k
     keeps q present d k l inside i e stays ev es ec eg er x others lx within f =
         member-is x others (about .0) ∙ sym (goes-on numbers sets bases views C voting others within lead same grouped x (k .counted) (k .votes) own lx (about .0) (sym (about .1)) group theirs enough) ∙ ap₂ (λ (g : Group) (a : Bool). Member g a) (sym held) (sym asked)
@@ -78,3 +78,23 @@ module _ (numbers sets bases views : List ℕ) (C : Config) (w : Roles) (voting 
         theirs =
             sym (eqb-true (and-r (has x (k .votes)) (eqb (ownTally (k .votes) (k .set) others x) (k .counted)) f))
             ∙ ap (λ (z : ℕ). ownTally (k .votes) z others x) es
+
+    -- so what is kept stays worth
+    pub kept-worth : (q present : ℕ) (d : State) (k : Followed) → q < C .nodes → Within present voting → d ≡ decidedAt numbers sets bases views C w voting present q
+        → Worth numbers sets bases views C w voting k → Worth numbers sets bases views C w voting (kept q sets lead same voting present d k)
+    kept-worth q present d k l inside e worth = go (has q voting) (sendsMember d) refl refl
+      where
+        it : Followed
+        it =
+            record {
+              votes = spreadAt lead same q;
+              set = getD sets q 0;
+              counted = ownTally (spreadAt lead same q) (getD sets q 0) present q;
+              group = heldBy d;
+              request = asks d;
+            }
+
+        go : (i s : Bool) → has q voting ≡ i → sendsMember d ≡ s → Worth numbers sets bases views C w voting (cond (i && s) it k)
+        go true true i s = keeps q present d it l inside i e s refl refl refl refl refl
+        go true false i s = worth
+        go false s i t = worth

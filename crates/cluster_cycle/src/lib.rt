@@ -1,13 +1,14 @@
 // One cycle of all nodes of a cluster, on masks and arrays.
 ghost use mathlib.Core.Path.{_≡_};
+ghost use mathlib.Core.Bool.{false};
 ghost use Prim.Native.Nat.{ℕ, _<_, _≤_};
 ghost use lib.ListN.{length, getD};
-ghost use Rattle.sets.specs.Sets.{_∖_};
+ghost use Rattle.sets.specs.Sets.{has, _∖_};
 ghost use Rattle.rules.specs.Faults.{cycle as theCycle};
 ghost use Rattle.cluster_tallies.specs.Grouped.{Grouped, Within, Below};
 ghost use Rattle.cluster_states.specs.States.{statesOf, faultsOf, stateAt, rowOf};
 ghost use Rattle.cluster_states.specs.Decided.{viewAt, votingOf, decidedAt};
-ghost use Rattle.cluster_cycle.specs.Follows.{follows as doesFollow, Worth, withMember};
+ghost use Rattle.cluster_cycle.specs.Follows.{follows as doesFollow, kept, withMember};
 use cluster_states::Roles;
 use cluster_states::States;
 use rules::Config;
@@ -65,6 +66,56 @@ fn voting_of(
     m
 }
 
+// What node q decides that does not vote, on the votes in the slots `present`.
+fn decide_silent(
+    config: Config,
+    q: usize,
+    numbers: &[u32; 64],
+    sets: &[u64; 64],
+    bases: &[u64; 64],
+    views: &[u64; 64],
+    lead: u64,
+    same: &[u64; 64],
+    w: Roles,
+    voting: u64,
+    present: u64,
+) -> State
+    requires { ⌜ (config .nodes ≤ 64) × (q < config .nodes) × (has q voting ≡ false) ⌝ }
+    requires { ⌜ Grouped (now numbers) (now sets) (now bases) (now views) (config .nodes) voting lead (now same) ⌝ }
+    requires { ⌜ Within present voting ⌝ }
+    ensures { λ r. ⌜ r ≡ decidedAt (now (numbers .entry)) (now (sets .entry)) (now (bases .entry)) (now (views .entry)) config w voting present q ⌝ }
+{
+    if sets::contains(w.members, q) {
+        cluster_tallies::silent_decides(
+            config,
+            q,
+            numbers,
+            sets,
+            bases,
+            views,
+            lead,
+            same,
+            voting,
+            present,
+        )
+    } else if sets::contains(w.joining, q) {
+        cluster_tallies::joiner_decides(
+            config,
+            q,
+            numbers,
+            sets,
+            bases,
+            views,
+            lead,
+            same,
+            voting,
+            present,
+        )
+    } else {
+        cluster_states::out_at(w, q)
+    }
+}
+
 // What node q decides on the votes in the slots `present`.
 fn decide(
     config: Config,
@@ -97,34 +148,20 @@ fn decide(
             voting,
             present,
         )
-    } else if sets::contains(w.members, q) {
-        cluster_tallies::silent_decides(
-            config,
-            q,
-            numbers,
-            sets,
-            bases,
-            views,
-            lead,
-            same,
-            voting,
-            present,
-        )
-    } else if sets::contains(w.joining, q) {
-        cluster_tallies::joiner_decides(
-            config,
-            q,
-            numbers,
-            sets,
-            bases,
-            views,
-            lead,
-            same,
-            voting,
-            present,
-        )
     } else {
-        cluster_states::out_at(w, q)
+        decide_silent(
+            config,
+            q,
+            numbers,
+            sets,
+            bases,
+            views,
+            lead,
+            same,
+            w,
+            voting,
+            present,
+        )
     }
 }
 
@@ -180,28 +217,19 @@ fn follows(k: Followed, present: u64, q: usize) -> bool
     }
 }
 
-// What is kept once node q has decided d: the last member that stays on its vote.
+// What is kept once node q has decided d on the votes in the slots `present`: the last member that stays on its vote.
 fn keep(
-    config: Config,
     q: usize,
-    numbers: &[u32; 64],
     sets: &[u64; 64],
-    bases: &[u64; 64],
-    views: &[u64; 64],
     lead: u64,
     same: &[u64; 64],
-    w: Roles,
     voting: u64,
     present: u64,
     d: State,
     k: Followed,
 ) -> Followed
-    requires { ⌜ (config .nodes ≤ 64) × (q < config .nodes) ⌝ }
-    requires { ⌜ Grouped (now numbers) (now sets) (now bases) (now views) (config .nodes) voting lead (now same) ⌝ }
-    requires { ⌜ Within present voting ⌝ }
-    requires { ⌜ d ≡ decidedAt (now numbers) (now sets) (now bases) (now views) config w voting present q ⌝ }
-    requires { ⌜ Worth (now numbers) (now sets) (now bases) (now views) config w voting k ⌝ }
-    ensures { λ r. ⌜ Worth (now (numbers .entry)) (now (sets .entry)) (now (bases .entry)) (now (views .entry)) config w voting r ⌝ }
+    requires { ⌜ q < 64 ⌝ }
+    ensures { λ r. ⌜ r ≡ kept q (now (sets .entry)) lead (now (same .entry)) voting present d k ⌝ }
 {
     let votes = cluster_tallies::votes_like(lead, same, q);
     let set = sets[q];
@@ -243,13 +271,7 @@ fn decisions(
     ensures { λ r. ⌜ ((q : ℕ) → q < config .nodes → stateAt (statesOf r (now («new_numbers» .exit)) (now («new_sets» .exit)) (now («new_bases» .exit))) q ≡ decidedAt (now (numbers .entry)) (now (sets .entry)) (now (bases .entry)) (now (views .entry)) config w voting (sent ∖ getD (now (missed .entry)) q 0) q) ⌝ }
 {
     let n = config.nodes;
-    let mut next = Roles {
-        members: 0,
-        asking: 0,
-        joining: 0,
-        no_quorum: 0,
-        outvoted: 0,
-    };
+    let mut next = cluster_states::no_roles();
     let mut k = nobody();
     let mut q: usize = 0;
     while q < n {
@@ -271,21 +293,7 @@ fn decisions(
                 voting,
                 came,
             );
-            k = keep(
-                config,
-                q,
-                numbers,
-                sets,
-                bases,
-                views,
-                lead,
-                same,
-                w,
-                voting,
-                came,
-                d,
-                k,
-            );
+            k = keep(q, sets, lead, same, voting, came, d, k);
             g = cluster_states::held_by(d);
             next = cluster_states::with_state(next, q, d);
         }

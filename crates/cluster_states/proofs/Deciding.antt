@@ -14,7 +14,7 @@ use Rattle.state.specs.declared.State.{State}
 use Rattle.state.specs.declared.State.the-variants.{Out, Joining, Member}
 use Rattle.rules.specs.OneCycle.{sendsMember, sendsJoin, asks}
 use Rattle.cluster_states.specs.declared.Roles.{Roles}
-use Rattle.cluster_states.specs.States.{stateAt}
+use Rattle.cluster_states.specs.States.{noRoles, stateAt}
 use Rattle.cluster_states.specs.Decided.{heldBy, isNoQuorum, isOutvoted, withState}
 use Rattle.rules.proofs.Arrays.{stored}
 
@@ -32,15 +32,14 @@ pub record Holds (D : ℕ → State) (q : ℕ) (w : Roles) (numbers sets bases :
   pub set : (j : ℕ) → j < q → getD sets j 0 ≡ heldBy (D j) .set
   pub base : (j : ℕ) → j < q → getD bases j 0 ≡ heldBy (D j) .base
 
-pub holds-none : (D : ℕ → State) (numbers sets bases : List ℕ) → length numbers ≡ 64 → length sets ≡ 64 → length bases ≡ 64
-    → Holds D 0 (record { members = 0; asking = 0; joining = 0; «no_quorum» = 0; outvoted = 0 }) numbers sets bases
-holds-none D numbers sets bases a b c =
+pub holds-none : (D : ℕ → State) (w : Roles) (numbers sets bases : List ℕ) → w ≡ noRoles → length numbers ≡ 64 → length sets ≡ 64 → length bases ≡ 64 → Holds D 0 w numbers sets bases
+holds-none D w numbers sets bases z a b c =
     record {
-      members = those-none (λ j. sendsMember (D j));
-      asking = those-none (λ j. asks (D j));
-      joining = those-none (λ j. sendsJoin (D j));
-      no-quorum = those-none (λ j. isNoQuorum (D j));
-      outvoted = those-none (λ j. isOutvoted (D j));
+      members = ap (λ (x : Roles). x .members) z ∙ those-none (λ j. sendsMember (D j));
+      asking = ap (λ (x : Roles). x .asking) z ∙ those-none (λ j. asks (D j));
+      joining = ap (λ (x : Roles). x .joining) z ∙ those-none (λ j. sendsJoin (D j));
+      no-quorum = ap (λ (x : Roles). x .«no_quorum») z ∙ those-none (λ j. isNoQuorum (D j));
+      outvoted = ap (λ (x : Roles). x .outvoted) z ∙ those-none (λ j. isOutvoted (D j));
       long-numbers = a;
       long-sets = b;
       long-bases = c;

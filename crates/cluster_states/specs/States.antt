@@ -40,6 +40,10 @@ faultsOf m heartbeats votes =
       «vote_missed» = votes;
     }
 
+-- the masks that name nobody
+abbrev pub noRoles : Roles
+noRoles = record { members = 0; asking = 0; joining = 0; «no_quorum» = 0; outvoted = 0 }
+
 -- the masks of the states
 abbrev pub rolesOf : States → Roles
 rolesOf s = record { members = s .members; asking = s .asking; joining = s .joining; «no_quorum» = s .«no_quorum»; outvoted = s .outvoted }

@@ -2,7 +2,7 @@
 ghost use mathlib.Core.Path.{_≡_};
 ghost use Prim.Native.Nat.{_<_, _≤_};
 ghost use Rattle.rules.specs.Faults.{founding as theFounding};
-ghost use Rattle.cluster_states.specs.States.{rowOf};
+ghost use Rattle.cluster_states.specs.States.{noRoles, rowOf};
 ghost use Rattle.cluster_states.specs.Decided.{rolesAfter, outAt, heldBy, isNoQuorum, isOutvoted, withState};
 use state::Group;
 use state::Reason;
@@ -47,6 +47,19 @@ pub struct Roles {
     pub joining: u64,
     pub no_quorum: u64,
     pub outvoted: u64,
+}
+
+// Before any node has decided.
+pub fn no_roles() -> Roles
+    ensures { λ r. ⌜ r ≡ noRoles ⌝ }
+{
+    Roles {
+        members: 0,
+        asking: 0,
+        joining: 0,
+        no_quorum: 0,
+        outvoted: 0,
+    }
 }
 
 // Rule 1 of all nodes: the stop comes before the start.

@@ -55,6 +55,7 @@ pub fn next_state(
 {
     let s = n.state;
     let nodes = n.nodes as usize;
+    let config = Config { nodes, quiet };
     let q = n.id as usize;
     let mut numbers = [0u32; 64];
     let mut sets = [0u64; 64];
@@ -72,15 +73,9 @@ pub fn next_state(
     );
     match s {
         State::Out(r) => State::Out(r),
-        State::Joining => rule_joiner::joiner_decides(
-            Config { nodes, quiet },
-            q,
-            &numbers,
-            &sets,
-            &bases,
-            &views,
-            present,
-        ),
+        State::Joining => {
+            rule_joiner::joiner_decides(config, q, &numbers, &sets, &bases, &views, present)
+        }
         State::Member(g, a) => member_decides(
             quiet,
             n,

@@ -16,11 +16,11 @@ use Rattle.frames.specs.declared.HeartbeatRead.the-variants.{Alive, Join, Reque
 use Rattle.frames.specs.declared.HeartbeatCounted.{HeartbeatCounted}
 use Rattle.frames.specs.declared.Copy.{Copy}
 use Rattle.frames.specs.declared.Copy.the-variants.{Neither, OnA, OnB}
-use Rattle.frames.specs.Read.{faultCode, payloadOf, driveOf, readHeartbeat, isGood, receiveHeartbeat, driveCounted}
+use Rattle.frames.specs.Read.{faultCode, payloadOf, driveOf, readHeartbeat, isGood, receiveHeartbeat, driveCounted, joinOf, requestOf}
 use Rattle.frames.proofs.TwoChannels.{missed, Heard, heardWith, good-length, other-copies, a-counts, b-counts, drive-of-copy}
 use Rattle.refusal.proofs.Laws.{none, unless-done, unless-refused}
 use Rattle.entry_lent.specs.Refusals.{wrongCount, wrongNode, wrongCycle, wrongChannel, wrongLength}
-use Rattle.entry_receive_heartbeat.specs.Hearing.{readStatus, heartbeatRefusal, joinOf, requestOf, readHeartbeatStatus, readHeartbeatJoin, readHeartbeatRequest, readHeartbeatDriveBytes, readHeartbeatDrive}
+use Rattle.entry_receive_heartbeat.specs.Hearing.{readStatus, heartbeatRefusal, readHeartbeatStatus, readHeartbeatJoin, readHeartbeatRequest, readHeartbeatDriveBytes, readHeartbeatDrive}
 use Rattle.entry_receive_heartbeat.specs.Hearing.{heardCode, receiveHeartbeatStatus, receiveHeartbeatHeard, receiveHeartbeatDriveBytes, receiveHeartbeatDrive}
 use Rattle.entry_lent.proofs.Bounds.{count-bounds, slot-bounds, length-is}
 

@@ -11,7 +11,7 @@ use Rattle.frames.specs.declared.HeartbeatRead.{HeartbeatRead}
 use Rattle.frames.specs.declared.HeartbeatRead.the-variants as read
 use Rattle.frames.specs.declared.HeartbeatReceived.{HeartbeatReceived}
 use Rattle.frames.specs.declared.HeartbeatReceived.the-variants as received
-use Rattle.frames.specs.Read.{faultCode, driveOf, readHeartbeat, receiveHeartbeat, driveHeard}
+use Rattle.frames.specs.Read.{faultCode, driveOf, readHeartbeat, joinOf, requestOf, receiveHeartbeat, driveHeard}
 use Rattle.refusal.specs.Refusal.{when, first, unless}
 use Rattle.entry_lent.specs.Refusals.{wrongCount, wrongNode, wrongCycle, wrongChannel, wrongLength}
 
@@ -34,19 +34,6 @@ heartbeatRefusal read.Join = 0
 heartbeatRefusal read.Request = 0
 heartbeatRefusal (read.Refused f) = faultCode f
 
-abbrev pub joinOf : HeartbeatRead → ℕ
-joinOf read.Alive = 0
-joinOf read.Join = 1
-joinOf read.Request = 0
-joinOf (read.Refused f) = 0
-
--- request 3: "In a quiet press bit 6 of a heartbeat's first byte becomes a request."
-abbrev pub requestOf : HeartbeatRead → ℕ
-requestOf read.Alive = 0
-requestOf read.Join = 0
-requestOf read.Request = 1
-requestOf (read.Refused f) = 0
-
 unfoldable pub readHeartbeatStatus : ℕ → ℕ → ℕ → ℕ → ℕ → List ℕ → List ℕ → ℕ
 readHeartbeatStatus n mode q cycle channel f d =
     let k = readStatus n mode q cycle channel d in
@@ -56,6 +43,7 @@ unfoldable pub readHeartbeatJoin : ℕ → ℕ → ℕ → ℕ → ℕ → List 
 readHeartbeatJoin n mode q cycle channel f d join =
     unless (readHeartbeatStatus n mode q cycle channel f d) (joinOf (readHeartbeat (quietIn mode) q cycle channel f)) join
 
+-- request 3: "In a quiet press bit 6 of a heartbeat's first byte becomes a request."
 unfoldable pub readHeartbeatRequest : ℕ → ℕ → ℕ → ℕ → ℕ → List ℕ → List ℕ → ℕ → ℕ
 readHeartbeatRequest n mode q cycle channel f d request =
     unless (readHeartbeatStatus n mode q cycle channel f d) (requestOf (readHeartbeat (quietIn mode) q cycle channel f)) request

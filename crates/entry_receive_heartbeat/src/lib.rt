@@ -1,6 +1,7 @@
 // Heartbeats that come in: read from one channel, received on both.
 ghost use mathlib.Core.Path.{_≡_};
-ghost use Rattle.entry_receive_heartbeat.specs.Hearing.{readStatus, heartbeatRefusal, joinOf, requestOf, readHeartbeatStatus, readHeartbeatJoin, readHeartbeatRequest, readHeartbeatDriveBytes, readHeartbeatDrive};
+ghost use Rattle.frames.specs.Read.{joinOf, requestOf};
+ghost use Rattle.entry_receive_heartbeat.specs.Hearing.{readStatus, heartbeatRefusal, readHeartbeatStatus, readHeartbeatJoin, readHeartbeatRequest, readHeartbeatDriveBytes, readHeartbeatDrive};
 ghost use Rattle.entry_receive_heartbeat.specs.Hearing.{heardCode, receiveHeartbeatStatus, receiveHeartbeatHeard, receiveHeartbeatDriveBytes, receiveHeartbeatDrive};
 use entry_lent::wrong_count;
 use entry_lent::wrong_slot;

@@ -12,7 +12,7 @@ use Rattle.state.specs.declared.Decoded.{Decoded}
 use Rattle.state.specs.declared.Decoded.the-variants.{Good, WrongLength, Malformed}
 use Rattle.state.specs.Image.{decoded}
 use Rattle.rules.specs.declared.Config.{Config}
-use Rattle.rules.specs.OneCycle.{wrongMode, quietIn, viewOf, called, willVote}
+use Rattle.rules.specs.OneCycle.{configOf, wrongMode, quietIn, viewOf, called, willVote}
 use Rattle.frames.specs.Written.{voteFrame}
 use Rattle.refusal.specs.Refusal.{when, first, unless}
 use Rattle.entry_lent.specs.declared.Lent.{Lent}
@@ -37,7 +37,7 @@ viewFrom (Refused r) heard0 heard1 view = view
 
 -- the press that a node is one of
 abbrev pub pressOf : Bool → Node → Config
-pressOf quiet n = record { nodes = n .nodes; quiet = quiet }
+pressOf quiet n = configOf quiet (n .nodes)
 
 -- request 3: "a member of M heard, or it itself, requests". A node that requests was heard, and is another; M has no node at N or above.
 abbrev pub requestsHeard : Node → ℕ → ℕ → ℕ

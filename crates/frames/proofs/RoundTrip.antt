@@ -27,7 +27,7 @@ use Rattle.frames.specs.declared.Fault.{Fault}
 use Rattle.frames.specs.declared.Fault.the-variants.{Content}
 use Rattle.frames.specs.declared.HeartbeatRead.{HeartbeatRead}
 use Rattle.frames.specs.Written.{header, frame, firstByte, wrongRequest, heartbeatFrame, wrongDrive, votePayload, voteFrame, formedVote}
-use Rattle.frames.specs.Read.{syncOf, startupOf, wordsOf, heartbeatWords, voteWords, faultOf, heartbeatIndicators, voteIndicators, driveOf, heartbeatOf, heartbeatContent, heartbeatUnless, readHeartbeat, isGood, payloadVote, voteUnless, readVote}
+use Rattle.frames.specs.Read.{syncOf, startupOf, wordsOf, heartbeatWords, voteWords, faultOf, heartbeatIndicators, voteIndicators, driveOf, heartbeatOf, heartbeatContent, heartbeatUnless, readHeartbeat, isGood, payloadVote, voteUnless, readVote, joinOf, requestOf}
 use Rattle.frames.proofs.Faults.{Clean, clean, clean-none, vote-length, heartbeat-length, all-five}
 use Rattle.frames.proofs.Lengths.{length-header, length-frame, length-with, length-payload}
 use Rattle.frames.proofs.Payloads.{drive-bounds, drive-good, heartbeat-drive, length-drive, payload-split, payload-rest}
@@ -216,22 +216,9 @@ heartbeat-back quiet q join request sync startup cycle channel drive hq hj hr hs
       heartbeat-drive q join request sync startup cycle channel drive,
     )
 
--- the bits of what was read
-abbrev pub joinIn : HeartbeatRead → ℕ
-joinIn beat.Alive = 0
-joinIn beat.Join = 1
-joinIn beat.Request = 0
-joinIn (beat.Refused f) = 0
-
-abbrev pub requestIn : HeartbeatRead → ℕ
-requestIn beat.Alive = 0
-requestIn beat.Join = 0
-requestIn beat.Request = 1
-requestIn (beat.Refused f) = 0
-
--- a first word of these bits, which may be
+-- a first word with the bits of what was read, which may be
 abbrev Bits : Bool → ℕ → ℕ → HeartbeatRead → Type 0
-Bits quiet a b r = (wrongRequest quiet (joinIn r) (requestIn r) ≡ false) × (a ≡ firstByte (joinIn r) (requestIn r)) × (b ≡ 0)
+Bits quiet a b r = (wrongRequest quiet (joinOf r) (requestOf r) ≡ false) × (a ≡ firstByte (joinOf r) (requestOf r)) × (b ≡ 0)
 
 good-bits : (quiet : Bool) (a b : ℕ) → isGood (heartbeatOf quiet a b) ≡ true → Bits quiet a b (heartbeatOf quiet a b)
 unfolding heartbeatOf wrongRequest
@@ -257,8 +244,8 @@ taken-content quiet none s g = (refl, good-bits quiet (getD s 5 0) (getD s 6 0) 
 pub heartbeat-only : (quiet : Bool) (q cycle channel : ℕ) (s : List ℕ) → Bytes s
     → let r = readHeartbeat quiet q cycle channel s in
     isGood r ≡ true
-    → (wrongRequest quiet (joinIn r) (requestIn r) ≡ false) × (startupOf s ≤ syncOf s) × (wrongDrive (driveOf s) ≡ false)
-    × (s ≡ heartbeatFrame q (joinIn r) (requestIn r) (syncOf s) (startupOf s) cycle channel (driveOf s))
+    → (wrongRequest quiet (joinOf r) (requestOf r) ≡ false) × (startupOf s ≤ syncOf s) × (wrongDrive (driveOf s) ≡ false)
+    × (s ≡ heartbeatFrame q (joinOf r) (requestOf r) (syncOf s) (startupOf s) cycle channel (driveOf s))
 unfolding readHeartbeat heartbeatFrame
 heartbeat-only quiet q cycle channel s b e =
     let r = readHeartbeat quiet q cycle channel s in
@@ -269,7 +256,7 @@ heartbeat-only quiet q cycle channel s b e =
     let z = c .sized in
     let w : 1 + length (driveOf s) / 2 ≡ wordsOf s = omega arith in
     let h = header (syncOf s) (startupOf s) (q + 1) (1 + length (driveOf s) / 2) cycle in
-    let m : List ℕ = firstByte (joinIn r) (requestIn r) ∷ 0 ∷ driveOf s in
+    let m : List ℕ = firstByte (joinOf r) (requestOf r) ∷ 0 ∷ driveOf s in
     let k : length (h ++ m) ≡ length s - 3 = let a = length-append h m in let x = length-header (syncOf s) (startupOf s) (q + 1) (1 + length (driveOf s) / 2) cycle in omega arith in
     let v : length (h ++ m) ≡ 5 + 2 * wordsOf s = omega arith in
     let t : m ++ drop (length s - 3) s ≡ drop 5 s =

@@ -16,6 +16,7 @@
 --     heartbeatContent: the same of a frame
 --     heartbeatUnless: the same, unless the frame is refused
 --     readHeartbeat: the heartbeat of node q from one copy
+--     joinOf, requestOf: the two bits of what was read
 --     payloadVote: the vote in a payload
 --     voteContent: it, if it is well formed, or refusal 10
 --     voteUnless: the same, unless the frame is refused
@@ -169,6 +170,19 @@ heartbeatUnless quiet (some f) s = beat.Refused f
 -- the heartbeat of node q in a cycle, from the copy on a channel
 unfoldable pub readHeartbeat : Bool → ℕ → ℕ → ℕ → List ℕ → HeartbeatRead
 readHeartbeat quiet q cycle channel s = heartbeatUnless quiet (faultOf (q + 1) cycle (heartbeatWords s) (heartbeatIndicators s) channel s) s
+
+-- bit 7 and bit 6 of what was read, 0 where it is refused
+abbrev pub joinOf : HeartbeatRead → ℕ
+joinOf beat.Alive = 0
+joinOf beat.Join = 1
+joinOf beat.Request = 0
+joinOf (beat.Refused f) = 0
+
+abbrev pub requestOf : HeartbeatRead → ℕ
+requestOf beat.Alive = 0
+requestOf beat.Join = 0
+requestOf beat.Request = 1
+requestOf (beat.Refused f) = 0
 
 -- ---- votes
 

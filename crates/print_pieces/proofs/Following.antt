@@ -6,11 +6,12 @@ use Prim.Native.Nat.{ℕ, suc, _≤_}
 use native.Mathlib.Omega.{arith}
 use lib.ListN.{length, drop, length-drop}
 use Rattle.rules.specs.declared.Config.{Config}
+use Rattle.rules.specs.OneCycle.{configOf}
 use Rattle.rules.specs.Reference.{Cluster, beginning, step}
 use Rattle.table.specs.Records.{countAt, foundingAt, startRefusal, cycleLength, cycleRefusal, faultsAt}
 use Rattle.table.specs.Table.{Cycles, withCycle, tableOf}
 use Rattle.table.proofs.Laws.{cycles-end, cycles-refused, cycles-next, enough, table-refused, table-cycles}
-use Rattle.print_run.specs.Printed.{headerLine, line, lines, reported, pressIn, printed}
+use Rattle.print_run.specs.Printed.{headerLine, line, lines, reported, printed}
 use Rattle.print_window.specs.Window.{Report, textOf, preceded, lastly}
 use Rattle.print_pieces.specs.Pieces.{following, opening}
 
@@ -42,7 +43,7 @@ module _ (C : Config) (k : ℕ) (b : Cluster) where
 module _ (quiet : Bool) (s : List ℕ) where
   -- its press, and the press before cycle 1
   abbrev C : Config
-  C = pressIn quiet (countAt s)
+  C = configOf quiet (countAt s)
 
   abbrev first : Cluster
   first = beginning C 0 (foundingAt s)

@@ -12,6 +12,7 @@ use Rattle.print_text.proofs.Appending.{none}
 use Rattle.state.specs.declared.Group.{Group}
 use Rattle.rules.specs.declared.Config.{Config}
 use Rattle.rules.specs.declared.Faults.{Faults}
+use Rattle.rules.specs.OneCycle.{configOf}
 use Rattle.rules.specs.Reference.{Cluster, beginning, keeps, step, haltedIn, enteredIn}
 use Rattle.table.specs.Records.{countAt, foundingAt, startRefusal, cycleLength, cycleRefusal, faultsAt}
 use Rattle.table.proofs.Laws.{accepted, begins}
@@ -19,7 +20,7 @@ use Rattle.cluster_states.specs.declared.Roles.{Roles}
 use Rattle.cluster_states.specs.States.{statesOf, rowOf}
 use Rattle.cluster_watched.specs.declared.Watch.{Watch}
 use Rattle.cluster_watched.specs.Watched.{referenceOf, clusterOf}
-use Rattle.print_run.specs.Printed.{fields, line, refusedLine, pressIn}
+use Rattle.print_run.specs.Printed.{fields, line, refusedLine}
 use Rattle.print_run.proofs.Lengths.{fields-length}
 use Rattle.print_window.specs.Window.{Shows, Report, preceded, lastly}
 use Rattle.print_pieces.specs.declared.Session.{Session}
@@ -166,9 +167,9 @@ module _ (z : Session) (g : Groups) (left : List ℕ) (fresh : z .begun ≡ fals
 
   -- one that is not
   module _ (accept : startRefusal false 0 left ≡ 0) (n founding : ℕ) (kn : n ≡ countAt left) (kf : founding ≡ foundingAt left) (y : Session)
-      (h : Groups) (begun : SessionBegun (pressIn (z .config .quiet) n) founding y h) where
+      (h : Groups) (begun : SessionBegun (configOf (z .config .quiet) n) founding y h) where
     abbrev C : Config
-    C = pressIn (z .config .quiet) n
+    C = configOf (z .config .quiet) n
 
     begins-as : (rest : List ℕ) → following C 1 (beginning C 0 founding) rest ≡ remaining y h rest
     unfolding remaining
@@ -192,7 +193,7 @@ module _ (z : Session) (g : Groups) (left : List ℕ) (fresh : z .begun ≡ fals
                       all =
                           λ rest shows. opens rest
                           ∙ opening-goes (z .config .quiet) rest (sym (seen-start left rest ended shows (first ended ready) false 0) ∙ accept)
-                          ∙ ap₂ (λ (m f : ℕ). following (pressIn (z .config .quiet) m) 1 (beginning (pressIn (z .config .quiet) m) 0 f) (drop 12 rest))
+                          ∙ ap₂ (λ (m f : ℕ). following (configOf (z .config .quiet) m) 1 (beginning (configOf (z .config .quiet) m) 0 f) (drop 12 rest))
                           (sym (kn ∙ seen-count left rest ended shows (t .there))) (sym (kf ∙ seen-founding left rest ended shows (t .there)))
                           ∙ begins-as (drop 12 rest);
                       is = refl;

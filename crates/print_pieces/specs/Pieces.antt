@@ -7,13 +7,14 @@ use Prim.Native.Nat.{ℕ, _≤_}
 use lib.Dec.{leb}
 use lib.ListN.{length}
 use Rattle.rules.specs.declared.Config.{Config}
+use Rattle.rules.specs.OneCycle.{configOf}
 use Rattle.rules.specs.Reference.{Cluster, beginning}
 use Rattle.table.specs.Records.{cycleLength}
 use Rattle.table.specs.Table.{cyclesIn, tableOf}
 use Rattle.cluster_states.specs.declared.States.{States}
 use Rattle.cluster_states.specs.States.{statesOf}
 use Rattle.cluster_watched.specs.Watched.{clusterOf}
-use Rattle.print_run.specs.Printed.{lines, pressIn}
+use Rattle.print_run.specs.Printed.{lines}
 use Rattle.print_window.specs.Window.{Report}
 use Rattle.print_window.specs.Stream.{Turned}
 use Rattle.print_pieces.specs.declared.Session.{Session}
@@ -27,7 +28,7 @@ following C k b rest = let t = cyclesIn (length rest) (C .nodes) k rest in recor
 unfoldable pub opening : Bool → List ℕ → Report
 opening quiet s =
     let t = tableOf false 0 s in
-    let C = pressIn quiet (t .nodes) in
+    let C = configOf quiet (t .nodes) in
     record { lines = lines C 1 (beginning C 0 (t .founding)) (t .cycles .whole); refusal = t .cycles .refusal }
 
 -- the groups of a session's nodes, which the caller holds in three arrays

@@ -9,6 +9,7 @@ use Rattle.print_text.specs.Text.{ascii, hexText, decimalText}
 use Rattle.state.specs.declared.Group.{Group}
 use Rattle.rules.specs.declared.Faults.{Faults}
 use Rattle.rules.specs.declared.Config.{Config}
+use Rattle.rules.specs.OneCycle.{configOf}
 use Rattle.rules.specs.Reference.{Cluster, beginning, keeps, step, haltedIn, enteredIn}
 use Rattle.table.specs.Table.{Cycles, tableOf}
 
@@ -50,13 +51,9 @@ refusedLine r = cond (eqb r 0) [] (ascii "refused " ++ (decimalText r ++ ascii "
 unfoldable pub reported : Config → ℕ → Cluster → Cycles → List ℕ
 reported C k b t = lines C k b (t .whole) ++ refusedLine (t .refusal)
 
--- "All nodes of a press are in the same mode": a press of N nodes, in the program's
-abbrev pub pressIn : Bool → ℕ → Config
-pressIn quiet N = record { nodes = N; quiet = quiet }
-
 -- "The program `grouprun` reads a table from standard input": s; it is lent no row. "`grouprun` runs mode 0, and a program like it mode 1."
 unfoldable pub printed : Bool → List ℕ → List ℕ
 printed quiet s =
     let t = tableOf false 0 s in
-    let C = pressIn quiet (t .nodes) in
+    let C = configOf quiet (t .nodes) in
     headerLine ++ reported C 1 (beginning C 0 (t .founding)) (t .cycles)

@@ -1,6 +1,6 @@
 -- What the walks give, said of the row itself; and rows of states against rows of node structs. Assumes nothing.
 use mathlib.Core.Path.{_≡_, refl, sym, ap, ap₂, subst, _∙_}
-use mathlib.Core.Bool.{Bool, true, false, not, _&&_, _||_, cond, false≢true}
+use mathlib.Core.Bool.{Bool, true, false, not, _&&_, _||_, cond, false≢true, and-false}
 use mathlib.Core.List.{List, [], _∷_}
 use Prim.Native.Nat.{ℕ, zero, suc, _+_, _^_, _≤_, _<_}
 use native.Mathlib.Nat.{add-zero, zero-add}
@@ -121,10 +121,6 @@ and-true : (a : Bool) → (a && true) ≡ a
 and-true true = refl
 and-true false = refl
 
-and-false : (a : Bool) → (a && false) ≡ false
-and-false true = refl
-and-false false = refl
-
 pub push-in : (n : ℕ) (g : Gathered) (q : ℕ) (x : Node) → q < 64 → pushOf n g q x ≡ record { states = withNode (g .states) q (x .state); good = g .good && inPlace true n q x }
 unfolding pushOf
 push-in n g q x l = ap (λ (b : Bool). cond b (record { states = withNode (g .states) q (x .state); good = g .good && inPlace true n q x }) g) (ltb-true l)
@@ -235,7 +231,7 @@ has-from D n g q (x ∷ xs) l e h =
 
 has-nothing : (D : ℕ → State) → Has D 0 (nothingOf .states)
 unfolding nothingOf
-has-nothing D = holds-none D _ _ _ long long long
+has-nothing D = holds-none D _ _ _ _ refl long long long
   where
     long : length (replicate {A = ℕ} 64 0) ≡ 64
     long = length-replicate {A = ℕ} 64 0

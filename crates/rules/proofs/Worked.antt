@@ -18,7 +18,7 @@ use Rattle.state.specs.Image.{reasonOf}
 use Rattle.rules.specs.OneCycle.{stopAndStart, viewOf, sameGroup, sameVote, voters, wins, newSet, groupWith, newGroup, called, willVote, requestWith, requestAfter, memberDecides, silentDecides, joinerDecides}
 use Rattle.rules.specs.Faults.{tabulate, founding, reaches, disturbed, ruleOne, heard, ownVote, votesNow, votes, decisions, cycle}
 use Rattle.rules.specs.Reference.{beginning, steady, keeps, step, haltedIn, enteredIn}
-use Rattle.rules.specs.Examples.{Seen, Example, examples, watch, seen, Turn, Lent, lent, turns, turned, Join, joins, decided, Given, given, ruled}
+use Rattle.rules.specs.Examples.{Seen, Example, examples, watch, seen, Turn, Lent, lent, turns, turned, Given, given, ruled}
 use Rattle.rules.proofs.Failing.{both, equal-numbers, equal-lists, failing, all-hold}
 
 -- ---- that two things seen are equal, where they are
@@ -95,19 +95,6 @@ no-lent-fails failed e = omega arith
 pub lent-hold : map turned lent ≡ map turns-due lent
 lent-hold = all-hold Lent (List Turn) lent-number turned turns-due (equal-lists Turn equal-turns) lent (no-lent-fails _ refl)
 
-abbrev joins-number : Join → ℕ
-joins-number j = j .example
-
-abbrev decision : Join → State
-decision j = j .expected
-
-no-join-fails : (failed : ℕ) → failed ≡ failing Join State joins-number decided decision equal-states joins → failed ≡ 0
-unfolding ones has single _∪_ _∩_ _∖_ those below size lowest any every quorum nextNumber sameGroup sameVote voters wins newSet groupWith newGroup joinerDecides decided
-no-join-fails failed e = omega arith
-
-pub joins-hold : map decided joins ≡ map decision joins
-joins-hold = all-hold Join State joins-number decided decision equal-states joins (no-join-fails _ refl)
-
 abbrev given-number : Given → ℕ
 given-number g = g .example
 
@@ -115,7 +102,7 @@ abbrev state-due : Given → State
 state-due g = g .expected
 
 no-given-fails : (failed : ℕ) → failed ≡ failing Given State given-number ruled state-due equal-states given → failed ≡ 0
-unfolding ones has _∪_ _∖_ those size any quorum nextNumber sameGroup sameVote voters wins newSet groupWith newGroup requestWith requestAfter memberDecides silentDecides ruled
+unfolding ones has single _∪_ _∩_ _∖_ those below size lowest any every quorum nextNumber viewOf sameGroup sameVote voters wins newSet groupWith newGroup called willVote requestWith requestAfter memberDecides silentDecides joinerDecides tabulate reaches heard ownVote votesNow ruled
 no-given-fails failed e = omega arith
 
 pub given-hold : map ruled given ≡ map state-due given

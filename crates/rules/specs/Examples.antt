@@ -1,5 +1,5 @@
 -- Paper 01, "Proved examples": P1 to P10 in one table, with the mistakes that P1 to P10 do not show, and request 3 in quiet presses; all that is printed of
--- every cycle, and every state after it. Then quiet cycles from given states, and what a joining node and a member make of given votes.
+-- every cycle, and every state after it. Then quiet cycles from given states, and what a node makes of given votes.
 -- Assumes nothing.
 use mathlib.Core.Bool.{Bool, true, false, cond}
 use mathlib.Core.List.{List, [], _∷_, _++_}
@@ -15,8 +15,8 @@ use Rattle.state.specs.declared.State.the-variants.{Out, Joining, Member}
 use Rattle.rules.specs.declared.Vote.{Vote}
 use Rattle.rules.specs.declared.Faults.{Faults}
 use Rattle.rules.specs.declared.Config.{Config}
-use Rattle.rules.specs.OneCycle.{ofNodes, quietly, Ballots, memberDecides, silentDecides, joinerDecides}
-use Rattle.rules.specs.Faults.{Row, tabulate, ruleOne, votes, cycle}
+use Rattle.rules.specs.OneCycle.{ofNodes, quietly, Ballots, memberDecides, joinerDecides}
+use Rattle.rules.specs.Faults.{Row, at, tabulate, ruleOne, votes, decides, cycle}
 use Rattle.rules.specs.Reference.{Cluster, beginning, keeps, step, haltedIn, enteredIn}
 
 -- what is seen of a cycle: whether it met the premise, the reference group after it, who halted and who entered, and the states after it
@@ -380,45 +380,9 @@ lent =
     }
     ∷ []
 
--- ---- a joining node
+-- ---- a node alone
 
--- the example's own number; N nodes, the joining node, the votes that arrived, by sender, and what it decides
-pub record Join : Type 0 where
-  pub example : ℕ
-  pub config : Config
-  pub node : ℕ
-  pub votes : List (Option Vote)
-  pub expected : State
-
-unfoldable pub decided : Join → State
-decided j = joinerDecides (j .config) (j .node) (λ p. getD (j .votes) p none)
-
-abbrev vote : ℕ → ℕ → ℕ → ℕ → Option Vote
-vote g m b v = some (record { group = group g m b; view = v })
-
-abbrev pub joins : List Join
-joins =
-    -- "If exactly one vote value fits": that of nodes 0 and 1 does, and so does that of nodes 2 and 3. Node 4 "stays joining".
-    record {
-      example = 14;
-      config = ofNodes 5;
-      node = 4;
-      votes = vote 7 0x03 0x03 0x13 ∷ vote 7 0x03 0x03 0x13 ∷ vote 7 0x0c 0x0c 0x1c ∷ vote 7 0x0c 0x0c 0x1c ∷ [];
-      expected = Joining;
-    }
-    -- The vote of node 3 is missed, so that one value alone has a quorum.
-    ∷ record {
-      example = 15;
-      config = ofNodes 5;
-      node = 4;
-      votes = vote 7 0x03 0x03 0x13 ∷ vote 7 0x03 0x03 0x13 ∷ vote 7 0x0c 0x0c 0x1c ∷ none ∷ [];
-      expected = member 8 0x13 0x13;
-    }
-    ∷ []
-
--- ---- a member alone
-
--- the example's own number; what a member makes of votes, the votes that arrived, by sender, and what it decides
+-- the example's own number; what a node makes of votes, the votes that arrived, by sender, and what it decides
 pub record Given : Type 0 where
   pub example : ℕ
   pub rule : Ballots → State
@@ -428,38 +392,59 @@ pub record Given : Type 0 where
 unfoldable pub ruled : Given → State
 ruled g = g .rule (λ p. getD (g .votes) p none)
 
+abbrev vote : ℕ → ℕ → ℕ → ℕ → Option Vote
+vote g m b v = some (record { group = group g m b; view = v })
+
+-- node 0 of a quiet press of N nodes, in a cycle without faults whose row is the given one: it hears all who send
+abbrev inRow : ℕ → Row → Ballots → State
+inRow N row = decides (quietly N) clean row 0 (at row 0)
+
 abbrev pub given : List Given
 given =
-    -- "If it heard a quorum of equal votes with its own G, M and B": also where their V is its own.
+    -- "If exactly one vote value fits": that of nodes 0 and 1 does, and so does that of nodes 2 and 3. Node 4 "stays joining".
     record {
+      example = 14;
+      rule = joinerDecides (ofNodes 5) 4;
+      votes = vote 7 0x03 0x03 0x13 ∷ vote 7 0x03 0x03 0x13 ∷ vote 7 0x0c 0x0c 0x1c ∷ vote 7 0x0c 0x0c 0x1c ∷ [];
+      expected = Joining;
+    }
+    -- The vote of node 3 is missed, so that one value alone has a quorum.
+    ∷ record {
+      example = 15;
+      rule = joinerDecides (ofNodes 5) 4;
+      votes = vote 7 0x03 0x03 0x13 ∷ vote 7 0x03 0x03 0x13 ∷ vote 7 0x0c 0x0c 0x1c ∷ none ∷ [];
+      expected = member 8 0x13 0x13;
+    }
+    -- "If it heard a quorum of equal votes with its own G, M and B": also where their V is its own. It heard its whole set and no request, and did not vote.
+    ∷ record {
       example = 23;
-      rule = silentDecides (quietly 3) 0 (group 4 0x7 0x7);
+      rule = inRow 3 (times 3 (member 4 0x7 0x7));
       votes = none ∷ vote 4 0x7 0x7 0x7 ∷ vote 4 0x7 0x7 0x7 ∷ [];
       expected = Out Outvoted;
     }
     -- One vote of three is no quorum, and node 0 "did not vote": it adds none of its own.
     ∷ record {
       example = 24;
-      rule = silentDecides (quietly 3) 0 (group 4 0x7 0x7);
+      rule = inRow 3 (times 3 (member 4 0x7 0x7));
       votes = none ∷ vote 4 0x7 0x7 0x7 ∷ none ∷ [];
       expected = member 4 0x7 0x7;
     }
     -- "with its own G, M and B": votes with another G, with another M and with another B are no reason to halt.
     ∷ record {
       example = 29;
-      rule = silentDecides (quietly 3) 0 (group 4 0x7 0x7);
+      rule = inRow 3 (times 3 (member 4 0x7 0x7));
       votes = none ∷ vote 5 0x7 0x7 0x7 ∷ vote 5 0x7 0x7 0x7 ∷ [];
       expected = member 4 0x7 0x7;
     }
     ∷ record {
       example = 30;
-      rule = silentDecides (quietly 3) 0 (group 4 0x7 0x7);
+      rule = inRow 3 (times 3 (member 4 0x7 0x7));
       votes = none ∷ vote 4 0x6 0x7 0x7 ∷ vote 4 0x6 0x7 0x7 ∷ [];
       expected = member 4 0x7 0x7;
     }
     ∷ record {
       example = 31;
-      rule = silentDecides (quietly 4) 0 (group 4 0x7 0xf);
+      rule = inRow 4 (times 3 (member 4 0x7 0xf) ++ (Out Stopped ∷ []));
       votes = none ∷ vote 4 0x7 0x7 0x7 ∷ vote 4 0x7 0x7 0x7 ∷ none ∷ [];
       expected = member 4 0x7 0x7;
     }

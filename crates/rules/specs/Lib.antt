@@ -2,4 +2,5 @@ pub mod OneCycle
 pub mod Ballots
 pub mod Faults
 pub mod Reference
+pub mod Always
 pub mod Examples

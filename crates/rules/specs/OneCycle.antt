@@ -1,7 +1,7 @@
 -- Paper 01, "One cycle": rules 1 to 6, each of one node q in a cluster of N nodes; with request 3, in whose quiet press votes rest while nothing happens.
 -- Assumes nothing.
---     ofNodes: a cluster of N nodes that votes in every cycle
---     quietly: a quiet one
+--     configOf: a cluster of N nodes, quiet or not
+--     ofNodes, quietly: one that votes in every cycle, and a quiet one
 --     wrongMode, quietIn, inMode: whether a caller's number is no mode, whether it is that of a quiet press, and the cluster in that mode
 --     stopped: out with reason 0
 --     stopIf, startIf: what a stop and a start make of a state, where they are given
@@ -47,11 +47,14 @@ use Rattle.rules.specs.declared.Config.{Config}
 use Rattle.rules.specs.declared.Vote.{Vote}
 
 -- a cluster of N nodes: "0 votes in every cycle, 1 quiet"
+abbrev pub configOf : Bool → ℕ → Config
+configOf quiet N = record { nodes = N; quiet = quiet }
+
 abbrev pub ofNodes : ℕ → Config
-ofNodes N = record { nodes = N; quiet = false }
+ofNodes N = configOf false N
 
 abbrev pub quietly : ℕ → Config
-quietly N = record { nodes = N; quiet = true }
+quietly N = configOf true N
 
 -- request 3: the mode is "given by the caller: 0 votes in every cycle, 1 quiet, any other number is refused with 2"
 abbrev pub wrongMode : ℕ → Bool
@@ -61,7 +64,7 @@ abbrev pub quietIn : ℕ → Bool
 quietIn mode = eqb mode 1
 
 abbrev pub inMode : ℕ → ℕ → Config
-inMode mode N = record { nodes = N; quiet = quietIn mode }
+inMode mode N = configOf (quietIn mode) N
 
 -- 1. "Stop: the node becomes out with reason 0. Then start: an out node becomes joining; others do not change. Both may name one node."
 abbrev pub stopped : State

@@ -1,7 +1,7 @@
 -- What reading an image finds, by its length, its place and its kind. Assumes nothing.
 use mathlib.Core.Path.{_≡_, refl, _∙_}
 use mathlib.Core.Logic.{_⊎_, inl, inr}
-use mathlib.Core.Bool.{Bool, true, false, _&&_}
+use mathlib.Core.Bool.{Bool, true, false, _&&_, and-true, and-false}
 use mathlib.Core.List.{List}
 use Prim.Native.Nat.{ℕ, _≤_, _<_}
 use native.Mathlib.Omega.{arith}
@@ -13,14 +13,6 @@ use Rattle.state.specs.declared.State.the-variants.{Out, Joining, Member
 use Rattle.state.specs.declared.Decoded.the-variants.{WrongLength, Malformed}
 use Rattle.state.specs.State.{formedPlace, formedSets}
 use Rattle.state.specs.Image.{kindAt, reasonAt, groupAt, isZero, reasonOf, nodeIf, memberReason, formedReason, wellFormed, decoded}
-
-and-true : (b : Bool) → (b && true) ≡ b
-and-true true = refl
-and-true false = refl
-
-pub and-false : (b : Bool) → (b && false) ≡ false
-and-false true = refl
-and-false false = refl
 
 -- a joining node has reason 0, a member 0 or, in a quiet press, 1: reasons that are known
 pub member-bound : (quiet : Bool) (r : ℕ) → memberReason quiet r ≡ true → r < 2

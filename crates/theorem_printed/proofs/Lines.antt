@@ -20,7 +20,7 @@ use Rattle.theorem_agreement.specs.Demand3.{Kept, Reference, allKeep}
 use Rattle.theorem_agreement.proofs.Histories.{after-append, defined, demand3}
 use Rattle.table.specs.Table.{tableOf}
 use Rattle.print_run.specs.Printed.{headerLine, fields, line, lines, refusedLine, reported, printed}
-use Rattle.theorem_printed.specs.Lines.{pressOf, foundersOf, clusterAt, around, OverPrinted}
+use Rattle.theorem_printed.specs.Lines.{tablePress, foundersOf, clusterAt, around, OverPrinted}
 
 -- ---- a cycle that meets the premise comes after none that did not
 
@@ -76,7 +76,7 @@ line-kept C k b c g e f = ap₂ (λ (x : Bool) (o : Option Group). fields k x o 
 
 module _ (quiet : Bool) (s : List ℕ) (past : List Faults) (c : Faults) (rest : List Faults) (whole : tableOf false 0 s .cycles .whole ≡ past ++ (c ∷ rest)) where
   abbrev C : Config
-  C = pressOf quiet s
+  C = tablePress quiet s
 
   abbrev b : Cluster
   b = clusterAt quiet s past
@@ -106,4 +106,4 @@ module _ (quiet : Bool) (s : List ℕ) (past : List Faults) (c : Faults) (rest :
       (d .0, kept, d .1, printed-around ∙ ap (around quiet s past c rest) text)
 
 pub over-printed : OverPrinted
-over-printed quiet s past c rest whole = record { shows = shows quiet s past c rest whole; claims = demand3 (pressOf quiet s) 0 (foundersOf s) }
+over-printed quiet s past c rest whole = record { shows = shows quiet s past c rest whole; claims = demand3 (tablePress quiet s) 0 (foundersOf s) }

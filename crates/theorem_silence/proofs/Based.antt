@@ -4,10 +4,7 @@ use mathlib.Core.Bool.{Bool, true, false, not, _&&_, _||_, cond, true≢false}
 use mathlib.Core.List.{List, [], _∷_}
 use mathlib.Core.Option.{Option, none, some}
 use Prim.Native.Nat.{ℕ, _<_}
-use lib.Dec.{eqb}
-use Rattle.sets.specs.Sets.{has, _∪_, lowest, any, every}
-use Rattle.sets.proofs.Booleans.{eqb-true, not-f, or-f-r}
-use Rattle.sets.proofs.Membership.{has-union, set-ext}
+use Rattle.sets.specs.Sets.{has, lowest, any, every}
 use Rattle.state.specs.declared.Reason.the-variants.{Stopped, NoQuorum, Outvoted}
 use Rattle.state.specs.declared.Group.{Group}
 use Rattle.state.specs.declared.State.{State}
@@ -16,10 +13,11 @@ use Rattle.state.specs.State.{groupOf, foundingGroup, initial}
 use Rattle.rules.specs.declared.Vote.{Vote}
 use Rattle.rules.specs.declared.Faults.{Faults}
 use Rattle.rules.specs.declared.Config.{Config}
-use Rattle.rules.specs.OneCycle.{Ballots, quietly, stopped, asks, is, wins, newSet, groupWith, newGroup, requestWith, requestAfter, memberOn, withOwn, without, rival, memberDecides, rests, silentDecides, fits, entersWith, enterOn, joinerDecides}
+use Rattle.rules.specs.OneCycle.{Ballots, quietly, stopped, asks, is, wins, newGroup, requestAfter, memberOn, withOwn, without, rival, memberDecides, rests, silentDecides, fits, entersWith, enterOn, joinerDecides}
 use Rattle.rules.specs.Faults.{Row, at, founding, ruleOne, ownVote, votesNow, votes, arrivedAt, decides, decisions, cycle}
 use Rattle.rules.specs.Reference.{Cluster, beginning, step, after}
 use Rattle.rules.proofs.Rows.{get-tabulate}
+use Rattle.rules.proofs.Votes.{no-request-rests}
 use Rattle.rules.proofs.States.{none-some, some-inj}
 use Rattle.theorem_silence.specs.Silence.{RestsBased}
 
@@ -42,27 +40,6 @@ based-group h a k g e =
     let same : h ≡ g = some-inj (ap groupOf e) in
     sym (ap (λ (x : Group). x .base) same) ∙ k (ap asks e) ∙ ap (λ (x : Group). x .set) same
 
--- ---- a vote that leaves no request leaves the set
-
-same-set : (a b : Bool) → (a || not b) ≡ false → b ≡ true
-same-set a b e = not-f b (or-f-r a (not b) e)
-
-new-based : (C : Config) (b : Ballots) (v : Vote) → C .quiet ≡ true → requestAfter C b v ≡ false → newGroup (C .nodes) b v .base ≡ newGroup (C .nodes) b v .set
-unfolding requestAfter requestWith newGroup groupWith
-new-based C b v y e = ap (λ (m : ℕ). newSet (C .nodes) b v ∪ m) (sym kept) ∙ union-self (newSet (C .nodes) b v)
-  where
-    kept : newSet (C .nodes) b v ≡ v .group .set
-    kept =
-        eqb-true (same-set (not (eqb (v .view) (v .group .set))) (eqb (newSet (C .nodes) b v) (v .group .set))
-        (sym (ap (λ (t : Bool). t && (not (eqb (v .view) (v .group .set)) || not (eqb (newSet (C .nodes) b v) (v .group .set)))) y) ∙ e))
-
-    union-self : (m : ℕ) → m ∪ m ≡ m
-    union-self m = set-ext (λ x. has-union x m m ∙ twice (has x m))
-      where
-        twice : (t : Bool) → (t || t) ≡ t
-        twice true = refl
-        twice false = refl
-
 -- ---- what a node decides, whatever it held and whatever arrived
 
 member-based : (C : Config) (q : ℕ) (own : Vote) (arrived : Ballots) → C .quiet ≡ true → Based (memberDecides C q own arrived)
@@ -76,7 +53,7 @@ member-based C q own arrived y = go (wins n b own) (any n (λ p. rival n b (own 
     b = withOwn q own arrived
 
     go : (won beaten : Bool) → Based (cond won (memberOn C b own) (cond beaten (Out Outvoted) (Out NoQuorum)))
-    go true beaten = based-group (newGroup n b own) (requestAfter C b own) (new-based C b own y)
+    go true beaten = based-group (newGroup n b own) (requestAfter C b own) (λ e. let r = no-request-rests C b own y e in ap (λ (g : Group). g .base) r ∙ sym (ap (λ (g : Group). g .set) r))
     go false true = no-group (Out Outvoted) refl
     go false false = no-group (Out NoQuorum) refl
 

@@ -1,6 +1,6 @@
 -- A founder of a quiet press that hears the other founders and nothing new sends no vote, and its image stays. Assumes nothing.
 use mathlib.Core.Path.{_≡_, refl, sym, ap, _∙_}
-use mathlib.Core.Bool.{Bool, true, false, not, _&&_, cond, false≢true}
+use mathlib.Core.Bool.{Bool, true, false, not, _&&_, cond, false≢true, and-false}
 use mathlib.Core.List.{List}
 use mathlib.Core.Option.{none, some}
 use Prim.Native.Nat.{ℕ, _<_, _^_}
@@ -28,7 +28,7 @@ use Rattle.entry_slots.specs.Slots.{slotVote, arrivedIn, bufferBallots}
 use Rattle.entry_send_vote.specs.Voting.{ownView, pressOf, requestsHeard, votesOn, sendVoteStatus, votesByte, votedOf, voteIn, voteFrom, sendVoteSent, sendVoteLeft}
 use Rattle.entry_decide.specs.Decide.{decideStatus, decision, decidedFrom, decideLeft}
 use Rattle.theorem_silence.specs.Founder.{founder, begun, hearsFounders, FounderRests, FoundersRest}
-use Rattle.theorem_silence.proofs.Silence.{and-no, sees-set, rests-alone}
+use Rattle.theorem_silence.proofs.Silence.{sees-set, rests-alone}
 
 none-arrived : (n q : ℕ) (votes : List ℕ) (p : ℕ) → bufferBallots n q votes 0 p ≡ none
 unfolding bufferBallots arrivedIn
@@ -158,10 +158,10 @@ founder-there n q G F place small m bound = (whole, hears)
     others-in = subset-of (F ∖ single q) F (λ x h. and-l (has x F) (not (has x (single q))) (sym (has-diff x F (single q)) ∙ h))
 
     nobody : below n 0 ≡ 0
-    nobody = set-ext (λ x. has-below x n 0 ∙ ap (λ (b : Bool). ltb x n && b) (has-none x) ∙ and-no (ltb x n) ∙ sym (has-none x))
+    nobody = set-ext (λ x. has-below x n 0 ∙ ap (λ (b : Bool). ltb x n && b) (has-none x) ∙ and-false (ltb x n) ∙ sym (has-none x))
 
     none-asks : (F ∩ 0) ∖ single q ≡ 0
-    none-asks = set-ext (λ x. has-diff x (F ∩ 0) (single q) ∙ ap (λ (b : Bool). b && not (has x (single q))) (has-inter x F 0 ∙ ap (λ (b : Bool). has x F && b) (has-none x) ∙ and-no (has x F)) ∙ sym (has-none x))
+    none-asks = set-ext (λ x. has-diff x (F ∩ 0) (single q) ∙ ap (λ (b : Bool). b && not (has x (single q))) (has-inter x F 0 ∙ ap (λ (b : Bool). has x F && b) (has-none x) ∙ and-false (has x F)) ∙ sym (has-none x))
 
     hears : (subset (F ∖ single q) F && (subset (below n 0) F && eqb ((F ∩ 0) ∖ single q) 0)) ≡ true
     hears = and-i (subset (F ∖ single q) F) (subset (below n 0) F && eqb ((F ∩ 0) ∖ single q) 0) others-in

@@ -1,6 +1,6 @@
 -- A quiet press that is left alone sends no vote, and stays as it began. Assumes nothing.
 use mathlib.Core.Path.{_≡_, refl, sym, ap, ap₂, _∙_}
-use mathlib.Core.Bool.{Bool, true, false, not, _&&_, _||_, cond, false≢true}
+use mathlib.Core.Bool.{Bool, true, false, not, _&&_, _||_, cond, false≢true, and-false}
 use mathlib.Core.List.{List, [], _∷_}
 use mathlib.Core.Option.{none, some}
 use Prim.Native.Nat.{ℕ, zero, suc, _<_}
@@ -25,10 +25,6 @@ use Rattle.rules.proofs.Votes.{has-view}
 use Rattle.rules.proofs.Undisturbed.{Undisturbed, undisturbed, reach-heartbeat}
 use Rattle.rules.proofs.States.{rule1-member}
 use Rattle.theorem_silence.specs.Silence.{leftAlone, allLeft, quietRow, sentIn, noVotes, Silence}
-
-pub and-no : (b : Bool) → (b && false) ≡ false
-and-no true = refl
-and-no false = refl
 
 -- ---- who hears all members with join 0, and nobody outside with join 1, has the set as its view
 
@@ -137,7 +133,7 @@ module _ (N G F : ℕ) (low : below N F ≡ F) (c : Faults) (left : leftAlone N 
   heard-none sends m o q = set-ext (λ x. has-those x N (λ p. sends (at r p) && heartbeatReaches c p q) ∙ go x (ltb x N) refl ∙ sym (has-none x))
     where
       go : (x : ℕ) (there : Bool) → ltb x N ≡ there → (there && (sends (at r x) && heartbeatReaches c x q)) ≡ false
-      go x true k = ap (λ (b : Bool). b && heartbeatReaches c x q) (sends-as sends false m o x (ltb-lt k) ∙ and-no (has x F))
+      go x true k = ap (λ (b : Bool). b && heartbeatReaches c x q) (sends-as sends false m o x (ltb-lt k) ∙ and-false (has x F))
       go x false k = refl
 
   sees-all : (q : ℕ) → q < N → has q F ≡ true → viewOf N q F (heard N c r sendsMember q) (heard N c r sendsJoin q) ≡ F
@@ -150,7 +146,7 @@ module _ (N G F : ℕ) (low : below N F ≡ F) (c : Faults) (left : leftAlone N 
   uncalled q = ap (λ (m : ℕ). not (eqb (F ∩ m) 0)) (heard-none asks refl refl q) ∙ ap (λ (m : ℕ). not (eqb m 0)) nobody ∙ ap not (eqb-self 0)
     where
       nobody : F ∩ 0 ≡ 0
-      nobody = set-ext (λ x. has-inter x F 0 ∙ ap (λ (b : Bool). has x F && b) (has-none x) ∙ and-no (has x F) ∙ sym (has-none x))
+      nobody = set-ext (λ x. has-inter x F 0 ∙ ap (λ (b : Bool). has x F && b) (has-none x) ∙ and-false (has x F) ∙ sym (has-none x))
 
   mute : (q : ℕ) → q < N → has q F ≡ true → votesNow C c r q (foundingGroup G F) false ≡ false
   unfolding votesNow willVote ownVote

@@ -17,8 +17,11 @@ abbrev μ-loop : tie.MeasureT-loop
 μ-loop config count w voting sent missed numbers sets bases views a b next₀ new-numbers₀ new-sets₀ new-bases₀ q₀ next new-numbers new-sets new-bases q =
     config .nodes - q
 
+no-roles-requires : tie.Need-no-roles-requires Inv-loop μ-loop
+no-roles-requires c κs = search needs
+
 loop-holds : tie.Need-loop-holds Inv-loop μ-loop
-loop-holds c = (omega arith, holds-none _ _ _ _ refl refl refl)
+loop-holds c = (omega arith, holds-none _ _ _ _ _ (c .no-roles .ensures) refl refl refl)
 
 mul-difference : tie.Need-mul-difference Inv-loop μ-loop
 mul-difference c = omega arith
@@ -30,7 +33,7 @@ difference-requires : tie.Need-difference-requires Inv-loop μ-loop
 difference-requires c κs = search needs
 
 decide-requires : tie.Need-decide-requires Inv-loop μ-loop
-decide-requires c κs = (omega arith, c .before .before .before .before .before .before .before .pre .1)
+decide-requires c κs = (omega arith, c .before .before .before .before .before .before .before .before .pre .1)
 
 held-by-requires : tie.Need-held-by-requires Inv-loop μ-loop
 held-by-requires c κs = search needs
@@ -66,7 +69,7 @@ loop-again : tie.Need-loop-again Inv-loop μ-loop
 loop-again c =
     let d = c .before .before in
     let l = d .before .before .before .before .before in
-    let a = l .before .before .before .args in (
+    let a = l .before .before .before .before .args in (
       omega arith,
       holds-next (λ j. decidedRead (a .numbers .now) (a .sets .now) (a .bases .now) (a .views .now) (a .config) (a .count) (a .w) (a .voting) (a .sent ∖ getD (a .missed .now) j 0) (a .a .now) (a .b .now) j) (l .loop .q) (l .loop .next) _ _ _ _ (d .decide .result) (c .before .held-by .result) (omega arith) (l .loop .inv .1)
           (d .decide .ensures ∙ ap (λ (x : ℕ). decidedRead (a .numbers .now) (a .sets .now) (a .bases .now) (a .views .now) (a .config) (a .count) (a .w) (a .voting) x (a .a .now) (a .b .now) (l .loop .q)) (d .before .difference .ensures)) (c .before .held-by .ensures) (c .with-state .ensures),
@@ -75,7 +78,7 @@ loop-again c =
 returns : tie.Need-returns Inv-loop μ-loop
 returns c =
     let l = c .before .before .loop in
-    let a = c .before .before .before .before .before .args in
+    let a = c .before .before .before .before .before .before .args in
     let done : l .q ≡ a .config .nodes = omega arith in
     holds-state (λ j. decidedRead (a .numbers .now) (a .sets .now) (a .bases .now) (a .views .now) (a .config) (a .count) (a .w) (a .voting) (a .sent ∖ getD (a .missed .now) j 0) (a .a .now) (a .b .now) j) (a .config .nodes) (l .q) (l .next) (l .new-numbers) (l .new-sets) (l .new-bases) (l .inv .1) done
 
@@ -85,6 +88,7 @@ decisions-spec =
     (tie.spec
     Inv-loop
     μ-loop
+    no-roles-requires
     loop-holds
     mul-difference
     element-copy-out-difference

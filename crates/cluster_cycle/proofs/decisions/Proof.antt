@@ -11,7 +11,7 @@ use Rattle.cluster_tallies.specs.Grouped.{Within}
 use Rattle.cluster_states.specs.Decided.{decidedAt}
 use Rattle.cluster_cycle.specs.Follows.{Worth}
 use Rattle.cluster_tallies.proofs.Tallies.{inside-less}
-use Rattle.cluster_cycle.proofs.Keeping.{worth-none}
+use Rattle.cluster_cycle.proofs.Keeping.{worth-none, kept-worth}
 use Rattle.cluster_states.proofs.Deciding.{Holds, holds-none, holds-next, holds-state}
 use Rattle.cluster_cycle.proofs.decisions.Statement.{statement}
 use Rattle.cluster_cycle.proofs.decisions.Tie as tie
@@ -30,13 +30,17 @@ decided s q =
     let a = s .args in
     decidedAt (a .numbers .now) (a .sets .now) (a .bases .now) (a .views .now) (a .config) (a .w) (a .voting) (a .sent ∖ getD (a .missed .now) q 0) q
 
+no-roles-requires : tie.Need-no-roles-requires Inv-loop μ-loop
+no-roles-requires c κs = search needs
+
 nobody-requires : tie.Need-nobody-requires Inv-loop μ-loop
 nobody-requires c κs = search needs
 
 loop-holds : tie.Need-loop-holds Inv-loop μ-loop
 loop-holds c =
-    let a = c .before .args in
-    ((holds-none _ _ _ _ (c .before .pre .0 .1) (c .before .pre .0 .2) (c .before .pre .0 .3), worth-none (a .numbers .now) (a .sets .now) (a .bases .now) (a .views .now) (a .config) (a .w) (a .voting) (c .nobody .result) (c .nobody .ensures)), omega arith)
+    let s = c .before .before in
+    let a = s .args in
+    ((holds-none _ _ _ _ _ (c .before .no-roles .ensures) (s .pre .0 .1) (s .pre .0 .2) (s .pre .0 .3), worth-none (a .numbers .now) (a .sets .now) (a .bases .now) (a .views .now) (a .config) (a .w) (a .voting) (c .nobody .result) (c .nobody .ensures)), omega arith)
 
 mul-difference : tie.Need-mul-difference Inv-loop μ-loop
 mul-difference c = omega arith
@@ -54,25 +58,22 @@ with-member-requires : tie.Need-with-member-requires Inv-loop μ-loop
 with-member-requires c κs = omega arith
 
 -- nothing arrives but what members sent
-inside : (c : tie.After-difference Inv-loop μ-loop) → Within (c .difference .result) (c .before .before .before .before .before .args .voting)
-inside c = let s = c .before .before .before .before .before in inside-less (s .args .sent) _ _ (s .args .voting) (s .pre .1 .1) (c .difference .ensures)
+inside : (c : tie.After-difference Inv-loop μ-loop) → Within (c .difference .result) (c .before .before .before .before .before .before .args .voting)
+inside c = let s = c .before .before .before .before .before .before in inside-less (s .args .sent) _ _ (s .args .voting) (s .pre .1 .1) (c .difference .ensures)
 
 decide-requires : tie.Need-decide-requires Inv-loop μ-loop
 decide-requires c κs =
     let d = c .before .before .before in
-    (omega arith, (d .before .before .before .before .before .pre .1 .0, inside d))
+    (omega arith, (d .before .before .before .before .before .before .pre .1 .0, inside d))
 
 keep-requires : tie.Need-keep-requires Inv-loop μ-loop
-keep-requires c κs =
-    let d = c .before .before .before .before in
-    let l = d .before .before .before in
-    (omega arith, (l .before .before .pre .1 .0, (inside d, (c .decide .ensures, l .loop .inv .0 .1))))
+keep-requires c κs = omega (arith, c .before .before .before .before .before .before .before .before .before .before .pre .0 .0)
 
 held-by-requires : tie.Need-held-by-requires Inv-loop μ-loop
 held-by-requires c κs = search needs
 
 with-state-requires : tie.Need-with-state-requires Inv-loop μ-loop
-with-state-requires c κs = omega (arith, c .before .before .before .before .before .before .before .before .before .before .before .pre .0 .0)
+with-state-requires c κs = omega (arith, c .before .before .before .before .before .before .before .before .before .before .before .before .pre .0 .0)
 
 mul-new-numbers : tie.Need-mul-new-numbers Inv-loop μ-loop
 mul-new-numbers c = omega arith
@@ -102,18 +103,22 @@ loop-again : tie.Need-loop-again Inv-loop μ-loop
 loop-again c =
     let d = c .before .before .before in
     let l = d .before .before .before in
-    let a = l .before .before .args in
-    let below64 : l .loop .q < 64 = omega (arith, d .before .before .loop-test .taken, l .before .before .pre .0 .0) in
+    let s = l .before .before .before in
+    let a = s .args in
+    let worth = Worth (a .numbers .now) (a .sets .now) (a .bases .now) (a .views .now) (a .config) (a .w) (a .voting) in
+    let below64 : l .loop .q < 64 = omega (arith, d .before .before .loop-test .taken, s .pre .0 .0) in
     let arrived = ap (λ (x : ℕ). decidedAt (a .numbers .now) (a .sets .now) (a .bases .now) (a .views .now) (a .config) (a .w) (a .voting) x (l .loop .q)) (d .difference .ensures) in (
       ⊎-elim
           (λ w. (
-            holds-next (decided (l .before .before)) (l .loop .q) (l .loop .next) (c .if1 .next) _ _ _ (Member (l .loop .k .group) (l .loop .k .request)) (c .if1 .g) below64 (l .loop .inv .0 .0)
+            holds-next (decided s) (l .loop .q) (l .loop .next) (c .if1 .next) _ _ _ (Member (l .loop .k .group) (l .loop .k .request)) (c .if1 .g) below64 (l .loop .inv .0 .0)
                 (sym (l .loop .inv .0 .1 (l .loop .q) (d .difference .result) (d .before .before .loop-test .taken) (inside d) (sym (c .before .follows .ensures) ∙ w .0 .taken)) ∙ arrived) (w .4) (w .2 ∙ w .1 .ensures),
-            subst (Worth (a .numbers .now) (a .sets .now) (a .bases .now) (a .views .now) (a .config) (a .w) (a .voting)) (sym (w .3)) (l .loop .inv .0 .1),
+            subst worth (sym (w .3)) (l .loop .inv .0 .1),
           ))
           (λ w. (
-            holds-next (decided (l .before .before)) (l .loop .q) (l .loop .next) (c .if1 .next) _ _ _ (w .1 .result) (c .if1 .g) below64 (l .loop .inv .0 .0) (w .1 .ensures ∙ arrived) (w .7 ∙ w .3 .ensures) (w .5 ∙ w .4 .ensures),
-            subst (Worth (a .numbers .now) (a .sets .now) (a .bases .now) (a .views .now) (a .config) (a .w) (a .voting)) (sym (w .6)) (w .2 .ensures),
+            holds-next (decided s) (l .loop .q) (l .loop .next) (c .if1 .next) _ _ _ (w .1 .result) (c .if1 .g) below64 (l .loop .inv .0 .0) (w .1 .ensures ∙ arrived) (w .7 ∙ w .3 .ensures) (w .5 ∙ w .4 .ensures),
+            subst worth (sym (w .6 ∙ w .2 .ensures))
+                (kept-worth (a .numbers .now) (a .sets .now) (a .bases .now) (a .views .now) (a .config) (a .w) (a .voting) (a .lead) (a .same .now) (s .pre .1 .0) (l .loop .q) (d .difference .result) (w .1 .result) (l .loop .k) (d .before .before .loop-test .taken) (inside d)
+                (w .1 .ensures) (l .loop .inv .0 .1)),
           ))
           (c .if1 .came),
       omega arith,
@@ -122,9 +127,10 @@ loop-again c =
 returns : tie.Need-returns Inv-loop μ-loop
 returns c =
     let l = c .before .loop in
-    let a = c .before .before .before .args in
+    let s = c .before .before .before .before in
+    let a = s .args in
     let done : l .q ≡ a .config .nodes = omega arith in
-    holds-state (decided (c .before .before .before)) (a .config .nodes) (l .q) (l .next) (l .new-numbers) (l .new-sets) (l .new-bases) (l .inv .0 .0) done
+    holds-state (decided s) (a .config .nodes) (l .q) (l .next) (l .new-numbers) (l .new-sets) (l .new-bases) (l .inv .0 .0) done
 
 pub decisions-spec : {M : Type 1} → statement M
 decisions-spec =
@@ -132,6 +138,7 @@ decisions-spec =
     (tie.spec
     Inv-loop
     μ-loop
+    no-roles-requires
     nobody-requires
     loop-holds
     mul-difference

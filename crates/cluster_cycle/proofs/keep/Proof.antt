@@ -1,6 +1,8 @@
-use mathlib.Core.Path.{refl, sym, _∙_}
-use Rattle.sets.proofs.Booleans.{not-f}
-use Rattle.cluster_cycle.proofs.Keeping.{keeps}
+use mathlib.Core.Path.{sym, ap, _∙_}
+use Prim.Native.Nat.{ℕ}
+use lib.ListN.{getD}
+use Rattle.sets.proofs.Booleans.{not-e, not-f}
+use Rattle.cluster_tallies.specs.Grouped.{ownTally}
 use borrow.Author.Needs.{needs}
 use Rattle.cluster_cycle.proofs.keep.Statement.{statement}
 use Rattle.cluster_cycle.proofs.keep.Tie as tie
@@ -18,13 +20,15 @@ contains-requires : tie.Need-contains-requires
 contains-requires c κs = search needs
 
 returns : tie.Need-returns
-returns c = c .before .before .before .before .pre .1 .1 .1 .1
+returns c = rw (sym (c .before .contains .ensures) ∙ not-e _ (c .if1 .taken))
 
 sends-member-requires : tie.Need-sends-member-requires
 sends-member-requires c κs = search needs
 
 returns-2 : tie.Need-returns-2
-returns-2 c = c .before .before .before .before .before .before .pre .1 .1 .1 .1
+returns-2 c =
+    let m = c .before .before in
+    rw (sym (m .before .contains .ensures) ∙ not-f _ (m .if1 .left), sym (c .before .sends-member .ensures) ∙ not-e _ (c .if2 .taken))
 
 own-tally-requires : tie.Need-own-tally-requires
 own-tally-requires c κs = search needs
@@ -41,8 +45,15 @@ returns-3 c =
     let m = t .before .before in
     let s = m .before .before .before in
     let a = s .args in
-    keeps (a .numbers .now) (a .sets .now) (a .bases .now) (a .views .now) (a .config) (a .w) (a .voting) (a .lead) (a .same .now) (s .pre .1 .0) (a .q) (a .present) (a .d) _ (s .pre .0 .1) (s .pre .1 .1 .0) (sym (m .contains .ensures) ∙ not-f _ (t .before .if1 .left)) (s .pre .1 .1 .1 .0)
-    (sym (t .sends-member .ensures) ∙ not-f _ (c .before .before .before .if2 .left)) (m .before .before .votes-like .ensures) refl (c .before .before .own-tally .ensures) (c .before .held-by .ensures) (c .asks .ensures)
+    let v = m .before .before .votes-like .ensures in
+    rw (sym (m .contains .ensures) ∙ not-f _ (t .before .if1 .left), sym (t .sends-member .ensures) ∙ not-f _ (c .before .before .before .if2 .left))
+    (λ i. record {
+      votes = v i;
+      set = getD (a .sets .now) (a .q) 0;
+      counted = (c .before .before .own-tally .ensures ∙ ap (λ (x : ℕ). ownTally x (getD (a .sets .now) (a .q) 0) (a .present) (a .q)) v) i;
+      group = c .before .held-by .ensures i;
+      request = c .asks .ensures i;
+    })
 
 pub keep-spec : {M : Type 1} → statement M
 keep-spec =

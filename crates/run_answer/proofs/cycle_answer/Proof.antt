@@ -3,7 +3,7 @@ use mathlib.Core.Path.{_≡_, refl, sym, ap, _∙_}
 use mathlib.Core.Bool.{Bool}
 use native.Mathlib.Omega.{arith}
 use denote.Ref.{now}
-use Rattle.rules.specs.OneCycle.{quietIn}
+use Rattle.rules.specs.OneCycle.{configOf, quietIn}
 use Rattle.rules.specs.Faults.{cycle}
 use Rattle.table.proofs.Laws.{accepted}
 use Rattle.cluster_states.specs.States.{rowOf}
@@ -88,7 +88,7 @@ returns-3 c =
       (
         λ nodes h z. cycle-leaves (a .n) (a .mode) (a .len) (a .g) nodes (now (a .s)) h _ (looked (e .before)) (e .if1 .left) _ (r .cycle-refusal .ensures)
             (f .before .if2 .left) _ _ (f .cycle-faults .ensures)
-            (c .cycle .ensures ∙ ap (λ (b : Bool). cycle (record { nodes = a .n; quiet = b }) (f .cycle-faults .result) (rowOf (a .n) (a .g .states))) quiet),
+            (c .cycle .ensures ∙ ap (λ (b : Bool). cycle (configOf b (a .n)) (f .cycle-faults .result) (rowOf (a .n) (a .g .states))) quiet),
         λ o. absurd (o refl),
       ),
     )

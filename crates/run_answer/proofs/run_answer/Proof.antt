@@ -7,7 +7,7 @@ use lib.ListN.{length}
 use denote.Ref.{now}
 use borrow.Author.Needs.{needs}
 use Rattle.state.specs.State.{formedState}
-use Rattle.rules.specs.OneCycle.{wrongMode}
+use Rattle.rules.specs.OneCycle.{configOf, wrongMode}
 use Rattle.bus_units.specs.Run.{framesLength, framesAfter}
 use Rattle.table.specs.Table.{tableOf}
 use Rattle.table.proofs.Laws.{Begins}
@@ -122,10 +122,10 @@ returns-3 c =
       sym (e .if2 .left) ∙ found (e .before),
       (
         λ z. run-leaves (a .mode) _ _ (fitting e .0) _ (n .start-count .ensures) _ (f .start-founding .ensures) _ (b .begin .ensures) _
-            (r .run .ensures .0 ∙ ap (λ (x : Bool). rowAfter (record { nodes = n .start-count .result; quiet = x }) row rest) (q .is-quiet .ensures)),
+            (r .run .ensures .0 ∙ ap (λ (x : Bool). rowAfter (configOf x (n .start-count .result)) row rest) (q .is-quiet .ensures)),
         (
           r .run .ensures .1
-              ∙ ap (λ (x : Bool). cond (a .framed) (framesAfter (record { nodes = n .start-count .result; quiet = x }) 1 row rest (now (a .frames))) (now (a .frames))) (q .is-quiet .ensures)
+              ∙ ap (λ (x : Bool). cond (a .framed) (framesAfter (configOf x (n .start-count .result)) 1 row rest (now (a .frames))) (now (a .frames))) (q .is-quiet .ensures)
               ∙ run-shown (a .mode) _ _ (fitting e .0) _ (n .start-count .ensures) _ (f .start-founding .ensures) _ (b .begin .ensures) (in-mode (e .before)) (a .framed) (now (a .frames)) (fitting e .1),
           λ o. absurd (o refl),
         ),

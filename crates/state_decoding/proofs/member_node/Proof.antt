@@ -1,9 +1,8 @@
 use mathlib.Core.Path.{_≡_}
-use mathlib.Core.Bool.{Bool, false}
+use mathlib.Core.Bool.{Bool, false, and-false}
 use Prim.Native.Nat.{ℕ}
 use borrow.Author.Tests.{ne-eqb}
 use Rattle.state.specs.Image.{memberReason}
-use Rattle.state.proofs.Fields.{and-false}
 use borrow.Author.Needs.{needs}
 use Rattle.state_decoding.proofs.member_node.Statement.{statement}
 use Rattle.state_decoding.proofs.member_node.Tie as tie

@@ -41,17 +41,23 @@ enum Tried {
     Marks(&'static [usize]),
 }
 
+impl Tried {
+    /// the most marks of a record after so many cycles, if they are limited; nothing where the search ends
+    fn marks(self, depth: usize) -> Option<Option<usize>> {
+        match self {
+            Tried::All => Some(None),
+            Tried::Marks(marks) => marks.get(depth).map(|&most| Some(most)),
+        }
+    }
+}
+
 /// The states that kept cycles reach from every founding set, breadth first. Every step is checked.
 fn search(n: usize, tried: Tried, rules: Rules) -> Search {
     let mut level: Vec<Standing> = (1..1_u64 << n).map(|founding| Standing::beginning(n, founding)).collect();
     let mut seen: HashSet<Standing> = level.iter().cloned().collect();
     let mut result = Search { states: 0, records: 0, depth: 0, resting: Resting::default(), failed: None };
     while !level.is_empty() && result.failed.is_none() {
-        let marks = match tried {
-            Tried::All => None,
-            Tried::Marks(marks) if result.depth < marks.len() => Some(marks[result.depth]),
-            Tried::Marks(_) => break,
-        };
+        let Some(marks) = tried.marks(result.depth) else { break };
         let mut next = Vec::new();
         for at in &level {
             let mut visit = |faults: &Faults| {
@@ -172,8 +178,8 @@ fn kept_faults(random: &mut Random, at: &Standing) -> Faults {
     faults
 }
 
-/// The search that finds a mistake, and in which cycle; none for those that break no claim and that an example must show: with them the press goes on otherwise
-/// than the rules say, or its members vote more often, and demand 3 still holds.
+/// The search that finds a mistake, and in which cycle; none for those that break no claim at N 2 and 3 (`breaks_nothing`) and that an example must show: with
+/// them the press goes on otherwise than the rules say, or its members vote more often, and demand 3 still holds.
 fn breaks(mistake: Mistake) -> Option<(Mode, (usize, Tried), usize)> {
     let [two, three, four, _, five] = SEARCHES;
     match mistake {
@@ -191,6 +197,12 @@ fn breaks(mistake: Mistake) -> Option<(Mode, (usize, Tried), usize)> {
     }
 }
 
+/// whether demand 3 holds with the mistake in every reachable state at N 2 and 3, in the mode that it is about
+fn breaks_nothing(mistake: Mistake) -> bool {
+    let mode = if mistake == Mistake::AlwaysRests { Mode::Always } else { Mode::Quiet };
+    SEARCHES[..2].iter().all(|&(n, tried)| search(n, tried, Rules { mode, mistake: Some(mistake) }).failed.is_none())
+}
+
 /// the checks that find a mistake, or one that should and does not
 fn finders(mistake: Mistake) -> Result<String, String> {
     let mut found: Vec<String> =
@@ -205,6 +217,8 @@ fn finders(mistake: Mistake) -> Result<String, String> {
             Some((claim, _, faults)) if result.depth == cycle => found.push(format!("{place} ({claim}; last faults: {})", shown(n, &faults))),
             _ => return Err(format!("{place}, and not where it is due, in cycle {cycle}")),
         }
+    } else if !breaks_nothing(mistake) {
+        return Err("a search that is not named".to_string());
     }
     Ok(found.join(", "))
 }

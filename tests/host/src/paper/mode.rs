@@ -30,12 +30,4 @@ impl Mode {
     pub fn is_quiet(self) -> bool {
         self == Mode::Quiet
     }
-
-    /// in a report
-    pub fn text(self) -> &'static str {
-        match self {
-            Mode::Always => "votes in every cycle",
-            Mode::Quiet => "quiet",
-        }
-    }
 }
