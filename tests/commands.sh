@@ -77,6 +77,7 @@ make_kit() {
 #!/usr/bin/env bash
 [ "$1" != version ] || { echo "${KIT:-a kit}"; exit 0; }
 head -n 1 "$SAYS" >&2
+[ -n "${EARLY-}" ] || mkdir -p target/must-fail
 for _ in {1..100}; do [ ! -e "$SAYS.wait" ] || sleep 0.1; done
 tail -n +2 "$SAYS"
 exit "${ENDS:-0}"
@@ -86,7 +87,7 @@ KIT
 make_room() {
     room=$work/room
     mkdir -p "$room"/{tools,tests,include,crates/low/must-fail}
-    cp tools/{kit,evidence}.sh "$room/tools"
+    cp tools/{kit,gate,evidence}.sh "$room/tools"
     cp tests/edits.sh "$room/tests"
     cp .gitignore "$room"
     printf '# NAME: the crates it rests on\nlow:\nprint_program: low\ngrouprun: low print_program\nquietrun: print_program\nvectors: low\nrowrun: low grouprun\n' >"$room/crates.txt"
@@ -201,6 +202,31 @@ check_waiting() {
     rm "$work/says.wait"
     wait $!
     has "$work/shown" '7 passed, 0 failed'
+}
+
+# ---- the gate with the tests beside it
+
+# a gate that waits at its edits, where it comes to them; the tests let it go on
+gated() { # TESTS
+    ended=0
+    [ -n "${EARLY-}" ] || touch "$work/says.wait"
+    SAYS=$work/says PATH=$work/kit:$PATH "$room/tools/gate.sh" "an hour" bash -c "$1" >"$work/out" 2>"$work/err" || ended=$?
+    rm -f "$work/says.wait"
+}
+check_beside() {
+    local on='echo tested; rm "$SAYS.wait"'
+    says "${gate_lines[@]}"
+    gated "$on"
+    [ "$ended $(<"$work/out")" = $'0 tested\n7 passed, 0 failed' ] || fail "a gate with tests that pass ends with $ended and prints: $(<"$work/out")"
+    ENDS=1 gated "$on"
+    [ "$ended $(<"$work/out")" = $'1 tested\n7 passed, 0 failed' ] || fail "a gate that fails beside its tests ends with $ended and prints: $(<"$work/out")"
+    gated 'echo a test; exit 3'
+    [ "$ended $(<"$work/out")" = '1 ' ] || fail "a gate with a test that fails ends with $ended and prints: $(<"$work/out")"
+    has "$work/err" 'a test failed'
+    ! pgrep -f "$work/kit/rt" >/dev/null || fail "a gate goes on though a test failed"
+    says 'rt: low NOT PROVED (exit 1, 1 s)' 'rt: FAILED: low' '0 passed, 1 failed'
+    EARLY=yes ENDS=1 gated "$on"
+    [ "$ended $(<"$work/out")" = '1 0 passed, 1 failed' ] || fail "a gate that ends before its edits ends with $ended and prints: $(<"$work/out")"
 }
 
 # ---- evidence
@@ -347,6 +373,7 @@ check_life
 check_failure
 check_terminal
 check_waiting
+check_beside
 check_evidence
 check_other_state
 check_gate
@@ -354,4 +381,4 @@ check_trust
 check_axioms
 check_comparison
 check_begun
-echo "commands: help, missing commands, make run, progress and evidence as expected"
+echo "commands: help, missing commands, make run, progress, the gate with its tests and evidence as expected"
