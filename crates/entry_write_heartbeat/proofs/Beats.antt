@@ -8,7 +8,7 @@ use lib.ListN.{length}
 use borrow.Author.Tests.{ltb-false}
 use Rattle.sets.proofs.Booleans.{or-f-l, or-f-r}
 use Rattle.rules.specs.OneCycle.{wrongMode}
-use Rattle.frames.specs.Written.{heartbeatFrame, wrongDrive}
+use Rattle.frames.specs.Written.{heartbeatFrame, wrongDrive, wrongRequest}
 use Rattle.refusal.proofs.Laws.{none, unless-done}
 use Rattle.entry_lent.specs.Refusals.{wrongCount, wrongNode, wrongCycle, wrongChannel, wrongBit, wrongIndicators, wrongLength}
 use Rattle.entry_write_heartbeat.specs.Heartbeats.{wrongNumbers, writeHeartbeatStatus, writeHeartbeatLeft}
@@ -48,3 +48,10 @@ module _ (n mode q join request sync startup cycle channel : ℕ) (d f : List �
       → (0 ≡ writeHeartbeatStatus n mode q join request sync startup cycle channel d f) × (left ≡ writeHeartbeatLeft n mode q join request sync startup cycle channel d f)
   unfolding writeHeartbeatLeft
   written left w = (sym e, w ∙ sym (unless-done (writeHeartbeatStatus n mode q join request sync startup cycle channel d f) _ f e))
+
+-- without a request the entry answers and leaves the same in both modes
+pub same-in-both : (n q join sync startup cycle channel : ℕ) (d f : List ℕ)
+    → (writeHeartbeatStatus n 1 q join 0 sync startup cycle channel d f ≡ writeHeartbeatStatus n 0 q join 0 sync startup cycle channel d f)
+    × (writeHeartbeatLeft n 1 q join 0 sync startup cycle channel d f ≡ writeHeartbeatLeft n 0 q join 0 sync startup cycle channel d f)
+unfolding writeHeartbeatStatus writeHeartbeatLeft wrongRequest
+same-in-both n q join sync startup cycle channel d f = (refl, refl)
