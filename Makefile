@@ -21,7 +21,7 @@ SOURCES = crates.txt $(shell find crates -name '*.rt' -o -name '*.antt')
 ENTRIES = $(notdir $(wildcard crates/entry_*))
 
 # so many crates and edits at a time, each up to 1 GB: more than there are cores, so that none of these waits for the slowest of a few
-export RT_JOBS ?= 6
+export RT_JOBS ?= 8
 
 # what `make install` places, and where below PREFIX; of the documents those that the header and the manual pages send a reader to, and what these link to
 PROGRAMS = $(GROUPRUN) $(QUIETRUN) $(TABLETEXT)
@@ -78,7 +78,7 @@ test:
 	@$(if $(call option,i),$(error make test ends with the first test that fails: run it without -i))\
 	    $(call needs,rt cargo gcc g++ git script)echo "make test: 17 to 29 minutes on two idle cores" >&2
 	@tools/evidence.sh begin
-	@$(MAKE) --no-print-directory --silent $(FIRST_TESTS)
+	@$(MAKE) --no-print-directory --silent -j2 --output-sync $(FIRST_TESTS)
 	@tools/gate.sh "20 to 30 minutes on two idle cores" make --no-print-directory tests
 
 # those tests of `test` that need the archive and the programs, built first where they are not there

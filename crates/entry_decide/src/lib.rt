@@ -16,7 +16,7 @@ fn member_decides(
     quiet: bool,
     n: Node,
     g: Group,
-    a: bool,
+    asks: bool,
     heard0: u64,
     heard1: u64,
     requests: u64,
@@ -27,13 +27,13 @@ fn member_decides(
     present: u64,
 ) -> State
     requires { ⌜ (n .nodes ≤ 64) × (n .id < n .nodes) ⌝ }
-    ensures { λ r. ⌜ r ≡ memberDecision quiet n g a heard0 heard1 requests (ballotsOf (now (numbers .entry)) (now (sets .entry)) (now (bases .entry)) (now (views .entry)) present) ⌝ }
+    ensures { λ r. ⌜ r ≡ memberDecision quiet n g asks heard0 heard1 requests (ballotsOf (now (numbers .entry)) (now (sets .entry)) (now (bases .entry)) (now (views .entry)) present) ⌝ }
 {
     let nodes = n.nodes as usize;
     let config = Config { nodes, quiet };
     let q = n.id as usize;
     let own = own_vote(n, g, heard0, heard1);
-    if entry_send_vote::votes_with(quiet, n, g, a, own.view, heard0, requests) {
+    if entry_send_vote::votes_with(quiet, n, g, asks, own.view, heard0, requests) {
         rule_member::member_decides(config, q, own, numbers, sets, bases, views, present)
     } else {
         rule_member::silent_decides(config, q, g, numbers, sets, bases, views, 0, present)
@@ -76,11 +76,11 @@ pub fn next_state(
         State::Joining => {
             rule_joiner::joiner_decides(config, q, &numbers, &sets, &bases, &views, present)
         }
-        State::Member(g, a) => member_decides(
+        State::Member(g, asks) => member_decides(
             quiet,
             n,
             g,
-            a,
+            asks,
             heard0,
             heard1,
             requests,

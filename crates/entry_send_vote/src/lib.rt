@@ -56,18 +56,18 @@ pub fn votes_with(
     quiet: bool,
     n: Node,
     g: Group,
-    a: bool,
+    asks: bool,
     view: u64,
     heard0: u64,
     requests: u64,
 ) -> bool
     requires { ⌜ (n .nodes ≤ 64) × (n .id < n .nodes) ⌝ }
-    ensures { λ r. ⌜ r ≡ votesWith quiet n g a view heard0 requests ⌝ }
+    ensures { λ r. ⌜ r ≡ votesWith quiet n g asks view heard0 requests ⌝ }
 {
     let nodes = n.nodes as usize;
     let own = sets::single(n.id as usize);
     let heard = sets::difference(sets::intersection(heard0, requests), own);
-    rule_steps::will_vote(Config { nodes, quiet }, g.set, view, a, heard)
+    rule_steps::will_vote(Config { nodes, quiet }, g.set, view, asks, heard)
 }
 
 // What node n sends.
@@ -92,9 +92,9 @@ fn send_of(
     match s {
         State::Out(_) => *sent = 0,
         State::Joining => *sent = 0,
-        State::Member(g, a) => {
+        State::Member(g, asks) => {
             let v = own_vote(n, g, heard0, heard1);
-            if votes_with(quiet, n, g, a, v.view, heard0, requests) {
+            if votes_with(quiet, n, g, asks, v.view, heard0, requests) {
                 bytes::copy(
                     &frame_writing::write_vote(n.id as u32, v, cycle, channel),
                     frame,

@@ -31,8 +31,8 @@ fn numbers_of(s: State) -> Numbers
             reason: 0,
             group: state_encoding::no_group(),
         },
-        State::Member(g, a) => {
-            let request = state_encoding::request_code(a) as u32;
+        State::Member(g, asks) => {
+            let request = state_encoding::request_code(asks) as u32;
             Numbers {
                 kind: 2,
                 reason: request,

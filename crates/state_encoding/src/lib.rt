@@ -19,10 +19,10 @@ pub fn reason_code(r: Reason) -> u8
 }
 
 // The reason byte of a member: whether it requests.
-pub fn request_code(a: bool) -> u8
-    ensures { λ c. ⌜ c ≡ cond a 1 0 ⌝ }
+pub fn request_code(asks: bool) -> u8
+    ensures { λ c. ⌜ c ≡ cond asks 1 0 ⌝ }
 {
-    if a { 1 } else { 0 }
+    if asks { 1 } else { 0 }
 }
 
 // What stands in the image of a node with no group.
@@ -78,6 +78,6 @@ pub fn encode(n: Node) -> [u8; 24]
     match s {
         State::Out(r) => image(0, reason_code(r), n.id, n.nodes, no_group()),
         State::Joining => image(1, 0, n.id, n.nodes, no_group()),
-        State::Member(g, a) => image(2, request_code(a), n.id, n.nodes, g),
+        State::Member(g, asks) => image(2, request_code(asks), n.id, n.nodes, g),
     }
 }

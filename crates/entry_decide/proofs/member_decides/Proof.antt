@@ -49,7 +49,7 @@ returns c =
     let o = t .before .before in
     let a = o .before .before .before .args in
     c .member-decides .ensures
-    ∙ by-test (a .quiet) (a .n) (a .g) (a .a) (a .heard0) (a .heard1) (a .requests) _ (o .own-vote .result) (o .own-vote .ensures) true (sym (t .before .votes-with .ensures) ∙ t .if1 .taken)
+    ∙ by-test (a .quiet) (a .n) (a .g) (a .asks) (a .heard0) (a .heard1) (a .requests) _ (o .own-vote .result) (o .own-vote .ensures) true (sym (t .before .votes-with .ensures) ∙ t .if1 .taken)
 
 returns-2 : tie.Need-returns-2
 returns-2 c =
@@ -57,7 +57,7 @@ returns-2 c =
     let o = t .before .before in
     let a = o .before .before .before .args in
     c .silent-decides .ensures
-    ∙ by-test (a .quiet) (a .n) (a .g) (a .a) (a .heard0) (a .heard1) (a .requests) _ (o .own-vote .result) (o .own-vote .ensures) false (sym (t .before .votes-with .ensures) ∙ t .if1 .left)
+    ∙ by-test (a .quiet) (a .n) (a .g) (a .asks) (a .heard0) (a .heard1) (a .requests) _ (o .own-vote .result) (o .own-vote .ensures) false (sym (t .before .votes-with .ensures) ∙ t .if1 .left)
 
 pub member-decides-spec : {M : Type 1} → statement M
 member-decides-spec =

@@ -30,7 +30,7 @@ returns c =
     let d = c .before in
     let a = d .before .before .before .before .before .args in
     c .will-vote .ensures
-    ∙ ap (λ (x : ℕ). willVote (pressOf (a .quiet) (a .n)) (a .g .set) (a .view) (called (a .g .set) (a .a) x)) (d .difference .ensures ∙ ap₂ (λ (x y : ℕ). x ∖ y) (d .before .intersection .ensures) (d .before .before .single .ensures))
+    ∙ ap (λ (x : ℕ). willVote (pressOf (a .quiet) (a .n)) (a .g .set) (a .view) (called (a .g .set) (a .asks) x)) (d .difference .ensures ∙ ap₂ (λ (x y : ℕ). x ∖ y) (d .before .intersection .ensures) (d .before .before .single .ensures))
 
 pub votes-with-spec : {M : Type 1} → statement M
 votes-with-spec =
