@@ -1,4 +1,4 @@
--- A member that is kept for those that decide the same.
+-- A member that is kept for those that decide the same, and a cycle in which nobody votes.
 -- Assumes nothing.
 use mathlib.Core.Path.{_≡_}
 use mathlib.Core.Bool.{Bool, true, _&&_, cond}
@@ -33,6 +33,10 @@ kept q sets lead same voting present d k =
     cond (has q voting && sendsMember d)
     (record { votes = votes; set = set; counted = ownTally votes set present q; group = heldBy d; request = asks d })
     k
+
+-- the masks after a cycle in which nobody votes, from those after rule 1
+abbrev pub restingRoles : Roles → Roles
+restingRoles w = record { members = w .members; asking = 0; joining = w .joining; «no_quorum» = w .«no_quorum»; outvoted = w .outvoted }
 
 -- the masks with node q added as a member, and whether it requests
 abbrev pub withMember : Roles → ℕ → Bool → Roles

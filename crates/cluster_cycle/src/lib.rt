@@ -8,7 +8,7 @@ ghost use Rattle.rules.specs.Faults.{cycle as theCycle};
 ghost use Rattle.cluster_tallies.specs.Grouped.{Grouped, Within, Below};
 ghost use Rattle.cluster_states.specs.States.{statesOf, faultsOf, stateAt, rowOf};
 ghost use Rattle.cluster_states.specs.Decided.{viewAt, votingOf, decidedAt};
-ghost use Rattle.cluster_cycle.specs.Follows.{follows as doesFollow, kept, withMember};
+ghost use Rattle.cluster_cycle.specs.Follows.{follows as doesFollow, kept, withMember, restingRoles};
 use cluster_states::Roles;
 use cluster_states::States;
 use rules::Config;
@@ -305,6 +305,71 @@ fn decisions(
     next
 }
 
+// Where nobody votes: members keep their groups, with their sets as bases, and request nothing; nobody comes in.
+fn resting(w: Roles) -> Roles
+    ensures { λ r. ⌜ r ≡ restingRoles w ⌝ }
+{
+    Roles {
+        members: w.members,
+        asking: 0,
+        joining: w.joining,
+        no_quorum: w.no_quorum,
+        outvoted: w.outvoted,
+    }
+}
+
+// Rules 5 and 6 of all nodes, in place, where the members `voting` vote and the votes `sent` go out.
+fn decide_all<'a>(
+    config: Config,
+    numbers: &mut [u32; 64],
+    sets: &mut [u64; 64],
+    bases: &mut [u64; 64],
+    views: &'a [u64; 64],
+    w: Roles,
+    voting: u64,
+    sent: u64,
+    missed: &'a [u64; 64],
+) -> Roles
+    requires { ⌜ config .nodes ≤ 64 ⌝ }
+    requires { ⌜ Below (config .nodes) voting ⌝ }
+    requires { ⌜ Within sent voting ⌝ }
+    ensures { λ r. ⌜ ((q : ℕ) → q < config .nodes → stateAt (statesOf r (now (numbers .exit)) (now (sets .exit)) (now (bases .exit))) q ≡ decidedAt (now (numbers .entry)) (now (sets .entry)) (now (bases .entry)) (now (views .entry)) config w voting (sent ∖ getD (now (missed .entry)) q 0) q) ⌝ }
+{
+    let mut same = [0u64; 64];
+    let lead = cluster_tallies::groups_of(
+        config.nodes,
+        numbers,
+        sets,
+        bases,
+        views,
+        voting,
+        &mut same,
+    );
+    let mut new_numbers = [0u32; 64];
+    let mut new_sets = [0u64; 64];
+    let mut new_bases = [0u64; 64];
+    let after = decisions(
+        config,
+        numbers,
+        sets,
+        bases,
+        views,
+        lead,
+        &same,
+        w,
+        voting,
+        sent,
+        missed,
+        &mut new_numbers,
+        &mut new_sets,
+        &mut new_bases,
+    );
+    *numbers = new_numbers;
+    *sets = new_sets;
+    *bases = new_bases;
+    after
+}
+
 // One cycle of nodes with the roles w: the roles after it, and in place their groups. What node q misses is in the elements q of `unheard` and `missed`.
 // Free: what the row after it does not show.
 pub fn advance<'a>(
@@ -334,31 +399,21 @@ pub fn advance<'a>(
     let asking = sets::intersection(v.members, v.asking);
     let requests = sets::difference(asking, m.heartbeat_lost);
     let voting = voting_of(config, sets, &views, v, requests, unheard);
-    let mut same = [0u64; 64];
-    let lead = cluster_tallies::groups_of(n, numbers, sets, bases, &views, voting, &mut same);
-    let mut new_numbers = [0u32; 64];
-    let mut new_sets = [0u64; 64];
-    let mut new_bases = [0u64; 64];
-    let after = decisions(
+    if voting == 0 {
+        *bases = *sets;
+        return resting(v);
+    }
+    decide_all(
         config,
         numbers,
         sets,
         bases,
         &views,
-        lead,
-        &same,
         v,
         voting,
         sets::difference(voting, m.vote_lost),
         missed,
-        &mut new_numbers,
-        &mut new_sets,
-        &mut new_bases,
-    );
-    *numbers = new_numbers;
-    *sets = new_sets;
-    *bases = new_bases;
-    after
+    )
 }
 
 // The same of states and faults by value, with as much left free.

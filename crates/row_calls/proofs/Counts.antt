@@ -1,4 +1,4 @@
--- A call that is not refused has a row of 2 to 64 entries. Assumes nothing.
+-- A wrong mode is refused in its place, and a call that is not refused has a row of 2 to 64 entries. Assumes nothing.
 use mathlib.Core.Path.{_≡_, refl, sym, subst}
 use mathlib.Core.Bool.{Bool, true, false, not, _||_, cond}
 use mathlib.Core.List.{List, [], _∷_}
@@ -7,7 +7,7 @@ use native.Mathlib.Omega.{arith}
 use lib.Dec.{eqb, ltb}
 use lib.ListN.{length, drop}
 use borrow.Author.Tests.{eqb-true, ltb-false}
-use Rattle.refusal.specs.Refusal.{when}
+use Rattle.refusal.specs.Refusal.{when, first}
 use Rattle.refusal.proofs.Laws.{none}
 use Rattle.sets.proofs.Booleans.{or-f-l, or-f-r, not-f}
 use Rattle.state.specs.declared.Node.{Node}
@@ -20,6 +20,16 @@ use Rattle.row.specs.Row.{inOrder}
 use Rattle.row_calls.specs.declared.Task.{Task}
 use Rattle.row_calls.specs.declared.Task.the-variants.{Cycle, Run, FramedRun}
 use Rattle.row_calls.specs.Calls.{rowStatus, cycleStatus, runStatus, framedStatus, callStatus}
+
+-- "any other number is refused with 2": of a run before a byte of its table is looked at
+pub run-mode-refused : (mode : ℕ) (nodes : List Node) (room : ℕ) (s : List ℕ) → wrongMode mode ≡ true → (runStatus mode nodes s ≡ 2) × (framedStatus mode (length nodes) room s ≡ 2)
+unfolding runStatus framedStatus
+run-mode-refused mode nodes room s e = (rw e, rw e)
+
+-- of a single cycle after 1, and before 3, 4 and the record
+pub cycle-mode-refused : (n mode : ℕ) (nodes : List Node) (s : List ℕ) → (ltb n 2 || ltb 64 n) ≡ false → wrongMode mode ≡ true → cycleStatus n mode nodes s ≡ 2
+unfolding cycleStatus rowStatus first
+cycle-mode-refused n mode nodes s c e = rw (c, e)
 
 abbrev pub Counted : ℕ → Type 0
 Counted k = (2 ≤ k) × (k ≤ 64)

@@ -68,3 +68,8 @@ module _ (C : Config) (q : ℕ) (b : Ballots) where
           let up : lowest (C .nodes) (fitsAt (C .nodes) q b) < first → ⊥ = λ h. false≢true (sym (f (lowest (C .nodes) (fitsAt (C .nodes) q b)) h) ∙ w .1) in
           let down : first < lowest (C .nodes) (fitsAt (C .nodes) q b) → ⊥ = λ h. false≢true (sym (lowest-least (C .nodes) first (fitsAt (C .nodes) q b) h) ∙ t) in
           omega arith
+
+-- a joining node that no vote reached stays joining
+pub waits-alone : (C : Config) (q : ℕ) (b : Ballots) → ((p : ℕ) → b p ≡ none) → joinerDecides C q b ≡ Joining
+unfolding joinerDecides
+waits-alone C q b e = ap (enterOn C q b) (e _)

@@ -15,14 +15,14 @@ use Rattle.state.specs.declared.State.the-variants.{Out, Joining, Member}
 use Rattle.rules.specs.declared.Vote.{Vote}
 use Rattle.rules.specs.declared.Faults.{Faults}
 use Rattle.rules.specs.declared.Config.{Config}
-use Rattle.rules.specs.OneCycle.{Ballots, ofNodes, viewOf, called, willVote, newSet, newGroup, requestWith, requestAfter, memberOn, withOwn, memberDecides, silentDecides, entersWith}
+use Rattle.rules.specs.OneCycle.{Ballots, ofNodes, viewOf, called, willVote, newSet, withOwn, memberDecides, silentDecides}
 use Rattle.rules.specs.Faults.{Row, at, tabulate, ruleOne, voteReaches, ownVote, votesNow, voteOf, votes, arriveIf, arrivedAt, decides, decisions, cycle}
 use Rattle.rules.specs.Always.{alwaysVote, alwaysDecides, alwaysCycle}
 use Rattle.rules.proofs.Rows.{get-tabulate, tabulate-ext}
 use Rattle.rules.proofs.Votes.{has-view, view-own, voters-is, view-changes-set}
 use Rattle.rules.proofs.States.{none-some, some-inj, always-votes, own-group}
 
--- ---- a press that votes in every cycle: its cycles are those of paper 01, and nobody ever requests
+-- ---- a press that votes in every cycle: its cycles are those of paper 01
 
 sends-always : (N : ℕ) (c : Faults) (r : Row) (q : ℕ) (s : State) → voteOf (ofNodes N) c r q s ≡ alwaysVote N c r q s
 sends-always N c r q (Out k) = refl
@@ -48,14 +48,6 @@ always-cycle N c row =
 
     same : sent ≡ tabulate N (λ q. alwaysVote N c r q (at r q))
     same = tabulate-ext N (λ q. voteOf (ofNodes N) c r q (at r q)) (λ q. alwaysVote N c r q (at r q)) (λ q l. sends-always N c r q (at r q))
-
-module _ (C : Config) (loud : C .quiet ≡ false) where
-  pub stays-silent-on : (b : Ballots) (v : Vote) → memberOn C b v ≡ Member (newGroup (C .nodes) b v) false
-  unfolding requestAfter requestWith
-  stays-silent-on b v = rw loud
-
-  pub enters-silent : (b : Ballots) (v : Vote) → entersWith C b v ≡ Member (newGroup (C .nodes) b v) false
-  enters-silent b v = rw loud
 
 -- ---- "since whoever is not in a V cannot vote for it": every vote that is sent holds its sender
 

@@ -166,3 +166,22 @@ pub silent-out : (C : Config) (q : ℕ) (g : Group) (b : Ballots) (r : Bool) →
     → silentDecides C q g b ≡ cond r (Out Outvoted) (Member (rests g) false)
 unfolding silentDecides
 silent-out C q g b r e = ap (λ (x : Bool). cond x (Out Outvoted) (Member (rests g) false)) (sym e)
+
+-- a member that did not vote, and that no vote reached, goes on with its set as base
+pub rests-alone : (C : Config) (q : ℕ) (g : Group) (b : Ballots) → ((p : ℕ) → b p ≡ none) → silentDecides C q g b ≡ Member (rests g) false
+unfolding silentDecides
+rests-alone C q g b e = go (any (C .nodes) rivals) refl
+  where
+    rivals : ℕ → Bool
+    rivals p = rival (C .nodes) (without q b) g (without q b p)
+
+    empty : (p : ℕ) → without q b p ≡ none
+    empty p = pick (eqb p q)
+      where
+        pick : (own : Bool) → cond own none (b p) ≡ none
+        pick true = refl
+        pick false = e p
+
+    go : (beaten : Bool) → any (C .nodes) rivals ≡ beaten → cond beaten (Out Outvoted) (Member (rests g) false) ≡ Member (rests g) false
+    go true k = let w = any-e (C .nodes) rivals k in absurd (false≢true (sym (ap (rival (C .nodes) (without q b) g) (empty (w .0))) ∙ w .2))
+    go false k = refl

@@ -28,7 +28,8 @@ use Rattle.entry_slots.specs.Slots.{slotVote, arrivedIn, bufferBallots}
 use Rattle.entry_send_vote.specs.Voting.{ownView, pressOf, requestsHeard, votesOn, sendVoteStatus, votesByte, votedOf, voteIn, voteFrom, sendVoteSent, sendVoteLeft}
 use Rattle.entry_decide.specs.Decide.{decideStatus, decision, decidedFrom, decideLeft}
 use Rattle.theorem_silence.specs.Founder.{founder, begun, hearsFounders, FounderRests, FoundersRest}
-use Rattle.theorem_silence.proofs.Silence.{sees-set, rests-alone}
+use Rattle.theorem_silence.proofs.Silence.{sees-set}
+use Rattle.rules.proofs.Own.{rests-alone}
 
 none-arrived : (n q : ℕ) (votes : List ℕ) (p : ℕ) → bufferBallots n q votes 0 p ≡ none
 unfolding bufferBallots arrivedIn

@@ -24,6 +24,7 @@ use Rattle.rules.proofs.Rows.{get-tabulate, tabulate-ext}
 use Rattle.rules.proofs.Votes.{has-view}
 use Rattle.rules.proofs.Undisturbed.{Undisturbed, undisturbed, reach-heartbeat}
 use Rattle.rules.proofs.States.{rule1-member}
+use Rattle.rules.proofs.Own.{rests-alone}
 use Rattle.theorem_silence.specs.Silence.{leftAlone, allLeft, quietRow, sentIn, noVotes, Silence}
 
 -- ---- who hears all members with join 0, and nobody outside with join 1, has the set as its view
@@ -51,24 +52,6 @@ unfolding tabulate
 same-there zero p d = refl
 same-there (suc n) zero d = refl
 same-there (suc n) (suc p) d = same-there n p d
-
-pub rests-alone : (C : Config) (q : ℕ) (g : Group) (b : Ballots) → ((p : ℕ) → b p ≡ none) → silentDecides C q g b ≡ Member (rests g) false
-unfolding silentDecides
-rests-alone C q g b e = go (any (C .nodes) rivals) refl
-  where
-    rivals : ℕ → Bool
-    rivals p = rival (C .nodes) (without q b) g (without q b p)
-
-    empty : (p : ℕ) → without q b p ≡ none
-    empty p = pick (eqb p q)
-      where
-        pick : (own : Bool) → cond own none (b p) ≡ none
-        pick true = refl
-        pick false = e p
-
-    go : (beaten : Bool) → any (C .nodes) rivals ≡ beaten → cond beaten (Out Outvoted) (Member (rests g) false) ≡ Member (rests g) false
-    go true k = let w = any-e (C .nodes) rivals k in absurd (false≢true (sym (ap (rival (C .nodes) (without q b) g) (empty (w .0))) ∙ w .2))
-    go false k = refl
 
 -- ---- one cycle
 

@@ -1,9 +1,14 @@
+use mathlib.Core.Path.{refl, ap, _∙_}
+use lib.ListN.{getD}
 use borrow.Author.Needs.{needs}
+use Rattle.sets.specs.Sets.{_∖_}
 use Rattle.rules.specs.declared.Faults.{Faults}
+use Rattle.cluster_states.specs.declared.Roles.{Roles}
 use Rattle.cluster_states.specs.declared.States.{States}
-use Rattle.cluster_states.specs.States.{statesOf, faultsOf}
+use Rattle.cluster_states.specs.States.{statesOf, faultsOf, stateAt}
 use Rattle.cluster_tallies.proofs.Tallies.{inside-less}
 use Rattle.cluster_states.proofs.Whole.{members-below, voting-below, run-cycle}
+use Rattle.cluster_cycle.proofs.Silent.{rest-decided}
 use Rattle.cluster_cycle.proofs.advance.Statement.{statement}
 use Rattle.cluster_cycle.proofs.advance.Tie as tie
 
@@ -14,18 +19,12 @@ states s = statesOf (s .args .w) (s .args .numbers .now) (s .args .sets .now) (s
 abbrev faults : tie.Start → Faults
 faults s = faultsOf (s .args .m) (s .args .unheard .now) (s .args .missed .now)
 
--- the masks after rule 1, the views, those that vote, and their votes in groups
+-- the masks after rule 1, and the views
 abbrev ruled : tie.After-views-of → tie.After-rule-one
 ruled c = c .before .before .before .before .before
 
 abbrev seen : tie.After-voting-of → tie.After-views-of
 seen c = c .before .before .before .before .before
-
-abbrev voted : tie.After-groups-of → tie.After-voting-of
-voted c = c .before .before .before .before .before .before
-
-abbrev grouped : tie.After-new-bases → tie.After-groups-of
-grouped c = c .before .before .before .before .before .before .before .before .before
 
 rule-one-requires : tie.Need-rule-one-requires
 rule-one-requires c κs = search needs
@@ -50,30 +49,41 @@ voting-of-requires c κs =
     let r = ruled (c .before .before .before .before) in
     (search needs, members-below (r .before .args .config) (states (r .before)) (faults (r .before)) (r .rule-one .result) (r .rule-one .ensures))
 
-groups-of-requires : tie.Need-groups-of-requires
-groups-of-requires c κs =
-    let v = c .before .before .before .before .before in
-    let r = ruled (seen v) in
-    let a = r .before .args in
-    (search needs, voting-below (a .config) (a .sets .now) _ (r .rule-one .result) _ (a .unheard .now) (v .voting-of .result) (v .voting-of .ensures))
+resting-requires : tie.Need-resting-requires
+resting-requires c κs = search needs
 
 difference-requires-4 : tie.Need-difference-requires-4
 difference-requires-4 c κs = search needs
 
-decisions-requires : tie.Need-decisions-requires
-decisions-requires c κs =
-    let g = grouped c in
-    let v = voted g in
+decide-all-requires : tie.Need-decide-all-requires
+decide-all-requires c κs =
+    let v = c .before .before .before .before .before .before in
+    let r = ruled (seen v) in
+    let a = r .before .args in
     let d = v .voting-of .result in
-    ((ruled (seen v) .before .pre, search needs, search needs, search needs), (g .groups-of .ensures, inside-less d _ _ d (λ p h. h) (c .before .before .before .difference4 .ensures)))
+    (r .before .pre, (voting-below (a .config) (a .sets .now) _ (r .rule-one .result) _ (a .unheard .now) d (v .voting-of .ensures), inside-less d _ _ d (λ p h. h) (c .difference4 .ensures)))
 
+-- nobody votes
 returns : tie.Need-returns
 returns c =
-    let v = voted (grouped (c .before)) in
+    let t = c .before .before in
+    let v = t .before in
+    let w = seen v in
+    let r = ruled w in
+    let a = r .before .args in
+    let d = v .voting-of .result in
+    run-cycle (a .config) (states (r .before)) (faults (r .before)) (r .rule-one .result) _ _ _ _ d (d ∖ a .m .«vote_lost») _ (statesOf (c .resting .result) (a .numbers .now) (a .sets .now) (a .sets .now)) (r .rule-one .ensures) (w .before .before .before .difference .ensures) (w .before .before .difference2 .ensures)
+    (v .before .before .before .before .intersection .ensures) (v .before .before .before .difference3 .ensures) (v .voting-of .ensures) refl (w .views-of .ensures)
+    (λ q l. ap (λ (x : Roles). stateAt (statesOf x (a .numbers .now) (a .sets .now) (a .sets .now)) q) (c .resting .ensures)
+    ∙ rest-decided (a .numbers .now) (a .sets .now) (a .bases .now) _ (a .config) (r .rule-one .result) d (a .m .«vote_lost») (getD (a .missed .now) q 0) q (t .if1 .taken))
+
+returns-2 : tie.Need-returns-2
+returns-2 c =
+    let v = c .before .before .before .before .before .before .before in
     let w = seen v in
     let r = ruled w in
     run-cycle (r .before .args .config) (states (r .before)) (faults (r .before)) (r .rule-one .result) _ _ _ _ _ _ _ _ (r .rule-one .ensures) (w .before .before .before .difference .ensures) (w .before .before .difference2 .ensures)
-    (v .before .before .before .before .intersection .ensures) (v .before .before .before .difference3 .ensures) (v .voting-of .ensures) (c .before .before .before .before .difference4 .ensures) (w .views-of .ensures) (c .decisions .ensures)
+    (v .before .before .before .before .intersection .ensures) (v .before .before .before .difference3 .ensures) (v .voting-of .ensures) (c .before .difference4 .ensures) (w .views-of .ensures) (c .decide-all .ensures)
 
 pub advance-spec : {M : Type 1} → statement M
 advance-spec =
@@ -86,7 +96,8 @@ advance-spec =
     intersection-requires
     difference-requires-3
     voting-of-requires
-    groups-of-requires
+    resting-requires
+    returns
     difference-requires-4
-    decisions-requires
-    returns)
+    decide-all-requires
+    returns-2)
