@@ -400,7 +400,8 @@ pub fn advance<'a>(
     let requests = sets::difference(asking, m.heartbeat_lost);
     let voting = voting_of(config, sets, &views, v, requests, unheard);
     if voting == 0 {
-        *bases = *sets;
+        // whoever is silent sees its set
+        *bases = views;
         return resting(v);
     }
     decide_all(

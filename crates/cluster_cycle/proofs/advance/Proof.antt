@@ -1,11 +1,10 @@
-use mathlib.Core.Path.{refl, ap, _∙_}
+use mathlib.Core.Path.{refl}
 use lib.ListN.{getD}
 use borrow.Author.Needs.{needs}
 use Rattle.sets.specs.Sets.{_∖_}
 use Rattle.rules.specs.declared.Faults.{Faults}
-use Rattle.cluster_states.specs.declared.Roles.{Roles}
 use Rattle.cluster_states.specs.declared.States.{States}
-use Rattle.cluster_states.specs.States.{statesOf, faultsOf, stateAt}
+use Rattle.cluster_states.specs.States.{statesOf, faultsOf}
 use Rattle.cluster_tallies.proofs.Tallies.{inside-less}
 use Rattle.cluster_states.proofs.Whole.{members-below, voting-below, run-cycle}
 use Rattle.cluster_cycle.proofs.Silent.{rest-decided}
@@ -66,16 +65,15 @@ decide-all-requires c κs =
 -- nobody votes
 returns : tie.Need-returns
 returns c =
-    let t = c .before .before in
+    let t = c .before in
     let v = t .before in
     let w = seen v in
     let r = ruled w in
     let a = r .before .args in
     let d = v .voting-of .result in
-    run-cycle (a .config) (states (r .before)) (faults (r .before)) (r .rule-one .result) _ _ _ _ d (d ∖ a .m .«vote_lost») _ (statesOf (c .resting .result) (a .numbers .now) (a .sets .now) (a .sets .now)) (r .rule-one .ensures) (w .before .before .before .difference .ensures) (w .before .before .difference2 .ensures)
+    run-cycle (a .config) (states (r .before)) (faults (r .before)) (r .rule-one .result) _ _ _ _ d (d ∖ a .m .«vote_lost») _ (statesOf (c .resting .result) (a .numbers .now) (a .sets .now) _) (r .rule-one .ensures) (w .before .before .before .difference .ensures) (w .before .before .difference2 .ensures)
     (v .before .before .before .before .intersection .ensures) (v .before .before .before .difference3 .ensures) (v .voting-of .ensures) refl (w .views-of .ensures)
-    (λ q l. ap (λ (x : Roles). stateAt (statesOf x (a .numbers .now) (a .sets .now) (a .sets .now)) q) (c .resting .ensures)
-    ∙ rest-decided (a .numbers .now) (a .sets .now) (a .bases .now) _ (a .config) (r .rule-one .result) d (a .m .«vote_lost») (getD (a .missed .now) q 0) q (t .if1 .taken))
+    (λ q l. rest-decided (a .numbers .now) (a .sets .now) (a .bases .now) _ (a .config) (r .rule-one .result) _ (a .unheard .now) d (v .voting-of .ensures) (t .if1 .taken) (a .m .«vote_lost») (getD (a .missed .now) q 0) q l (c .resting .result) (c .resting .ensures))
 
 returns-2 : tie.Need-returns-2
 returns-2 c =
