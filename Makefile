@@ -76,10 +76,10 @@ option = $(findstring $1,$(filter-out -%,$(firstword $(MAKEFLAGS))))
 # the gate: everything proved from nothing, every wrong edit tried, and all tests beside that; the last line is 'N passed, 0 failed'
 test:
 	@$(if $(call option,i),$(error make test ends with the first test that fails: run it without -i))\
-	    $(call needs,rt cargo gcc g++ git script)echo "make test: 17 to 29 minutes on two idle cores" >&2
+	    $(call needs,rt cargo gcc g++ git script)echo "make test: 20 to 35 minutes on two idle cores" >&2
 	@tools/evidence.sh begin
 	@$(MAKE) --no-print-directory --silent -j2 --output-sync $(FIRST_TESTS)
-	@tools/gate.sh "20 to 30 minutes on two idle cores" make --no-print-directory tests
+	@tools/gate.sh "20 to 35 minutes on two idle cores" make --no-print-directory tests
 
 # those tests of `test` that need the archive and the programs, built first where they are not there
 tests:
