@@ -1,6 +1,7 @@
 -- What the entry decide answers and leaves: rules 3 to 6 of one node, from what it heard and the votes that arrived.
 -- Assumes nothing.
-use mathlib.Core.Bool.{Bool, cond}
+use mathlib.Core.Path.{_≡_}
+use mathlib.Core.Bool.{Bool, true, cond}
 use mathlib.Core.List.{List, _∷_}
 use Prim.Native.Nat.{ℕ}
 use Rattle.state.specs.declared.Group.{Group}
@@ -15,6 +16,7 @@ use Rattle.refusal.specs.Refusal.{when, first, unless}
 use Rattle.entry_lent.specs.Refusals.{lentConditions}
 use Rattle.entry_send_vote.specs.Voting.{ownView, pressOf, votesOn}
 use Rattle.entry_slots.specs.Slots.{bufferBallots}
+use Rattle.entry_decide.specs.declared.Going.{Going}
 
 unfoldable pub decideStatus : ℕ → List ℕ → List ℕ → ℕ
 decideStatus mode s votes = first (when (wrongMode mode) 2 ∷ lentConditions (quietIn mode) s 1792 votes)
@@ -31,6 +33,10 @@ decision quiet n Joining heard0 heard1 requests votes arrived =
     joinerDecides (pressOf quiet n) (n .id) (bufferBallots (n .nodes) (n .id) votes arrived)
 decision quiet n (Member g a) heard0 heard1 requests votes arrived =
     memberDecision quiet n g a heard0 heard1 requests (bufferBallots (n .nodes) (n .id) votes arrived)
+
+-- what the buffer tells of a member's next state, if it tells anything
+abbrev pub Tells : Going → State → Type 0
+Tells r s = r .told ≡ true → s ≡ Member (r .group) (r .request)
 
 abbrev pub decidedFrom : Bool → Decoded → ℕ → ℕ → ℕ → List ℕ → ℕ → List ℕ → List ℕ
 decidedFrom quiet (Good n) heard0 heard1 requests votes arrived s =

@@ -1,12 +1,17 @@
 // The decision of one node.
 ghost use mathlib.Core.Path.{_≡_};
+ghost use mathlib.Core.Bool.{false};
 ghost use Prim.Native.Nat.{_≤_, _<_};
-ghost use lib.ListN.{length};
+ghost use lib.ListN.{length, getD};
+ghost use Rattle.state.specs.Image.{imageOf, nodeAt};
+ghost use Rattle.rules.specs.OneCycle.{memberDecides};
 ghost use Rattle.rules.specs.Ballots.{ballotsOf};
-ghost use Rattle.entry_decide.specs.Decide.{memberDecision, decision, decideStatus, decideLeft};
+ghost use Rattle.entry_slots.specs.Slots.{bufferBallots};
+ghost use Rattle.entry_decide.specs.Decide.{memberDecision, decision, Tells, decideStatus, decideLeft};
 use entry_lent::Lent;
 use entry_send_vote::own_vote;
 use rules::Config;
+use rules::Vote;
 use state::Group;
 use state::Node;
 use state::State;
@@ -93,6 +98,121 @@ pub fn next_state(
     }
 }
 
+// What a member goes on with, where the buffer tells it without arrays, as in most cycles: its own vote has a quorum, or it did not vote and too few votes
+// came for one. Where nothing is told all votes have to be looked at.
+pub struct Going {
+    pub told: bool,
+    pub group: Group,
+    pub request: bool,
+}
+
+fn not_told() -> Going
+    ensures { λ r. ⌜ r .told ≡ false ⌝ }
+{
+    Going {
+        told: false,
+        group: state_encoding::no_group(),
+        request: false,
+    }
+}
+
+fn told_of(s: State) -> Going
+    ensures { λ r. ⌜ Tells r s ⌝ }
+{
+    match s {
+        State::Out(_) => not_told(),
+        State::Joining => not_told(),
+        State::Member(group, request) => Going {
+            told: true,
+            group,
+            request,
+        },
+    }
+}
+
+// A member that voted, by the votes that are its own.
+fn going_on_vote(config: Config, q: usize, own: Vote, votes: &[u8], arrived: u64) -> Going
+    requires { ⌜ (config .nodes ≤ 64) × (q < config .nodes) × (length (now votes) ≡ 1792) ⌝ }
+    ensures { λ r. ⌜ Tells r (memberDecides config q own (bufferBallots (config .nodes) q (now (votes .entry)) arrived)) ⌝ }
+{
+    let g = own.group;
+    let alike = entry_slots::equal_votes(config.nodes, q, votes, arrived, own);
+    let mine = sets::include(
+        sets::intersection(alike, g.set),
+        q,
+        sets::contains(g.set, q),
+    );
+    if sets::is_quorum(mine, g.base) {
+        told_of(rule_steps::member_on(config, own, mine))
+    } else {
+        not_told()
+    }
+}
+
+fn going_member(
+    quiet: bool,
+    n: Node,
+    g: Group,
+    asks: bool,
+    heard0: u64,
+    heard1: u64,
+    requests: u64,
+    votes: &[u8],
+    arrived: u64,
+) -> Going
+    requires { ⌜ (n .nodes ≤ 64) × (n .id < n .nodes) × (length (now votes) ≡ 1792) ⌝ }
+    ensures { λ r. ⌜ Tells r (memberDecision quiet n g asks heard0 heard1 requests (bufferBallots (n .nodes) (n .id) (now (votes .entry)) arrived)) ⌝ }
+{
+    let nodes = n.nodes as usize;
+    let q = n.id as usize;
+    let own = own_vote(n, g, heard0, heard1);
+    if entry_send_vote::votes_with(quiet, n, g, asks, own.view, heard0, requests) {
+        going_on_vote(Config { nodes, quiet }, q, own, votes, arrived)
+    } else if sets::is_quorum(sets::intersection(arrived, g.set), g.base) {
+        not_told()
+    } else {
+        told_of(State::Member(rule_member::resting(g), false))
+    }
+}
+
+// The same of the node whose image is s.
+pub fn goes_on(
+    quiet: bool,
+    s: &[u8],
+    heard0: u64,
+    heard1: u64,
+    requests: u64,
+    votes: &[u8],
+    arrived: u64,
+) -> Going
+    requires { ⌜ (length (now s) ≡ 24) × (length (now votes) ≡ 1792) ⌝ }
+    requires { ⌜ (nodeAt (now s) .nodes ≤ 64) × (nodeAt (now s) .id < nodeAt (now s) .nodes) ⌝ }
+    ensures { λ r. ⌜ Tells r (decision quiet (nodeAt (now (s .entry))) (nodeAt (now (s .entry)) .state) heard0 heard1 requests (now (votes .entry)) arrived) ⌝ }
+{
+    let n = state_decoding::node_at(s);
+    let before = n.state;
+    match before {
+        State::Out(_) => not_told(),
+        State::Joining => not_told(),
+        State::Member(g, asks) => {
+            going_member(quiet, n, g, asks, heard0, heard1, requests, votes, arrived)
+        }
+    }
+}
+
+// Another state of the node whose image is lent.
+fn put_state(s: State, state: &mut [u8])
+    requires { ⌜ length (now state) ≡ 24 ⌝ }
+    ensures { λ _. ⌜ now (state .exit) ≡ imageOf (record { state = s; id = getD (now (state .entry)) 2 0; nodes = getD (now (state .entry)) 3 0 }) ⌝ }
+{
+    let next = Node {
+        state: s,
+        id: state[2],
+        nodes: state[3],
+    };
+    bytes::copy(&state_encoding::encode(next), state);
+}
+
 // Rules 3 to 6: the next state, from what the node heard and the votes that arrived.
 pub fn decide(
     mode: u32,
@@ -115,12 +235,16 @@ pub fn decide(
         1792,
     ) {
         Lent::Holds(n) => {
-            let next = Node {
-                state: next_state(quiet, n, heard0, heard1, requests, votes, arrived),
-                id: n.id,
-                nodes: n.nodes,
-            };
-            bytes::copy(&state_encoding::encode(next), state);
+            let on = goes_on(quiet, state, heard0, heard1, requests, votes, arrived);
+            if on.told {
+                let g = on.group;
+                put_state(State::Member(g, on.request), state);
+            } else {
+                put_state(
+                    next_state(quiet, n, heard0, heard1, requests, votes, arrived),
+                    state,
+                );
+            }
             0
         }
         Lent::Refused(k) => k,

@@ -42,6 +42,16 @@ length-read quiet s = go (eqb (length s) 24) (wellFormed quiet s)
 pub good-length : (quiet : Bool) (s : List ℕ) (n : Node) → decoded quiet s ≡ Good n → length s ≡ 24
 good-length quiet s n e = length-is 24 s (length-read quiet s ∙ ap isWrong e)
 
+-- the node that is found is the one of its bytes
+pub good-node : (quiet : Bool) (s : List ℕ) (n : Node) → decoded quiet s ≡ Good n → nodeAt s ≡ n
+unfolding decoded
+good-node quiet s n = go (eqb (length s) 24) (wellFormed quiet s)
+  where
+    go : (b c : Bool) → cond b (cond c (Good (nodeAt s)) Malformed) WrongLength ≡ Good n → nodeAt s ≡ n
+    go true true e = cc
+    go true false e = absurd (let z : _≡_ {A = ℕ} 0 1 = cc in omega arith)
+    go false c e = absurd (let z : _≡_ {A = ℕ} 0 1 = cc in omega arith)
+
 pub good-place : (quiet : Bool) (s : List ℕ) (n : Node) → Bytes s → decoded quiet s ≡ Good n → (n .nodes ≤ 64) × (n .id < n .nodes)
 unfolding formed
 good-place quiet s n b e =

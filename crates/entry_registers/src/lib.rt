@@ -9,6 +9,7 @@ ghost use Rattle.registers.specs.Steps.{Read, Write, Cycle, WriteCycle, stepSta
 ghost use Rattle.entry_registers.specs.InPlace.{refusalOf, commandLeft, writeLeft, cycleLeft};
 use state::Decoded;
 use state::Node;
+use state::State;
 
 // Refusals 2, 3 and 4 of a mode and a block.
 fn refusal(mode: u32, block: &[u8]) -> u32
@@ -57,6 +58,25 @@ fn put_value(mode: u32, address: u32, value: u8, block: &mut [u8])
     }
 }
 
+// The state after a cycle of node n, and what the cycle raises, into its block that has these flags and enables.
+fn put_cycled(n: Node, after: State, flags: u8, enables: u8, block: &mut [u8])
+    requires { ⌜ length (now block) ≡ 64 ⌝ }
+    ensures { λ _. ⌜ now (block .exit) ≡ cycledLeft n after flags enables (now (block .entry)) ⌝ }
+{
+    let before = n.state;
+    let image = state_encoding::encode(Node {
+        state: after,
+        id: n.id,
+        nodes: n.nodes,
+    });
+    parts::put(block, 0, &image);
+    register_block::put_flags(
+        flags | register_block::raised_by(before, after),
+        enables,
+        block,
+    );
+}
+
 // The rest of a cycle of node n, whose block has these flags and enables.
 fn decide(
     quiet: bool,
@@ -73,19 +93,32 @@ fn decide(
     requires { ⌜ (n .nodes ≤ 64) × (n .id < n .nodes) × (length (now votes) ≡ 1792) × (length (now block) ≡ 64) ⌝ }
     ensures { λ _. ⌜ now (block .exit) ≡ cycleLeft quiet n flags enables heard0 heard1 requests (now (votes .entry)) arrived (now (block .entry)) ⌝ }
 {
-    let before = n.state;
-    let after = entry_decide::next_state(quiet, n, heard0, heard1, requests, votes, arrived);
-    let image = state_encoding::encode(Node {
-        state: after,
-        id: n.id,
-        nodes: n.nodes,
-    });
-    parts::put(block, 0, &image);
-    register_block::put_flags(
-        flags | register_block::raised_by(before, after),
-        enables,
-        block,
+    let on = entry_decide::going(
+        quiet,
+        &block[0..24],
+        heard0,
+        heard1,
+        requests,
+        votes,
+        arrived,
     );
+    if on.goes {
+        put_cycled(
+            n,
+            State::Member(on.group, on.request),
+            flags,
+            enables,
+            block,
+        );
+    } else {
+        put_cycled(
+            n,
+            entry_decide::next_state(quiet, n, heard0, heard1, requests, votes, arrived),
+            flags,
+            enables,
+            block,
+        );
+    }
 }
 
 // The byte at an address.

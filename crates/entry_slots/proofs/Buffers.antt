@@ -1,20 +1,22 @@
 -- The votes of the buffer, and the arrays that they are read into. Assumes nothing.
 use mathlib.Core.Path.{_≡_, refl, sym, ap, _∙_}
 use mathlib.Core.Logic.{_⊎_, inl, inr}
-use mathlib.Core.Bool.{Bool, true, false, not, _&&_, cond}
+use mathlib.Core.Bool.{Bool, true, false, not, _&&_, cond, and-true, and-false}
 use mathlib.Core.List.{List}
 use mathlib.Core.Option.{Option, none, some}
 use Prim.Native.Nat.{ℕ, _+_, _<_}
 use native.Mathlib.Omega.{arith}
-use lib.Dec.{eqb}
+use lib.Dec.{eqb, ltb}
 use lib.ListN.{length, set}
 use lib.Seq.{getD-set-same, getD-set-other}
 use borrow.Author.Tests.{eqb-true, eqb-false}
 use Rattle.sets.specs.Sets.{has}
-use Rattle.sets.proofs.Booleans.{bool}
-use Rattle.sets.proofs.Nodes.{of-those}
+use Rattle.sets.proofs.Booleans.{bool, and-l, and-r}
+use Rattle.sets.proofs.Nodes.{has-those, those-in, of-those}
 use Rattle.rules.specs.declared.Vote.{Vote}
+use Rattle.rules.specs.OneCycle.{sameVote, is, without}
 use Rattle.rules.specs.Ballots.{voteAt, ballotsOf}
+use Rattle.rules.proofs.States.{none-some}
 use Rattle.frames.specs.Written.{formedVote}
 use Rattle.entry_slots.specs.Slots.{slotVote, arrivedIn, bufferBallots}
 
@@ -80,3 +82,35 @@ module _ (n q : ℕ) (votes : List ℕ) (arrived : ℕ) where
           → _≡_ {A = Option Vote} (cond (has p present) (some (voteAt numbers sets bases views p)) none)
           (cond (has p (arrivedIn n q votes arrived)) (some (slotVote votes p)) none)
       each p = ap (λ (m : ℕ). cond (has p m) (some (voteAt numbers sets bases views p)) none) e ∙ go p (has p (arrivedIn n q votes arrived)) refl
+
+  -- whether the vote w of slot p is v, and counts
+  pub slot-is : (p : ℕ) (v w : Vote) (same there : Bool) → p < n → w ≡ slotVote votes p → same ≡ sameVote v w → there ≡ counts n q arrived p w
+      → is v (bufferBallots n q votes arrived p) ≡ (same && there)
+  unfolding bufferBallots arrivedIn
+  slot-is p v w same there l ew es et =
+      ap (λ (x : Bool). is v (cond x (some (slotVote votes p)) none)) (those-in p n (λ x. counts n q arrived x (slotVote votes x)) l ∙ ap (counts n q arrived p) (sym ew) ∙ sym et) ∙ go there
+    where
+      go : (b : Bool) → is v (cond b (some (slotVote votes p)) none) ≡ (same && b)
+      go true = ap (sameVote v) (sym ew) ∙ sym es ∙ sym (and-true same)
+      go false = sym (and-false same)
+
+  -- a vote that counts came with its bit, and the own slot holds none
+  pub slot-came : (p : ℕ) (v : Vote) → bufferBallots n q votes arrived p ≡ some v → has p arrived ≡ true
+  unfolding bufferBallots arrivedIn
+  slot-came p v = go (has p (arrivedIn n q votes arrived)) refl
+    where
+      go : (b : Bool) → has p (arrivedIn n q votes arrived) ≡ b → _≡_ {A = Option Vote} (cond b (some (slotVote votes p)) none) (some v) → has p arrived ≡ true
+      go true h e =
+          let w = of-those p n (λ x. counts n q arrived x (slotVote votes x)) h .1 in
+          and-r (not (eqb p q)) (has p arrived) (and-l (not (eqb p q) && has p arrived) (formedVote n p (slotVote votes p)) w)
+      go false h e = absurd (none-some e)
+
+  pub own-empty : without q (bufferBallots n q votes arrived) ≡ bufferBallots n q votes arrived
+  unfolding bufferBallots arrivedIn
+  own-empty = λ i p. each p (eqb p q) refl i
+    where
+      each : (p : ℕ) (e : Bool) → eqb p q ≡ e → cond e none (bufferBallots n q votes arrived p) ≡ bufferBallots n q votes arrived p
+      each p true e =
+          sym (ap (λ (x : Bool). cond x (some (slotVote votes p)) none)
+          (has-those p n (λ x. counts n q arrived x (slotVote votes x)) ∙ ap (λ (x : Bool). ltb p n && (not x && has p arrived && formedVote n p (slotVote votes p))) e ∙ and-false (ltb p n)))
+      each p false e = refl

@@ -4,10 +4,11 @@ ghost use mathlib.Core.Bool.{not, _&&_};
 ghost use Prim.Native.Nat.{ℕ, _≤_, _<_};
 ghost use lib.Dec.{eqb};
 ghost use lib.ListN.{length};
-ghost use Rattle.sets.specs.Sets.{has};
+ghost use Rattle.sets.specs.Sets.{has, those};
+ghost use Rattle.rules.specs.OneCycle.{is};
 ghost use Rattle.rules.specs.Ballots.{voteAt};
 ghost use Rattle.frames.specs.Written.{formedVote};
-ghost use Rattle.entry_slots.specs.Slots.{slotVote, arrivedIn};
+ghost use Rattle.entry_slots.specs.Slots.{slotVote, arrivedIn, bufferBallots};
 use rules::Vote;
 use state::Group;
 
@@ -68,6 +69,33 @@ pub fn read_votes(
         bases[p] = g.base;
         views[p] = v.view;
         m = sets::include(m, p, has_arrived(n, q, v, arrived, p));
+        p += 1;
+    }
+    m
+}
+
+// Whether the vote in slot p counts as arrived at node q, and is v.
+fn holds(n: usize, q: usize, votes: &[u8], arrived: u64, v: Vote, p: usize) -> bool
+    requires { ⌜ (n ≤ 64) × (p < n) × (length (now votes) ≡ 1792) ⌝ }
+    ensures { λ r. ⌜ r ≡ is v (bufferBallots n q (now (votes .entry)) arrived p) ⌝ }
+{
+    let w = slot_vote(votes, p);
+    if frame_reading::same_vote(v, w) {
+        has_arrived(n, q, w, arrived, p)
+    } else {
+        false
+    }
+}
+
+// The nodes whose vote counts and is v, straight from the buffer.
+pub fn equal_votes(n: usize, q: usize, votes: &[u8], arrived: u64, v: Vote) -> u64
+    requires { ⌜ (n ≤ 64) × (length (now votes) ≡ 1792) ⌝ }
+    ensures { λ r. ⌜ r ≡ those n (λ p. is v (bufferBallots n q (now (votes .entry)) arrived p)) ⌝ }
+{
+    let mut m: u64 = 0;
+    let mut p: usize = 0;
+    while p < n {
+        m = sets::include(m, p, holds(n, q, votes, arrived, v, p));
         p += 1;
     }
     m

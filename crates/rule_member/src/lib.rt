@@ -45,7 +45,7 @@ pub fn halts(
 }
 
 // The group of a member that did not vote.
-fn resting(g: Group) -> Group
+pub fn resting(g: Group) -> Group
     ensures { λ r. ⌜ r ≡ rests g ⌝ }
 {
     Group {

@@ -5,11 +5,12 @@ use mathlib.Core.List.{List}
 use mathlib.Core.Option.{Option, none, some}
 use Prim.Native.Nat.{ℕ, _<_}
 use lib.Dec.{eqb, ltb}
-use Rattle.sets.specs.Sets.{has, single, _∪_, _∩_, _∖_, any}
+use Rattle.sets.specs.Sets.{has, single, _∪_, _∩_, _∖_, those, any}
 use Rattle.sets.specs.Quorum.{quorum}
 use Rattle.sets.proofs.Booleans.{both, eqb-self, eqb-true, ltb-true, and-l, and-r, and-i}
-use Rattle.sets.proofs.Membership.{_⊆_, has-union, has-single, set-ext}
+use Rattle.sets.proofs.Membership.{_⊆_, has-none, has-union, has-inter, has-single, set-ext}
 use Rattle.sets.proofs.Nodes.{has-those, any-i, any-e}
+use Rattle.sets.proofs.Quorum.{quorum-mono}
 use Rattle.state.specs.declared.Reason.the-variants.{NoQuorum, Outvoted}
 use Rattle.state.specs.declared.Group.{Group}
 use Rattle.state.specs.declared.State.the-variants.{Out, Member}
@@ -17,9 +18,9 @@ use Rattle.rules.specs.declared.Vote.{Vote}
 use Rattle.rules.specs.declared.Config.{Config}
 use Rattle.rules.specs.OneCycle.{Ballots, sendsMember, sameGroup, is, voters, wins, newSet, groupWith, newGroup, requestWith, requestAfter, withOwn, without, rival, memberDecides, rests, silentDecides}
 use Rattle.rules.specs.Ballots.{ballotsOf, equalTo}
-use Rattle.rules.proofs.Votes.{vote-self, voters-is, voters-sub, in-voters}
+use Rattle.rules.proofs.Votes.{group-eq, vote-self, voters-is, voters-sub, in-voters}
 use Rattle.rules.proofs.States.{none-some, some-inj}
-use Rattle.rules.proofs.Counting.{wins-node, wins-mono}
+use Rattle.rules.proofs.Counting.{no, any-none, quorum-none, wins-node, wins-mono}
 use Rattle.rules.proofs.Slots.{slots-without, equal-voters}
 
 has-voters : (x N : ℕ) (b : Ballots) (v : Vote) → has x (voters N b v) ≡ (ltb x N && (has x (v .group .set) && is v (b x)))
@@ -68,6 +69,11 @@ module _ (N q : ℕ) (own : Vote) (b : Ballots) where
       go x true e s k = let z : x ≡ q = eqb-true e in rw z (here s k)
       go x false e true k = there x e ∙ sym (has-union x (single q) W ∙ ap (λ (y : Bool). y || has x W) (has-single x q ∙ e))
       go x false e false k = there x e
+
+  -- from e, those of the others that cast it
+  pub own-count : (e t m : ℕ) (r : Bool) → q < N → e ≡ those N (λ p. is own (without q b p)) → t ≡ e ∩ own .group .set → r ≡ has q (own .group .set) → m ≡ cond r (single q ∪ t) t
+      → m ≡ voters N (withOwn q own b) own
+  own-count e t m r l ee et er em = em ∙ ap₂ (λ (x : Bool) (y : ℕ). cond x (single q ∪ y) y) er (et ∙ equal-voters N e (without q b) own ee) ∙ sym (own-voters l)
 
   -- where the own vote has no quorum, the others alone say whether another vote has one
   own-rivals : wins N (withOwn q own b) own ≡ false
@@ -122,10 +128,7 @@ module _ (numbers sets bases views : List ℕ) (N present q : ℕ) (s d : ℕ) (
   -- e, those of them that cast the own vote
   pub own-tally : (own : Vote) (e t m : ℕ) (r : Bool) → q < N → e ≡ equalTo numbers sets bases views N d own → t ≡ e ∩ own .group .set → r ≡ has q (own .group .set) → m ≡ cond r (single q ∪ t) t
       → m ≡ voters N (withOwn q own (ballotsOf numbers sets bases views present)) own
-  own-tally own e t m r l ee et er em =
-      let theirs : t ≡ voters N (without q (ballotsOf numbers sets bases views present)) own =
-      et ∙ equal-voters N e (ballotsOf numbers sets bases views d) own ee ∙ ap (λ (b : Ballots). voters N b own) others in
-      em ∙ ap₂ (λ (x : Bool) (y : ℕ). cond x (single q ∪ y) y) er theirs ∙ sym (own-voters N q own (ballotsOf numbers sets bases views present) l)
+  own-tally own e t m r l ee et er em = own-count N q own (ballotsOf numbers sets bases views present) e t m r l (ee ∙ ap (λ (b : Ballots). those N (λ p. is own (b p))) others) et er em
 
 -- ---- what a member decides
 
@@ -167,21 +170,32 @@ pub silent-out : (C : Config) (q : ℕ) (g : Group) (b : Ballots) (r : Bool) →
 unfolding silentDecides
 silent-out C q g b r e = ap (λ (x : Bool). cond x (Out Outvoted) (Member (rests g) false)) (sym e)
 
--- a member that did not vote, and that no vote reached, goes on with its set as base
-pub rests-alone : (C : Config) (q : ℕ) (g : Group) (b : Ballots) → ((p : ℕ) → b p ≡ none) → silentDecides C q g b ≡ Member (rests g) false
-unfolding silentDecides
-rests-alone C q g b e = go (any (C .nodes) rivals) refl
+-- a member that did not vote goes on with its set as base where too few of its set sent a vote
+pub rests-few : (C : Config) (q : ℕ) (g : Group) (b : Ballots) (came : ℕ) → ((p : ℕ) (v : Vote) → b p ≡ some v → has p came ≡ true) → quorum (came ∩ g .set) (g .base) ≡ false
+    → silentDecides C q g b ≡ Member (rests g) false
+unfolding wins
+rests-few C q g b came sent few = silent-out C q g b false (sym (any-none (C .nodes) (λ p. rival (C .nodes) others g (others p)) (λ p l. go (others p))))
   where
-    rivals : ℕ → Bool
-    rivals p = rival (C .nodes) (without q b) g (without q b p)
+    others : Ballots
+    others = without q b
 
-    empty : (p : ℕ) → without q b p ≡ none
-    empty p = pick (eqb p q)
-      where
-        pick : (own : Bool) → cond own none (b p) ≡ none
-        pick true = refl
-        pick false = e p
+    theirs : (x : ℕ) (v : Vote) (e : Bool) → cond e none (b x) ≡ some v → b x ≡ some v
+    theirs x v true k = absurd (none-some k)
+    theirs x v false k = k
 
-    go : (beaten : Bool) → any (C .nodes) rivals ≡ beaten → cond beaten (Out Outvoted) (Member (rests g) false) ≡ Member (rests g) false
-    go true k = let w = any-e (C .nodes) rivals k in absurd (false≢true (sym (ap (rival (C .nodes) (without q b) g) (empty (w .0))) ∙ w .2))
-    go false k = refl
+    part : (v : Vote) → g ≡ v .group → _⊆_ (voters (C .nodes) others v) (came ∩ g .set)
+    part v k x h =
+        has-inter x came (g .set) ∙ and-i (has x came) (has x (g .set)) (sent x v (theirs x v (eqb x q) (voters-is (C .nodes) others v x h .1)))
+        (ap (λ (y : Group). has x (y .set)) k ∙ voters-sub (C .nodes) others v x h)
+
+    go : (o : Option Vote) → rival (C .nodes) others g o ≡ false
+    go none = refl
+    go (some v) = no (sameGroup g (v .group) && wins (C .nodes) others v) (λ e.
+        let k : g ≡ v .group = group-eq g (v .group) (and-l (sameGroup g (v .group)) (wins (C .nodes) others v) e) in
+        false≢true (sym few
+        ∙ quorum-mono (voters (C .nodes) others v) (came ∩ g .set) (g .base) (part v k)
+        (ap (λ (y : Group). quorum (voters (C .nodes) others v) (y .base)) k ∙ and-r (sameGroup g (v .group)) (wins (C .nodes) others v) e)))
+
+-- and so where no vote reached it
+pub rests-alone : (C : Config) (q : ℕ) (g : Group) (b : Ballots) → ((p : ℕ) → b p ≡ none) → silentDecides C q g b ≡ Member (rests g) false
+rests-alone C q g b e = rests-few C q g b 0 (λ p v k. absurd (none-some (sym (e p) ∙ k))) (ap (λ (x : ℕ). quorum x (g .base)) (set-ext (λ x. has-inter x 0 (g .set) ∙ ap (λ (y : Bool). y && has x (g .set)) (has-none x) ∙ sym (has-none x))) ∙ quorum-none (g .base))

@@ -5,7 +5,7 @@ ghost use Prim.Native.Nat.{_≤_, _<_};
 ghost use lib.Dec.{eqb, ltb};
 ghost use lib.ListN.{length};
 ghost use Rattle.state.specs.State.{formedPlace, formedSets};
-ghost use Rattle.state.specs.Image.{isZero, groupAt, memberReason, reasonOf, nodeIf, decoded};
+ghost use Rattle.state.specs.Image.{isZero, groupAt, memberReason, reasonOf, stateOf, nodeAt, nodeIf, decoded};
 use state::Decoded;
 use state::Group;
 use state::Node;
@@ -76,17 +76,26 @@ fn node_if(test: bool, state: State, id: u8, n: u8) -> Decoded
     }
 }
 
+fn reason_of(code: u8) -> Reason
+    ensures { λ r. ⌜ r ≡ reasonOf code ⌝ }
+{
+    match code {
+        0 => Reason::Stopped,
+        1 => Reason::NoQuorum,
+        _ => Reason::Outvoted,
+    }
+}
+
 // Kind 0: a known reason, and no group.
 fn out_node(reason: u8, id: u8, n: u8, g: Group) -> Decoded
     ensures { λ r. ⌜ r ≡ nodeIf (ltb reason 3 && isZero g) (State.Out (reasonOf reason)) id n ⌝ }
 {
-    let empty = is_zero(g);
-    match reason {
-        0 => node_if(empty, State::Out(Reason::Stopped), id, n),
-        1 => node_if(empty, State::Out(Reason::NoQuorum), id, n),
-        2 => node_if(empty, State::Out(Reason::Outvoted), id, n),
-        _ => Decoded::Malformed,
-    }
+    node_if(
+        (reason < 3) & is_zero(g),
+        State::Out(reason_of(reason)),
+        id,
+        n,
+    )
 }
 
 // Kind 1: no reason, and no group.
@@ -135,5 +144,31 @@ pub fn decode(quiet: bool, s: &[u8]) -> Decoded
         1 => joining_node(reason, id, n, g),
         2 => member_node(quiet, reason, id, n, g),
         _ => Decoded::Malformed,
+    }
+}
+
+fn state_of(kind: u8, reason: u8, g: Group) -> State
+    ensures { λ r. ⌜ r ≡ stateOf kind reason g ⌝ }
+{
+    match kind {
+        0 => State::Out(reason_of(reason)),
+        1 => State::Joining,
+        _ => State::Member(g, reason == 1),
+    }
+}
+
+// The node of an image that is known to be one, by its bytes alone: a node that `decode` found is copied, and the processor waits for its parts.
+pub fn node_at(s: &[u8]) -> Node
+    requires { ⌜ length (now s) ≡ 24 ⌝ }
+    ensures { λ r. ⌜ r ≡ nodeAt (now (s .entry)) ⌝ }
+{
+    let kind = s[0];
+    let reason = s[1];
+    let g = group_at(s);
+    let state = state_of(kind, reason, g);
+    Node {
+        state,
+        id: s[2],
+        nodes: s[3],
     }
 }

@@ -2,7 +2,7 @@
 ghost use mathlib.Core.Path.{_≡_};
 ghost use mathlib.Core.Bool.{cond};
 ghost use Rattle.state.specs.State.{reasonCode};
-ghost use Rattle.state.specs.Image.{layout, imageOf, noGroup};
+ghost use Rattle.state.specs.Image.{kindCode, reasonByte, groupBytes, layout, imageOf, noGroup};
 use state::Group;
 use state::Node;
 use state::Reason;
@@ -70,14 +70,41 @@ fn image(kind: u8, reason: u8, id: u8, n: u8, g: Group) -> [u8; 24]
     ]
 }
 
+// What an image says of a state: kind, reason and group. Each is one number or struct, so that the bytes are written once, by one way.
+fn kind_code(s: State) -> u8
+    ensures { λ c. ⌜ c ≡ kindCode s ⌝ }
+{
+    match s {
+        State::Out(_) => 0,
+        State::Joining => 1,
+        State::Member(_, _) => 2,
+    }
+}
+
+fn reason_byte(s: State) -> u8
+    ensures { λ c. ⌜ c ≡ reasonByte s ⌝ }
+{
+    match s {
+        State::Out(r) => reason_code(r),
+        State::Joining => 0,
+        State::Member(_, asks) => request_code(asks),
+    }
+}
+
+fn group_held(s: State) -> Group
+    ensures { λ r. ⌜ r ≡ groupBytes s ⌝ }
+{
+    match s {
+        State::Out(_) => no_group(),
+        State::Joining => no_group(),
+        State::Member(g, _) => g,
+    }
+}
+
 // The image of a node.
 pub fn encode(n: Node) -> [u8; 24]
     ensures { λ r. ⌜ r ≡ imageOf n ⌝ }
 {
     let s = n.state;
-    match s {
-        State::Out(r) => image(0, reason_code(r), n.id, n.nodes, no_group()),
-        State::Joining => image(1, 0, n.id, n.nodes, no_group()),
-        State::Member(g, asks) => image(2, request_code(asks), n.id, n.nodes, g),
-    }
+    image(kind_code(s), reason_byte(s), n.id, n.nodes, group_held(s))
 }

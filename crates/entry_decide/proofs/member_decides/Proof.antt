@@ -1,26 +1,12 @@
 -- `entry_decide::member_decides` meets its contract: by whether it votes. Assumes nothing.
-use mathlib.Core.Path.{_≡_, sym, ap, ap₂, _∙_}
-use mathlib.Core.Bool.{Bool, true, false, cond}
-use Prim.Native.Nat.{ℕ}
+use mathlib.Core.Path.{sym, _∙_}
+use mathlib.Core.Bool.{true, false}
 use native.Mathlib.Omega.{arith}
-use Rattle.state.specs.declared.Group.{Group}
-use Rattle.state.specs.declared.Node.{Node}
-use Rattle.rules.specs.declared.Vote.{Vote}
-use Rattle.rules.specs.OneCycle.{Ballots, memberDecides, silentDecides}
 use Rattle.rules.proofs.Slots.{one-none}
-use Rattle.entry_send_vote.specs.Voting.{ownView, pressOf, votesWith}
-use Rattle.entry_decide.specs.Decide.{memberDecision}
+use Rattle.entry_decide.proofs.Deciding.{by-test}
 use borrow.Author.Needs.{needs}
 use Rattle.entry_decide.proofs.member_decides.Statement.{statement}
 use Rattle.entry_decide.proofs.member_decides.Tie as tie
-
-module _ (quiet : Bool) (n : Node) (g : Group) (a : Bool) (heard0 heard1 requests : ℕ) (b : Ballots) (v : Vote) (own : v ≡ record { group = g; view = ownView n heard0 heard1 g }) where
-  -- by the test, and by the vote that was made for it
-  by-test : (t : Bool) → votesWith quiet n g a (v .view) heard0 requests ≡ t
-      → cond t (memberDecides (pressOf quiet n) (n .id) v b) (silentDecides (pressOf quiet n) (n .id) g b) ≡ memberDecision quiet n g a heard0 heard1 requests b
-  by-test t e =
-      ap₂ (λ (x : Bool) (w : Vote). cond x (memberDecides (pressOf quiet n) (n .id) w b) (silentDecides (pressOf quiet n) (n .id) g b))
-      (sym e ∙ ap (λ (w : Vote). votesWith quiet n g a (w .view) heard0 requests) own) own
 
 cast-nodes : tie.Need-cast-nodes
 cast-nodes c = search needs

@@ -13,20 +13,18 @@ use Rattle.entry_send_vote.specs.Voting.{pressOf}
 use Rattle.entry_decide.specs.Decide.{memberDecision, decision}
 use Rattle.entry_slots.specs.Slots.{bufferBallots}
 use Rattle.entry_slots.proofs.Buffers.{same-ballots}
+use Rattle.entry_decide.proofs.Deciding.{by-state}
 use borrow.Author.Needs.{needs}
 use Rattle.entry_decide.proofs.next_state.Statement.{statement}
 use Rattle.entry_decide.proofs.next_state.Tie as tie
 
 module _ (quiet : Bool) (n : Node) (heard0 heard1 requests : ℕ) (votes : List ℕ) (arrived : ℕ) where
-  by-state : {t : State} → n .state ≡ t → decision quiet n t heard0 heard1 requests votes arrived ≡ decision quiet n (n .state) heard0 heard1 requests votes arrived
-  by-state e = sym (ap (λ (t : State). decision quiet n t heard0 heard1 requests votes arrived) e)
-
   module _ {b : Ballots} {t : State} (k : b ≡ bufferBallots (n .nodes) (n .id) votes arrived) where
     by-joining : n .state ≡ Joining → t ≡ joinerDecides (pressOf quiet n) (n .id) b → t ≡ decision quiet n (n .state) heard0 heard1 requests votes arrived
-    by-joining e h = h ∙ ap (joinerDecides (pressOf quiet n) (n .id)) k ∙ by-state e
+    by-joining e h = h ∙ ap (joinerDecides (pressOf quiet n) (n .id)) k ∙ by-state quiet n heard0 heard1 requests votes arrived e
 
     by-member : (g : Group) (a : Bool) → n .state ≡ Member g a → t ≡ memberDecision quiet n g a heard0 heard1 requests b → t ≡ decision quiet n (n .state) heard0 heard1 requests votes arrived
-    by-member g a e h = h ∙ ap (memberDecision quiet n g a heard0 heard1 requests) k ∙ by-state e
+    by-member g a e h = h ∙ ap (memberDecision quiet n g a heard0 heard1 requests) k ∙ by-state quiet n heard0 heard1 requests votes arrived e
 
 -- the arrays hold the votes of the buffer
 read : (c : tie.After-read-votes) → let a = c .before .before .before .before .before .before .before .before .args in let r = c .read-votes in ballotsOf (r .last .1 .1 .1 .1 .0) (r .last .1 .1 .1 .1 .1 .0) (r .last .1 .1 .1 .1 .1 .1 .0) (r .last .1 .1 .1 .1 .1 .1 .1 .0) (r .result) ≡ bufferBallots (a .n .nodes) (a .n .id) (a .votes .now) (a .arrived)
