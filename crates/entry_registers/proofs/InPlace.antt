@@ -27,7 +27,7 @@ use Rattle.registers.specs.Steps.{commanded, written, raisedBy, raised, decided
 use Rattle.registers.proofs.Blocks.{image-part, rest-part, rest-at, flags-at, enables-at}
 use Rattle.registers.proofs.Written.{node-kept, flags-after, enables-after, node-after, raised-byte, pending-byte}
 use Rattle.register_block.specs.Bytes.{shares, withFlags, flagsAfter, enablesAfter}
-use Rattle.entry_registers.specs.InPlace.{commandLeft, writeLeft, cycleLeft}
+use Rattle.entry_registers.specs.InPlace.{commandLeft, writeLeft, cycledLeft, cycleLeft}
 
 -- ---- parts of a block replaced
 
@@ -138,12 +138,16 @@ module _ (mode a v : ℕ) (s put : List ℕ) (flags enables : ℕ) (ef : flags �
   unfolding writeLeft
   without-command e = flags-first ∙ rw (ne-eqb a 27 e)
 
-pub decide-left : (quiet : Bool) (n : Node) (flags enables heard0 heard1 requests : ℕ) (votes : List ℕ) (arrived : ℕ) (s image put left : List ℕ) (t : State) (r : ℕ)
-    → t ≡ decision quiet n (n .state) heard0 heard1 requests votes arrived → image ≡ imageOf (record { state = t; id = n .id; nodes = n .nodes }) → put ≡ withPart 0 image s
-    → r ≡ flagsByte (raisedBy (n .state) t) → left ≡ withFlags (flags ∪ r) enables put → left ≡ cycleLeft quiet n flags enables heard0 heard1 requests votes arrived s
-unfolding withPart cycleLeft
-decide-left quiet n flags enables heard0 heard1 requests votes arrived s image put left t r et ei ep er el =
+pub cycled-left : (n : Node) (flags enables : ℕ) (s image put left : List ℕ) (t : State) (r : ℕ) → image ≡ imageOf (record { state = t; id = n .id; nodes = n .nodes }) → put ≡ withPart 0 image s
+    → r ≡ flagsByte (raisedBy (n .state) t) → left ≡ withFlags (flags ∪ r) enables put → left ≡ cycledLeft n t flags enables s
+unfolding withPart
+cycled-left n flags enables s image put left t r ei ep er el =
     let size : length image ≡ 24 = ap length ei ∙ image-length (record { state = t; id = n .id; nodes = n .nodes }) in
     el ∙ ap₂ (λ (b : ℕ) (x : List ℕ). withFlags (flags ∪ b) enables x) er
     (ep ∙ ap (λ (k : ℕ). image ++ drop k s) (zero-add (length image) ∙ size) ∙ ap (λ (x : List ℕ). x ++ drop 24 s) ei)
-    ∙ ap (λ (x : State). withFlags (flags ∪ flagsByte (raisedBy (n .state) x)) enables (imageOf (record { state = x; id = n .id; nodes = n .nodes }) ++ drop 24 s)) et
+
+-- by the state that was decided
+pub cycle-left : (quiet : Bool) (n : Node) (flags enables heard0 heard1 requests : ℕ) (votes : List ℕ) (arrived : ℕ) (s left : List ℕ) (t : State)
+    → t ≡ decision quiet n (n .state) heard0 heard1 requests votes arrived → left ≡ cycledLeft n t flags enables s → left ≡ cycleLeft quiet n flags enables heard0 heard1 requests votes arrived s
+unfolding cycleLeft
+cycle-left quiet n flags enables heard0 heard1 requests votes arrived s left t et el = el ∙ ap (λ (x : State). cycledLeft n x flags enables s) et

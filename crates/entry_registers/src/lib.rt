@@ -3,10 +3,11 @@ ghost use mathlib.Core.Path.{_≡_};
 ghost use mathlib.Core.Bool.{false, cond};
 ghost use Prim.Native.Nat.{_≤_, _<_};
 ghost use lib.Dec.{eqb};
-ghost use lib.ListN.{length};
+ghost use lib.ListN.{length, take};
+ghost use Rattle.state.specs.Image.{nodeAt};
 ghost use Rattle.rules.specs.OneCycle.{wrongMode};
 ghost use Rattle.registers.specs.Steps.{Read, Write, Cycle, WriteCycle, stepStatus, stepLeft, stepValue};
-ghost use Rattle.entry_registers.specs.InPlace.{refusalOf, commandLeft, writeLeft, cycleLeft};
+ghost use Rattle.entry_registers.specs.InPlace.{refusalOf, commandLeft, writeLeft, cycledLeft, cycleLeft};
 use state::Decoded;
 use state::Node;
 use state::State;
@@ -91,9 +92,10 @@ fn decide(
     block: &mut [u8],
 )
     requires { ⌜ (n .nodes ≤ 64) × (n .id < n .nodes) × (length (now votes) ≡ 1792) × (length (now block) ≡ 64) ⌝ }
+    requires { ⌜ nodeAt (take 24 (now block)) ≡ n ⌝ }
     ensures { λ _. ⌜ now (block .exit) ≡ cycleLeft quiet n flags enables heard0 heard1 requests (now (votes .entry)) arrived (now (block .entry)) ⌝ }
 {
-    let on = entry_decide::going(
+    let on = entry_decide::goes_on(
         quiet,
         &block[0..24],
         heard0,
@@ -102,10 +104,11 @@ fn decide(
         votes,
         arrived,
     );
-    if on.goes {
+    if on.told {
+        let g = on.group;
         put_cycled(
             n,
-            State::Member(on.group, on.request),
+            State::Member(g, on.request),
             flags,
             enables,
             block,

@@ -27,7 +27,7 @@ enum-known-before : tie.Need-enum-known-before
 enum-known-before c = search needs
 
 going-member-requires : tie.Need-going-member-requires
-going-member-requires c κs = 
+going-member-requires c κs =
     let n = c .before .before .before in
     let s = n .before .before .before in
     let e = n .node-at .ensures in
@@ -40,7 +40,7 @@ returns-2 : tie.Need-returns-2
 returns-2 c = tells-nothing _ _ (c .not-told2 .ensures)
 
 returns-3 : tie.Need-returns-3
-returns-3 c = 
+returns-3 c =
     let k = c .before .before in
     let n = k .before .before in
     let a = n .before .before .before .args in

@@ -44,7 +44,7 @@ told-of-requires : tie.Need-told-of-requires
 told-of-requires c κs = search needs
 
 returns : tie.Need-returns
-returns c = 
+returns c =
     let t = c .before in
     let o = t .before .before in
     let a = o .before .before .before .before .args in
@@ -56,7 +56,7 @@ returns-2 : tie.Need-returns-2
 returns-2 c = tells-nothing _ _ (c .not-told .ensures)
 
 returns-3 : tie.Need-returns-3
-returns-3 c = 
+returns-3 c =
     let s = c .before in
     let i = s .before .before in
     let t = i .before .before in

@@ -50,7 +50,7 @@ not-told-requires : tie.Need-not-told-requires
 not-told-requires c κs = search needs
 
 returns : tie.Need-returns
-returns c = 
+returns c =
     let w = c .before in
     let q = w .before .before in
     let a = start (q .before) .args in

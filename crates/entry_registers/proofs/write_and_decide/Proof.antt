@@ -6,6 +6,7 @@ use lib.ListN.{length}
 use borrow.Author.Tests.{lt-ltb, le-ltb, eq-eqb}
 use Rattle.state.specs.declared.Decoded.{Decoded}
 use Rattle.rules.specs.OneCycle.{quietIn}
+use Rattle.entry_lent.proofs.Images.{good-node}
 use Rattle.registers.specs.Block.{machineIn, registersAt}
 use Rattle.registers.specs.Steps.{WriteCycle, stepStatus, stepLeft}
 use Rattle.registers.proofs.Blocks.{held-block}
@@ -118,7 +119,7 @@ decide-requires c κs =
     let k = e .before .before .before .before in
     let a = k .before .args in
     let p = placed (quietIn (a .mode)) (a .block .now) _ (λ i. k .slice-known .given i .fits) (state-read d (n .n .given .1)) _ refl in
-    (p .0, p .1, k .before .pre .2, sized e)
+    ((p .0, p .1, k .before .pre .2, sized e), good-node _ _ _ (sym (d .decode .ensures) ∙ n .n .given .1))
 
 enum-told : tie.Need-enum-told
 enum-told c = search needs
