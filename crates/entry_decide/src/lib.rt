@@ -165,9 +165,9 @@ fn going_member(
 {
     let nodes = n.nodes as usize;
     let q = n.id as usize;
-    let own = own_vote(n, g, heard0, heard1);
-    if entry_send_vote::votes_with(quiet, n, g, asks, own.view, heard0, requests) {
-        going_on_vote(Config { nodes, quiet }, q, own, votes, arrived)
+    let vote = own_vote(n, g, heard0, heard1);
+    if entry_send_vote::votes_with(quiet, n, g, asks, vote.view, heard0, requests) {
+        going_on_vote(Config { nodes, quiet }, q, vote, votes, arrived)
     } else if sets::is_quorum(sets::intersection(arrived, g.set), g.base) {
         not_told()
     } else {

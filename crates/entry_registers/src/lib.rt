@@ -106,13 +106,7 @@ fn decide(
     );
     if on.told {
         let g = on.group;
-        put_cycled(
-            n,
-            State::Member(g, on.request),
-            flags,
-            enables,
-            block,
-        );
+        put_cycled(n, State::Member(g, on.request), flags, enables, block);
     } else {
         put_cycled(
             n,

@@ -18,7 +18,7 @@ part-goes-on-end : tie.Need-part-goes-on-end
 part-goes-on-end c = search needs
 
 goes-on-requires : tie.Need-goes-on-requires
-goes-on-requires c κs = 
+goes-on-requires c κs =
     let s = c .before .before .before .before in
     let e = s .pre .1 in
     ((length-take-le 24 (s .args .block .now) (omega (arith, s .pre .0 .3)), s .pre .0 .2), (omega (arith, ap (λ (x : Node). x .nodes) e, s .pre .0 .0), omega (arith, ap (λ (x : Node). x .nodes) e, ap (λ (x : Node). x .id) e, s .pre .0 .1)))
@@ -36,7 +36,7 @@ same-length : tie.Need-same-length
 same-length c = search needs
 
 returns : tie.Need-returns
-returns c = 
+returns c =
     let p = c .before .before in
     let t = p .before .before .before in
     let o = t .before in
@@ -50,7 +50,7 @@ same-length-2 : tie.Need-same-length-2
 same-length-2 c = search needs
 
 returns-2 : tie.Need-returns-2
-returns-2 c = 
+returns-2 c =
     let p = c .before .before in
     let n = p .before .before in
     let a = n .before .before .before .before .before .before .before .args in

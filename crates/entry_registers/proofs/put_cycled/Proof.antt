@@ -24,7 +24,7 @@ same-length c = search needs
 
 returns : tie.Need-returns
 unfolding _∪_
-returns c = 
+returns c =
     let f = c .before .before in
     let r = f .before .before in
     let p = r .before .before .before in
