@@ -2,8 +2,9 @@
 ghost use mathlib.Core.Path.{_≡_};
 ghost use mathlib.Core.Bool.{true, false, _&&_};
 ghost use Prim.Native.Nat.{_<_, _≤_};
+ghost use lib.ListN.{getD};
 ghost use Rattle.sets.specs.Sets.{_∪_, _∖_};
-ghost use Rattle.rules.specs.OneCycle.{wrongMode, quietIn, stopAndStart, sendsMember, sendsJoin, asks as doesAsk, viewOf, called, willVote, sameGroup, is, groupWith, requestWith};
+ghost use Rattle.rules.specs.OneCycle.{wrongMode, quietIn, stopAndStart, sendsMember, sendsJoin, asks as doesAsk, viewOf, called, willVote, sameGroup, sameVote, is, groupWith, requestWith};
 ghost use Rattle.rules.specs.Ballots.{groupAt, voteAt, ballotsOf, equalTo};
 use rules::Config;
 use rules::Vote;
@@ -187,6 +188,14 @@ pub fn vote_at(
     }
 }
 
+// Whether v is in slot p, whose group is given, whatever the mask says.
+fn holds_vote(group: Group, views: &[u64; 64], v: Vote, p: usize) -> bool
+    requires { ⌜ p < 64 ⌝ }
+    ensures { λ r. ⌜ r ≡ sameVote v (record { group = group; view = getD (now (views .entry)) p 0 }) ⌝ }
+{
+    same_group(v.group, group) && v.view == views[p]
+}
+
 // Whether the vote in slot p is equal to v.
 pub fn equals_at(
     numbers: &[u32; 64],
@@ -200,10 +209,9 @@ pub fn equals_at(
     requires { ⌜ p < 64 ⌝ }
     ensures { λ r. ⌜ r ≡ is v (ballotsOf (now (numbers .entry)) (now (sets .entry)) (now (bases .entry)) (now (views .entry)) present p) ⌝ }
 {
-    let g = v.group;
-    let h = group_at(numbers, sets, bases, p);
+    let group = group_at(numbers, sets, bases, p);
     if sets::contains(present, p) {
-        same_group(g, h) && v.view == views[p]
+        holds_vote(group, views, v, p)
     } else {
         false
     }
@@ -225,8 +233,10 @@ pub fn equal_votes(
     let mut m: u64 = 0;
     let mut p: usize = 0;
     while p < n {
-        m = sets::include(m, p, equals_at(numbers, sets, bases, views, present, v, p));
+        let group = group_at(numbers, sets, bases, p);
+        m = sets::include(m, p, holds_vote(group, views, v, p));
         p += 1;
     }
-    m
+    // the mask once, for all slots: a test of it in each turn costs more
+    sets::intersection(present, m)
 }
