@@ -175,7 +175,7 @@ fn going_member(
     }
 }
 
-// The same of the node whose image is s.
+// The same of the node whose image is s. Free: of which members it tells, and what stands beside `told` where it does not.
 pub fn goes_on(
     quiet: bool,
     s: &[u8],

@@ -1,4 +1,4 @@
-// The vote buffer that a host lends, read into arrays.
+// The vote buffer that a host lends: read into arrays, and looked at in place.
 ghost use mathlib.Core.Path.{_≡_};
 ghost use mathlib.Core.Bool.{not, _&&_};
 ghost use Prim.Native.Nat.{ℕ, _≤_, _<_};
