@@ -137,11 +137,7 @@ fn going_on_vote(config: Config, q: usize, own: Vote, votes: &[u8], arrived: u64
 {
     let g = own.group;
     let alike = entry_slots::equal_votes(config.nodes, q, votes, arrived, own);
-    let mine = sets::include(
-        sets::intersection(alike, g.set),
-        q,
-        sets::contains(g.set, q),
-    );
+    let mine = rule_member::with_own(alike, g.set, q);
     if sets::is_quorum(mine, g.base) {
         told_of(rule_steps::member_on(config, own, mine))
     } else {

@@ -1,7 +1,8 @@
 // Rule 5 of one member, and what one decides that did not vote. Votes are lent as four arrays, a slot for each sender, and the mask of the slots that hold one.
 ghost use mathlib.Core.Path.{_≡_};
-ghost use mathlib.Core.Bool.{false};
+ghost use mathlib.Core.Bool.{false, cond};
 ghost use Prim.Native.Nat.{_<_, _≤_};
+ghost use Rattle.sets.specs.Sets.{has, single as theSingle, _∪_, _∩_};
 ghost use Rattle.rules.specs.OneCycle.{wins, withOwn, memberDecides, rests, silentDecides};
 ghost use Rattle.rules.specs.Ballots.{ballotsOf, OneVote};
 use rules::Config;
@@ -78,6 +79,14 @@ pub fn silent_decides(
     State::Member(resting(group), false)
 }
 
+// The votes that node q counts for its own V: of the others that cast it those in its set, and its own.
+pub fn with_own(alike: u64, set: u64, q: usize) -> u64
+    requires { ⌜ q < 64 ⌝ }
+    ensures { λ r. ⌜ r ≡ cond (has q set) (theSingle q ∪ (alike ∩ set)) (alike ∩ set) ⌝ }
+{
+    sets::include(sets::intersection(alike, set), q, sets::contains(set, q))
+}
+
 // Rule 5. The own vote counts whatever stands in the own slot, and for no view but its own.
 pub fn member_decides(
     config: Config,
@@ -95,11 +104,7 @@ pub fn member_decides(
     let g = own.group;
     let others = sets::difference(present, sets::single(q));
     let alike = rule_steps::equal_votes(config.nodes, numbers, sets, bases, views, others, own);
-    let mine = sets::include(
-        sets::intersection(alike, g.set),
-        q,
-        sets::contains(g.set, q),
-    );
+    let mine = with_own(alike, g.set, q);
     if sets::is_quorum(mine, g.base) {
         rule_steps::member_on(config, own, mine)
     } else {

@@ -71,9 +71,9 @@ module _ (N q : ℕ) (own : Vote) (b : Ballots) where
       go x false e false k = there x e
 
   -- from e, those of the others that cast it
-  pub own-count : (e t m : ℕ) (r : Bool) → q < N → e ≡ those N (λ p. is own (without q b p)) → t ≡ e ∩ own .group .set → r ≡ has q (own .group .set) → m ≡ cond r (single q ∪ t) t
+  pub own-count : (e m : ℕ) → q < N → e ≡ those N (λ p. is own (without q b p)) → m ≡ cond (has q (own .group .set)) (single q ∪ (e ∩ own .group .set)) (e ∩ own .group .set)
       → m ≡ voters N (withOwn q own b) own
-  own-count e t m r l ee et er em = em ∙ ap₂ (λ (x : Bool) (y : ℕ). cond x (single q ∪ y) y) er (et ∙ equal-voters N e (without q b) own ee) ∙ sym (own-voters l)
+  own-count e m l ee em = em ∙ ap (λ (y : ℕ). cond (has q (own .group .set)) (single q ∪ y) y) (equal-voters N e (without q b) own ee) ∙ sym (own-voters l)
 
   -- where the own vote has no quorum, the others alone say whether another vote has one
   own-rivals : wins N (withOwn q own b) own ≡ false
@@ -126,9 +126,9 @@ module _ (numbers sets bases views : List ℕ) (N present q : ℕ) (s d : ℕ) (
   others = ap (ballotsOf numbers sets bases views) (ed ∙ ap (λ (x : ℕ). present ∖ x) es) ∙ slots-without numbers sets bases views present q
 
   -- e, those of them that cast the own vote
-  pub own-tally : (own : Vote) (e t m : ℕ) (r : Bool) → q < N → e ≡ equalTo numbers sets bases views N d own → t ≡ e ∩ own .group .set → r ≡ has q (own .group .set) → m ≡ cond r (single q ∪ t) t
+  pub own-tally : (own : Vote) (e m : ℕ) → q < N → e ≡ equalTo numbers sets bases views N d own → m ≡ cond (has q (own .group .set)) (single q ∪ (e ∩ own .group .set)) (e ∩ own .group .set)
       → m ≡ voters N (withOwn q own (ballotsOf numbers sets bases views present)) own
-  own-tally own e t m r l ee et er em = own-count N q own (ballotsOf numbers sets bases views present) e t m r l (ee ∙ ap (λ (b : Ballots). those N (λ p. is own (b p))) others) et er em
+  own-tally own e m l ee em = own-count N q own (ballotsOf numbers sets bases views present) e m l (ee ∙ ap (λ (b : Ballots). those N (λ p. is own (b p))) others) em
 
 -- ---- what a member decides
 

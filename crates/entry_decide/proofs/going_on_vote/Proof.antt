@@ -1,5 +1,4 @@
 use mathlib.Core.Path.{_≡_, sym, ap, _∙_}
-use Prim.Native.Nat.{ℕ}
 use Rattle.sets.specs.Sets.{those}
 use Rattle.rules.specs.OneCycle.{Ballots, is, voters, withOwn}
 use Rattle.rules.proofs.Own.{own-count, wins-by, decides-on}
@@ -10,32 +9,25 @@ use borrow.Author.Needs.{needs}
 use Rattle.entry_decide.proofs.going_on_vote.Statement.{statement}
 use Rattle.entry_decide.proofs.going_on_vote.Tie as tie
 
-abbrev start : tie.After-include → tie.Start
-start c = c .before .before .before .before .before .before
+abbrev start : tie.After-with-own → tie.Start
+start c = c .before .before .before .before
 
 abbrev arrived : tie.Start → Ballots
 arrived c = bufferBallots (c .args .config .nodes) (c .args .q) (c .args .votes .now) (c .args .arrived)
 
 -- the own vote's voters
-mine : (c : tie.After-include) → c .include .result ≡ voters (start c .args .config .nodes) (withOwn (start c .args .q) (start c .args .own) (arrived (start c))) (start c .args .own)
+mine : (c : tie.After-with-own) → c .with-own .result ≡ voters (start c .args .config .nodes) (withOwn (start c .args .q) (start c .args .own) (arrived (start c))) (start c .args .own)
 mine c =
     let a = start c .args in
-    let i = c .before .before in
-    own-count (a .config .nodes) (a .q) (a .own) (arrived (start c)) _ _ _ _ (start c .pre .1)
-    (i .before .equal-votes .ensures ∙ ap (λ (b : Ballots). those (a .config .nodes) (λ p. is (a .own) (b p))) (sym (own-empty (a .config .nodes) (a .q) (a .votes .now) (a .arrived))))
-    (i .intersection .ensures) (c .before .contains .ensures) (c .include .ensures)
+    own-count (a .config .nodes) (a .q) (a .own) (arrived (start c)) _ _ (start c .pre .1)
+    (c .before .equal-votes .ensures ∙ ap (λ (b : Ballots). those (a .config .nodes) (λ p. is (a .own) (b p))) (sym (own-empty (a .config .nodes) (a .q) (a .votes .now) (a .arrived))))
+    (c .with-own .ensures)
 
 equal-votes-requires : tie.Need-equal-votes-requires
 equal-votes-requires c κs = search needs
 
-intersection-requires : tie.Need-intersection-requires
-intersection-requires c κs = search needs
-
-contains-requires : tie.Need-contains-requires
-contains-requires c κs = search needs
-
-include-requires : tie.Need-include-requires
-include-requires c κs = search needs
+with-own-requires : tie.Need-with-own-requires
+with-own-requires c κs = search needs
 
 is-quorum-requires : tie.Need-is-quorum-requires
 is-quorum-requires c κs = search needs
@@ -66,9 +58,7 @@ going-on-vote-spec =
     tie.close
     (tie.spec
     equal-votes-requires
-    intersection-requires
-    contains-requires
-    include-requires
+    with-own-requires
     is-quorum-requires
     member-on-requires
     told-of-requires

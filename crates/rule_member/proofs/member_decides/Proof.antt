@@ -8,8 +8,8 @@ use borrow.Author.Needs.{needs}
 use Rattle.rule_member.proofs.member_decides.Statement.{statement}
 use Rattle.rule_member.proofs.member_decides.Tie as tie
 
-abbrev start : tie.After-include → tie.Start
-start c = c .before .before .before .before .before .before .before
+abbrev start : tie.After-with-own → tie.Start
+start c = c .before .before .before .before .before
 
 abbrev arrived : tie.Start → Ballots
 arrived c = ballotsOf (c .args .numbers .now) (c .args .sets .now) (c .args .bases .now) (c .args .views .now) (c .args .present)
@@ -23,14 +23,8 @@ difference-requires c κs = search needs
 equal-votes-requires : tie.Need-equal-votes-requires
 equal-votes-requires c κs = search needs
 
-intersection-requires : tie.Need-intersection-requires
-intersection-requires c κs = search needs
-
-contains-requires : tie.Need-contains-requires
-contains-requires c κs = search needs
-
-include-requires : tie.Need-include-requires
-include-requires c κs = search needs
+with-own-requires : tie.Need-with-own-requires
+with-own-requires c κs = search needs
 
 is-quorum-requires : tie.Need-is-quorum-requires
 is-quorum-requires c κs = search needs
@@ -39,11 +33,11 @@ member-on-requires : tie.Need-member-on-requires
 member-on-requires c κs = search needs
 
 -- the own vote's voters
-mine : (c : tie.After-include) → c .include .result ≡ voters (start c .args .config .nodes) (withOwn (start c .args .q) (start c .args .own) (arrived (start c))) (start c .args .own)
+mine : (c : tie.After-with-own) → c .with-own .result ≡ voters (start c .args .config .nodes) (withOwn (start c .args .q) (start c .args .own) (arrived (start c))) (start c .args .own)
 mine c =
     let a = start c .args in
-    let i = c .before .before in
-    own-tally (a .numbers .now) (a .sets .now) (a .bases .now) (a .views .now) (a .config .nodes) (a .present) (a .q) _ _ (i .before .before .before .single .ensures) (i .before .before .difference .ensures) (a .own) _ _ _ _ (start c .pre .1) (i .before .equal-votes .ensures) (i .intersection .ensures) (c .before .contains .ensures) (c .include .ensures)
+    let e = c .before in
+    own-tally (a .numbers .now) (a .sets .now) (a .bases .now) (a .views .now) (a .config .nodes) (a .present) (a .q) _ _ (e .before .before .single .ensures) (e .before .difference .ensures) (a .own) _ _ (start c .pre .1) (e .equal-votes .ensures) (c .with-own .ensures)
 
 -- whether it wins
 won : (c : tie.After-is-quorum) → c .is-quorum .result ≡ wins (start (c .before) .args .config .nodes) (withOwn (start (c .before) .args .q) (start (c .before) .args .own) (arrived (start (c .before)))) (start (c .before) .args .own)
@@ -71,9 +65,7 @@ member-decides-spec =
     single-requires
     difference-requires
     equal-votes-requires
-    intersection-requires
-    contains-requires
-    include-requires
+    with-own-requires
     is-quorum-requires
     member-on-requires
     halts-requires
