@@ -34,7 +34,7 @@ decision quiet n Joining heard0 heard1 requests votes arrived =
 decision quiet n (Member g a) heard0 heard1 requests votes arrived =
     memberDecision quiet n g a heard0 heard1 requests (bufferBallots (n .nodes) (n .id) votes arrived)
 
--- what the buffer tells of a member's next state, if it tells anything
+-- what the buffer tells of a member's next state, if it tells anything: for the contract of `goes_on` inside, and no part of the entry's answer
 abbrev pub Tells : Going → State → Type 0
 Tells r s = r .told ≡ true → s ≡ Member (r .group) (r .request)
 

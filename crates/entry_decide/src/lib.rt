@@ -145,6 +145,7 @@ fn going_on_vote(config: Config, q: usize, own: Vote, votes: &[u8], arrived: u64
     }
 }
 
+// A member, by whether it voted. No vote counts without its bit in `arrived`: what else is set there only costs a look at all votes.
 fn going_member(
     quiet: bool,
     n: Node,
@@ -171,7 +172,7 @@ fn going_member(
     }
 }
 
-// The same of the node whose image is s. Free: of which members it tells, and what stands beside `told` where it does not.
+// What the node whose image is s goes on with, if the buffer tells it. Free: of which members it tells, and what stands beside `told` where it does not.
 pub fn goes_on(
     quiet: bool,
     s: &[u8],
@@ -232,6 +233,7 @@ pub fn decide(
     ) {
         Lent::Holds(n) => {
             let on = goes_on(quiet, state, heard0, heard1, requests, votes, arrived);
+            // each way puts its own state: one place for both would be copied
             if on.told {
                 let g = on.group;
                 put_state(State::Member(g, on.request), state);

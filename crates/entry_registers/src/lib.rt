@@ -104,6 +104,7 @@ fn decide(
         votes,
         arrived,
     );
+    // each way puts its own state: one place for both would be copied
     if on.told {
         let g = on.group;
         put_cycled(n, State::Member(g, on.request), flags, enables, block);

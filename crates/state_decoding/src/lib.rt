@@ -157,7 +157,7 @@ fn state_of(kind: u8, reason: u8, g: Group) -> State
     }
 }
 
-// The node of an image that is known to be one, by its bytes alone: a node that `decode` found is copied, and the processor waits for its parts.
+// The node of an image that is known to be one, by its bytes: the one that `decode` found goes through memory, and whoever reads its parts waits for that.
 pub fn node_at(s: &[u8]) -> Node
     requires { ⌜ length (now s) ≡ 24 ⌝ }
     ensures { λ r. ⌜ r ≡ nodeAt (now (s .entry)) ⌝ }

@@ -1,5 +1,5 @@
 -- `entry_decide::next_state` meets its contract: the arrays hold the votes of the buffer, and the state names the rule. Assumes nothing.
-use mathlib.Core.Path.{_≡_, sym, ap, _∙_}
+use mathlib.Core.Path.{_≡_, ap, _∙_}
 use mathlib.Core.Bool.{Bool}
 use mathlib.Core.List.{List}
 use Prim.Native.Nat.{ℕ}

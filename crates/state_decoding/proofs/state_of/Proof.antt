@@ -1,4 +1,3 @@
-use mathlib.Core.Path.{_∙_}
 use Rattle.state_decoding.proofs.Codes.{last-kind}
 use borrow.Author.Needs.{needs}
 use Rattle.state_decoding.proofs.state_of.Statement.{statement}
