@@ -1,5 +1,5 @@
 -- The votes of the buffer, and the arrays that they are read into. Assumes nothing.
-use mathlib.Core.Path.{_≡_, refl, sym, ap, _∙_}
+use mathlib.Core.Path.{_≡_, refl, sym, ap, ap₂, _∙_}
 use mathlib.Core.Logic.{_⊎_, inl, inr}
 use mathlib.Core.Bool.{Bool, true, false, not, _&&_, cond, and-true, and-false}
 use mathlib.Core.List.{List}
@@ -18,7 +18,7 @@ use Rattle.rules.specs.OneCycle.{sameVote, is, without}
 use Rattle.rules.specs.Ballots.{voteAt, ballotsOf}
 use Rattle.rules.proofs.States.{none-some}
 use Rattle.frames.specs.Written.{formedVote}
-use Rattle.entry_slots.specs.Slots.{slotVote, arrivedIn, bufferBallots}
+use Rattle.entry_slots.specs.Slots.{slotVote, voteIf, countedVote, arrivedIn, bufferBallots}
 
 -- whether the vote v of p counts as arrived at q
 abbrev pub counts : ℕ → ℕ → ℕ → ℕ → Vote → Bool
@@ -68,20 +68,36 @@ module _ (numbers sets bases views : List ℕ) (p : ℕ) where
 -- the ballots that the rules read in the arrays are those of the buffer
 module _ (n q : ℕ) (votes : List ℕ) (arrived : ℕ) where
   pub same-ballots : (numbers sets bases views : List ℕ) (present : ℕ) → present ≡ arrivedIn n q votes arrived
-      → ((p : ℕ) → p < n → voteAt numbers sets bases views p ≡ slotVote votes p)
+      → ((p : ℕ) → p < n → voteAt numbers sets bases views p ≡ countedVote n q votes arrived p)
       → ballotsOf numbers sets bases views present ≡ bufferBallots n q votes arrived
-  unfolding ballotsOf bufferBallots arrivedIn
+  unfolding ballotsOf bufferBallots arrivedIn countedVote
   same-ballots numbers sets bases views present e slot = λ i p. each p i
     where
       go : (p : ℕ) (b : Bool) → has p (arrivedIn n q votes arrived) ≡ b
           → _≡_ {A = Option Vote} (cond b (some (voteAt numbers sets bases views p)) none) (cond b (some (slotVote votes p)) none)
-      go p true k = ap some (slot p (of-those p n (λ x. counts n q arrived x (slotVote votes x)) k .0))
+      go p true k =
+          let w = of-those p n (λ x. counts n q arrived x (slotVote votes x)) k in
+          ap some (slot p (w .0) ∙ ap (λ (b : Bool). voteIf b (slotVote votes p)) (w .1))
       go p false k = refl
 
       each : (p : ℕ)
           → _≡_ {A = Option Vote} (cond (has p present) (some (voteAt numbers sets bases views p)) none)
           (cond (has p (arrivedIn n q votes arrived)) (some (slotVote votes p)) none)
       each p = ap (λ (m : ℕ). cond (has p m) (some (voteAt numbers sets bases views p)) none) e ∙ go p (has p (arrivedIn n q votes arrived)) refl
+
+  -- what is read of slot p
+  pub counted-vote : (p : ℕ) (v w : Vote) (b : Bool) → w ≡ slotVote votes p → b ≡ counts n q arrived p w → v ≡ voteIf b w → v ≡ countedVote n q votes arrived p
+  unfolding countedVote
+  counted-vote p v w b ew eb ev = ev ∙ ap₂ voteIf (eb ∙ ap (counts n q arrived p) ew) ew
+
+  -- a slot whose bit is not set holds no vote
+  pub slot-unset : (p : ℕ) (v : Vote) → has p arrived ≡ false → is v (bufferBallots n q votes arrived p) ≡ false
+  unfolding bufferBallots arrivedIn
+  slot-unset p v f = ap (λ (x : Bool). is v (cond x (some (slotVote votes p)) none))
+      (has-those p n (λ x. counts n q arrived x (slotVote votes x))
+      ∙ ap (λ (x : Bool). ltb p n && (not (eqb p q) && x && formedVote n p (slotVote votes p))) f
+      ∙ ap (λ (x : Bool). ltb p n && (x && formedVote n p (slotVote votes p))) (and-false (not (eqb p q)))
+      ∙ and-false (ltb p n))
 
   -- whether the vote w of slot p is v, and counts
   pub slot-is : (p : ℕ) (v w : Vote) (same there : Bool) → p < n → w ≡ slotVote votes p → same ≡ sameVote v w → there ≡ counts n q arrived p w

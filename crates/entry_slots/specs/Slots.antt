@@ -1,6 +1,6 @@
 -- The vote buffer that a host lends: a slot of 28 bytes for each node, and a mask of those that hold a vote.
 -- Assumes nothing.
-use mathlib.Core.Bool.{not, _&&_, cond}
+use mathlib.Core.Bool.{Bool, not, _&&_, cond}
 use mathlib.Core.List.{List}
 use mathlib.Core.Option.{none, some}
 use Prim.Native.Nat.{ℕ, _+_, _*_}
@@ -27,6 +27,13 @@ withSlot p payload votes = withPart (28 * p) payload votes
 -- "a slot that meets condition 10 below, or a bit at N or above, counts as not arrived. The own bit is not looked at."
 unfoldable pub arrivedIn : ℕ → ℕ → List ℕ → ℕ → ℕ
 arrivedIn n q votes arrived = those n (λ p. not (eqb p q) && has p arrived && formedVote n p (slotVote votes p))
+
+-- the votes that count, and zeros for the others, as they are read
+abbrev pub voteIf : Bool → Vote → Vote
+voteIf t v = cond t v (record { group = record { number = 0; set = 0; base = 0 }; view = 0 })
+
+unfoldable pub countedVote : ℕ → ℕ → List ℕ → ℕ → ℕ → Vote
+countedVote n q votes arrived p = voteIf (not (eqb p q) && has p arrived && formedVote n p (slotVote votes p)) (slotVote votes p)
 
 unfoldable pub bufferBallots : ℕ → ℕ → List ℕ → ℕ → Ballots
 bufferBallots n q votes arrived p = cond (has p (arrivedIn n q votes arrived)) (some (slotVote votes p)) none

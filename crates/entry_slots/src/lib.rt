@@ -8,7 +8,7 @@ ghost use Rattle.sets.specs.Sets.{has, those};
 ghost use Rattle.rules.specs.OneCycle.{is};
 ghost use Rattle.rules.specs.Ballots.{voteAt};
 ghost use Rattle.frames.specs.Written.{formedVote};
-ghost use Rattle.entry_slots.specs.Slots.{slotVote, arrivedIn, bufferBallots};
+ghost use Rattle.entry_slots.specs.Slots.{slotVote, voteIf, countedVote, arrivedIn, bufferBallots};
 use rules::Vote;
 use state::Group;
 
@@ -42,7 +42,25 @@ fn has_arrived(n: usize, q: usize, v: Vote, arrived: u64, p: usize) -> bool
     frame_reading::formed_vote(n, p, v)
 }
 
-// Reads the slots into four arrays, and gives the nodes whose vote counts. One pass, since this is most of a decision's work. Free: the
+// The vote v, or zeros: what a host left in a slot that holds no vote is not looked at.
+fn vote_if(yes: bool, v: Vote) -> Vote
+    ensures { λ r. ⌜ r ≡ voteIf yes v ⌝ }
+{
+    if yes {
+        v
+    } else {
+        Vote {
+            group: Group {
+                number: 0,
+                set: 0,
+                base: 0,
+            },
+            view: 0,
+        }
+    }
+}
+
+// Reads the votes that count into four arrays, and gives their nodes. One pass, since this is most of such a decision's work. Free: the
 // places of the arrays from n on.
 pub fn read_votes(
     n: usize,
@@ -57,18 +75,20 @@ pub fn read_votes(
     requires { ⌜ (n ≤ 64) × (length (now votes) ≡ 1792) ⌝ }
     requires { ⌜ (length (now numbers) ≡ 64) × (length (now sets) ≡ 64) × (length (now bases) ≡ 64) × (length (now views) ≡ 64) ⌝ }
     ensures { λ r. ⌜ r ≡ arrivedIn n q (now (votes .entry)) arrived ⌝ }
-    ensures { λ _. ⌜ ((p : ℕ) → p < n → voteAt (now (numbers .exit)) (now (sets .exit)) (now (bases .exit)) (now (views .exit)) p ≡ slotVote (now (votes .entry)) p) ⌝ }
+    ensures { λ _. ⌜ ((p : ℕ) → p < n → voteAt (now (numbers .exit)) (now (sets .exit)) (now (bases .exit)) (now (views .exit)) p ≡ countedVote n q (now (votes .entry)) arrived p) ⌝ }
 {
     let mut m: u64 = 0;
     let mut p: usize = 0;
     while p < n {
-        let v = slot_vote(votes, p);
+        let w = slot_vote(votes, p);
+        let counts = has_arrived(n, q, w, arrived, p);
+        let v = vote_if(counts, w);
         let g = v.group;
         numbers[p] = g.number;
         sets[p] = g.set;
         bases[p] = g.base;
         views[p] = v.view;
-        m = sets::include(m, p, has_arrived(n, q, v, arrived, p));
+        m = sets::include(m, p, counts);
         p += 1;
     }
     m
@@ -79,6 +99,10 @@ fn holds(n: usize, q: usize, votes: &[u8], arrived: u64, v: Vote, p: usize) -> b
     requires { ⌜ (n ≤ 64) × (p < n) × (length (now votes) ≡ 1792) ⌝ }
     ensures { λ r. ⌜ r ≡ is v (bufferBallots n q (now (votes .entry)) arrived p) ⌝ }
 {
+    // first, since a slot that holds no vote is not looked at
+    if !sets::contains(arrived, p) {
+        return false;
+    }
     let w = slot_vote(votes, p);
     if frame_reading::same_vote(v, w) {
         has_arrived(n, q, w, arrived, p)

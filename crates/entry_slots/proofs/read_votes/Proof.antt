@@ -6,9 +6,10 @@ use Rattle.sets.specs.Sets.{those}
 use Rattle.sets.proofs.Nodes.{those-none, those-next, those-end}
 use Rattle.rules.specs.declared.Vote.{Vote}
 use Rattle.rules.specs.Ballots.{voteAt}
-use Rattle.entry_slots.specs.Slots.{slotVote, arrivedIn}
-use Rattle.entry_slots.proofs.Buffers.{counts, filled}
+use Rattle.entry_slots.specs.Slots.{slotVote, countedVote, arrivedIn}
+use Rattle.entry_slots.proofs.Buffers.{counts, filled, counted-vote}
 use native.Mathlib.Omega.{arith}
+use borrow.Author.Needs.{needs}
 use Rattle.entry_slots.proofs.read_votes.Statement.{statement}
 use Rattle.entry_slots.proofs.read_votes.Tie as tie
 
@@ -23,7 +24,7 @@ Inv-loop n q votes arrived numbers₀ sets₀ bases₀ views₀ m₀ p₀ number
     × (length bases ≡ 64)
     × (length views ≡ 64)
     × (m ≡ those p (λ x. counts n q arrived x (slotVote votes x)))
-    × ((i : ℕ) → i < p → voteAt numbers sets bases views i ≡ slotVote votes i)
+    × ((i : ℕ) → i < p → voteAt numbers sets bases views i ≡ countedVote n q votes arrived i)
 
 abbrev μ-loop : tie.MeasureT-loop
 μ-loop n q votes arrived numbers₀ sets₀ bases₀ views₀ m₀ p₀ numbers sets bases views m p = n - p
@@ -63,6 +64,9 @@ element-write-views c = omega arith
 has-arrived-requires : tie.Need-has-arrived-requires Inv-loop μ-loop
 has-arrived-requires c κs = (omega arith, omega arith)
 
+vote-if-requires : tie.Need-vote-if-requires Inv-loop μ-loop
+vote-if-requires c κs = search needs
+
 include-requires : tie.Need-include-requires Inv-loop μ-loop
 include-requires c κs = omega arith
 
@@ -74,30 +78,33 @@ loop-less c = omega arith
 
 loop-again : tie.Need-loop-again Inv-loop μ-loop
 loop-again c =
-    let a = c .before .before .before .before .before .before .before .args in
-    let l = c .before .before .before .before .before .loop in
-    let v = c .before .before .before .slot-vote in
+    let v = c .before .before in
+    let h = v .before in
+    let w = h .before in
+    let t = w .before .before in
+    let a = t .before .before .args in
+    let l = t .loop in
     let inside : l .p < 64 = omega arith in (
       omega arith,
       simp length-set (l .inv .1),
       simp length-set (l .inv .2),
       simp length-set (l .inv .3),
       simp length-set (l .inv .4),
-      those-next _ _ _ _ _ (l .inv .5) (counted (a .n) (a .q) (a .arrived) (l .p) (v .result) (slotVote (a .votes .now) (l .p)) (c .before .has-arrived .ensures) (v .ensures)) (c .include .ensures),
+      those-next _ _ _ _ _ (l .inv .5) (counted (a .n) (a .q) (a .arrived) (l .p) (w .slot-vote .result) (slotVote (a .votes .now) (l .p)) (h .has-arrived .ensures) (w .slot-vote .ensures)) (c .include .ensures),
       filled
           (l .numbers)
           (l .sets)
           (l .bases)
           (l .views)
           (l .p)
-          (slotVote (a .votes .now))
-          (v .result)
+          (countedVote (a .n) (a .q) (a .votes .now) (a .arrived))
+          (v .vote-if .result)
           inside
           (l .inv .1)
           (l .inv .2)
           (l .inv .3)
           (l .inv .4)
-          (v .ensures)
+          (counted-vote (a .n) (a .q) (a .votes .now) (a .arrived) (l .p) _ _ _ (w .slot-vote .ensures) (h .has-arrived .ensures) (v .vote-if .ensures))
           (l .inv .6),
     )
 
@@ -116,6 +123,8 @@ read-votes-spec =
     μ-loop
     loop-holds
     slot-vote-requires
+    has-arrived-requires
+    vote-if-requires
     mul-numbers
     element-write-numbers
     mul-sets
@@ -124,7 +133,6 @@ read-votes-spec =
     element-write-bases
     mul-views
     element-write-views
-    has-arrived-requires
     include-requires
     add-p
     loop-less
