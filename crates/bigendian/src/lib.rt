@@ -1,4 +1,6 @@
 // Numbers of four and eight bytes, highest byte first.
+#![tactic(auto)]
+
 ghost use Rattle.std.specs.Prelude.{◌≡◌, ◌+◌, ◌≤◌, ◌<◌, length};
 ghost use Rattle.bigendian.specs.BigEndian.{bytes_of, number_at};
 

@@ -13,7 +13,7 @@ use frames::HeartbeatReceived;
 use rules::Config;
 
 // The heartbeats that a unit received: those with join 0, those with join 1, and those of members that request.
-#[derive(Drop)]
+#[derive(Clone, Copy)]
 struct Heard {
     alive: u64,
     joining: u64,
@@ -21,7 +21,7 @@ struct Heard {
 }
 
 // What the heartbeats of a cycle give: the view of each node, and the members that vote.
-#[derive(Drop)]
+#[derive(Clone, Copy)]
 pub struct Seen {
     pub views: [u64; 64],
     pub voting: u64,

@@ -8,7 +8,7 @@ use rules::Vote;
 use state::Group;
 
 // The votes that a unit received, a slot for each sender, and the mask of the slots that hold one.
-#[derive(Drop)]
+#[derive(Clone, Copy)]
 pub struct Arrived {
     pub present: u64,
     pub numbers: [u32; 64],

@@ -138,7 +138,7 @@ fn with_member(w: Roles, q: usize, request: bool) -> Roles
 
 // A member that stays on its vote, for those that decide the same: the members that cast its vote, the set of its group, the votes that it counts, its new
 // group, and whether it requests.
-#[derive(Drop)]
+#[derive(Clone, Copy)]
 struct Followed {
     votes: u64,
     set: u64,

@@ -13,7 +13,7 @@ use rules::{Config, Marks};
 use state::Group;
 
 // What a cycle did: the roles and what is watched after it, whether it met the premise, and who halted and entered in it.
-#[derive(Drop)]
+#[derive(Clone, Copy)]
 pub struct Turn {
     pub roles: Roles,
     pub watch: Watch,

@@ -10,7 +10,7 @@ use state::{Group, Reason, State};
 // and the group that each member holds. Masks and arrays, so that a cycle works on all nodes at once. Contracts speak of the row that they stand for (`row_of`). What it does
 // not show is free, and no row after it depends on that: mask bits of nodes from N on and of nodes in a mask named before, requests and groups of nodes that are no
 // members.
-#[derive(Drop)]
+#[derive(Clone, Copy)]
 pub struct States {
     pub members: u64,
     pub asking: u64,
@@ -40,7 +40,7 @@ pub fn begin(n: usize, founding: u64) -> States
 }
 
 // The masks of the states alone: rule 1 leaves the groups as they are.
-#[derive(Drop)]
+#[derive(Clone, Copy)]
 pub struct Roles {
     pub members: u64,
     pub asking: u64,

@@ -8,7 +8,7 @@ ghost use Rattle.cluster_watched.specs.Watched.{misses_at};
 use state::Group;
 
 // The reference group, if it is defined (else any group, which `reference_of` does not show), and the nodes that were disturbed in the last cycle.
-#[derive(Drop)]
+#[derive(Clone, Copy)]
 pub struct Watch {
     pub defined: bool,
     pub group: Group,

@@ -1,4 +1,6 @@
 // The header check and the frame check of FlexRay frames, bit by bit. Each function is its definition of specs/.
+#![tactic(auto)]
+
 ghost use Rattle.std.specs.Prelude.{◌≡◌, ◌^◌, ◌≤◌, ◌<◌};
 ghost use Rattle.crc.specs.Crc.{
   Register,

@@ -67,6 +67,6 @@ pub fn begin(n: u32, node: u32, founding: u64, state: &mut [u8]) -> u32
         id: node as u8,
         nodes: n as u8,
     });
-    bytes::copy(&image, state);
+    parts::copy(&image, state);
     0
 }

@@ -84,7 +84,7 @@ pub fn next_state(
 
 // What a member goes on with, where the buffer tells it without arrays, as in most cycles: its own vote has a quorum, or it did not vote and too few votes
 // came for one. Where nothing is told all votes have to be looked at.
-#[derive(Drop)]
+#[derive(Clone, Copy)]
 pub struct Going {
     pub told: bool,
     pub group: Group,
@@ -192,7 +192,7 @@ fn put_state(s: State, state: &mut [u8])
         id: state[2],
         nodes: state[3],
     };
-    bytes::copy(&state_encoding::encode(next), state);
+    parts::copy(&state_encoding::encode(next), state);
 }
 
 // Rules 3 to 6: the next state, from what the node heard and the votes that arrived.

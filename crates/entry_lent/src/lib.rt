@@ -6,7 +6,7 @@ ghost use Rattle.entry_lent.specs.Found.{in_image, lent_node, lent_state};
 use state::{Decoded, Node};
 
 // A state image that is lent: the node that it holds, or the number of a refusal.
-#[derive(Drop)]
+#[derive(Clone, Copy)]
 pub enum Lent {
     Holds(Node),
     Refused(u32),

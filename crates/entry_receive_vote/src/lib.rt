@@ -15,7 +15,7 @@ pub fn read(n: u32, node: u32, cycle: u32, channel: u32, frame: &[u8], vote: &mu
     }
     match frame_reading::read_vote(n as usize, node, cycle, channel, frame) {
         VoteRead::Whole(v) => {
-            bytes::copy(&frame_writing::vote_payload(v), vote);
+            parts::copy(&frame_writing::vote_payload(v), vote);
             0
         }
         VoteRead::Refused(f) => frame_reading::fault_code(f),

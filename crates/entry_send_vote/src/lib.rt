@@ -89,7 +89,7 @@ fn send_of(
         State::Member(g, asks) => {
             let v = own_vote(n, g, heard0, heard1);
             if votes_with(quiet, n, g, asks, v.view, heard0, requests) {
-                bytes::copy(
+                parts::copy(
                     &frame_writing::write_vote(n.id as u32, v, cycle, channel),
                     frame,
                 );

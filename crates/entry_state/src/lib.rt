@@ -8,7 +8,7 @@ use entry_lent::Lent;
 use state::{Group, State};
 
 // What the image of a state has beside the node's place.
-#[derive(Drop)]
+#[derive(Clone, Copy)]
 struct Numbers {
     kind: u32,
     reason: u32,

@@ -25,7 +25,7 @@ fn rule_one(mode: u32, stop: bool, start: bool, state: &mut [u8]) -> u32
     match entry_lent::lent_state(mode, state) {
         Lent::Holds(n) => {
             let image = state_encoding::encode(stopped_and_started(stop, start, n));
-            bytes::copy(&image, state);
+            parts::copy(&image, state);
             0
         }
         Lent::Refused(r) => r,

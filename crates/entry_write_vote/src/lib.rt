@@ -61,6 +61,6 @@ pub fn write(
     if status != 0 {
         return status;
     }
-    bytes::copy(&frame_writing::write_vote(node, v, cycle, channel), frame);
+    parts::copy(&frame_writing::write_vote(node, v, cycle, channel), frame);
     0
 }

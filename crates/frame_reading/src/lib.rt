@@ -189,7 +189,7 @@ pub fn put_drive(s: &[u8], buffer: &mut [u8]) -> u32
     ensures buffer_after { buffer.new ≡ at_front (drive_of s.now) buffer.old }
 {
     let end = s.len() - 3;
-    bytes::copy(&s[7..end], buffer) as u32
+    parts::copy(&s[7..end], buffer) as u32
 }
 
 // Whether two votes say the same.

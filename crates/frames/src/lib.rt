@@ -2,7 +2,7 @@
 use rules::Vote;
 
 // Why a frame is refused, in the order looked at.
-#[derive(Drop)]
+#[derive(Clone, Copy)]
 pub enum Fault {
     Length,
     HeaderCheck,
@@ -13,7 +13,7 @@ pub enum Fault {
 }
 
 // What reading a heartbeat finds: a member's, a joining node's, a member's that requests, or a refusal.
-#[derive(Drop)]
+#[derive(Clone, Copy)]
 pub enum HeartbeatRead {
     Alive,
     Join,
@@ -22,14 +22,14 @@ pub enum HeartbeatRead {
 }
 
 // What reading a vote finds.
-#[derive(Drop)]
+#[derive(Clone, Copy)]
 pub enum VoteRead {
     Whole(Vote),
     Refused(Fault),
 }
 
 // What comes of the two copies of a heartbeat.
-#[derive(Drop)]
+#[derive(Clone, Copy)]
 pub enum HeartbeatReceived {
     Missed,
     Alive,
@@ -38,7 +38,7 @@ pub enum HeartbeatReceived {
 }
 
 // Which of the two copies of a heartbeat counts.
-#[derive(Drop)]
+#[derive(Clone, Copy)]
 pub enum Copy {
     Neither,
     OnA,
@@ -46,21 +46,21 @@ pub enum Copy {
 }
 
 // What comes of the two copies of a heartbeat, and whose drive bytes count.
-#[derive(Drop)]
+#[derive(Clone, Copy)]
 pub struct HeartbeatCounted {
     pub heard: HeartbeatReceived,
     pub copy: Copy,
 }
 
 // What comes of the two copies of a vote.
-#[derive(Drop)]
+#[derive(Clone, Copy)]
 pub enum VoteReceived {
     Missed,
     Whole(Vote),
 }
 
 // What refusals 5 to 9 leave of a frame.
-#[derive(Drop)]
+#[derive(Clone, Copy)]
 pub enum Looked {
     Due,
     Refused(Fault),

@@ -6,7 +6,7 @@ ghost use Rattle.print_answers.specs.Answers.{name_of, usage_line, hint_line, mo
 use print_options::{Asked, Program};
 
 // What failed: a read, or a write.
-#[derive(Drop)]
+#[derive(Clone, Copy)]
 pub enum Failed {
     Read,
     Write,

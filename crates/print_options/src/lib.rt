@@ -3,14 +3,14 @@ ghost use Rattle.std.specs.Prelude.{◌≡◌, replicate};
 ghost use Rattle.print_options.specs.Options.{is_quiet, asked_by, argument_room, goes_aside};
 
 // The programs: grouprun, for presses that vote in every cycle, and quietrun, for quiet ones.
-#[derive(Drop)]
+#[derive(Clone, Copy)]
 pub enum Program {
     Group,
     Quiet,
 }
 
 // What is asked for: the run of a table, the help, the version, or nothing that there is.
-#[derive(Drop)]
+#[derive(Clone, Copy)]
 pub enum Asked {
     Run,
     Help,

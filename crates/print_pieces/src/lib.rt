@@ -9,7 +9,7 @@ use rules::Config;
 
 // A table's run between two records: whether its first record is read, and the mode; and then its nodes, the number of the next cycle, who is what, and
 // what is watched. The caller holds the groups of the nodes, in three arrays.
-#[derive(Drop)]
+#[derive(Clone, Copy)]
 pub struct Session {
     pub begun: bool,
     pub config: Config,
@@ -19,7 +19,7 @@ pub struct Session {
 }
 
 // What one record gave: the session after it, the bytes of the table that it took, the cursor after what it wrote, and whether that was the last.
-#[derive(Drop)]
+#[derive(Clone, Copy)]
 pub struct Piece {
     pub session: Session,
     pub taken: usize,

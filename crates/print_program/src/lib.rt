@@ -10,7 +10,7 @@ use print_options::{Asked, Program};
 use print_stream::Taken;
 
 // A run between two reads: what the last call left, how many reads there were, and whether the last read or the last write failed.
-#[derive(Drop)]
+#[derive(Clone, Copy)]
 pub struct Run {
     pub last: Taken,
     pub reads: u64,
@@ -19,7 +19,7 @@ pub struct Run {
 }
 
 // What a program did: it printed a run, which ended so, or it answered its arguments.
-#[derive(Drop)]
+#[derive(Clone, Copy)]
 pub enum Done {
     Printed(Run),
     Answered,

@@ -6,7 +6,7 @@ ghost use Rattle.print_stream.specs.Stream.{Begins, Takes};
 use print_pieces::Session;
 
 // What a call leaves: the session, how many bytes it keeps in the front of the window, where the text to be written ends, and whether that is the last.
-#[derive(Drop)]
+#[derive(Clone, Copy)]
 pub struct Taken {
     pub session: Session,
     pub kept: usize,

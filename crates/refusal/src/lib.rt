@@ -1,1 +1,2 @@
 // How the refusals of a call are stated; no code.
+#![tactic(auto)]

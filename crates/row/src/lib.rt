@@ -9,7 +9,7 @@ use cluster_states::{Roles, States};
 use state::{Node, State};
 
 // What the walk over a row finds: the states of its entries, and whether each is the node of its place.
-#[derive(Drop)]
+#[derive(Clone, Copy)]
 pub struct Gathered {
     pub states: States,
     pub good: bool,

@@ -10,7 +10,7 @@ use state::{Group, Node, Reason, State};
 // Before the bytes of a call stand its task, N, the mode, how many entries of the row are lent, and the length in two bytes.
 const HEAD: usize = 6;
 
-#[derive(Drop)]
+#[derive(Clone, Copy)]
 pub struct Head {
     pub task: Task,
     pub nodes: u32,
@@ -20,7 +20,7 @@ pub struct Head {
 }
 
 // What a call answered, and the row that it left.
-#[derive(Drop)]
+#[derive(Clone, Copy)]
 pub struct Called {
     pub status: u32,
     pub row: [Node; 9],

@@ -1,4 +1,6 @@
 // Rules 1 to 4 of one node, whether it votes, and the group that a vote gives. Votes are lent as four arrays, a slot for each sender, and the mask of the slots that hold one.
+#![tactic(auto)]
+
 ghost use Rattle.std.specs.Prelude.{◌≡◌, true, false, ◌&&◌, ◌<◌, ◌≤◌, get_or};
 ghost use Rattle.sets.specs.Sets.{◌∪◌, ◌∖◌};
 ghost use Rattle.rules.specs.OneCycle.{wrong_mode, quiet_in, stop_and_start, sends_member, sends_join, asks as does_ask, view_of, called, will_vote, same_group, same_vote, is, group_with, request_with};

@@ -20,7 +20,7 @@ use rules::Config;
 const FRAMES: usize = 9216;
 
 // What a call answers: where it is not refused, N and the states that it leaves; else N 0 and the states as they came.
-#[derive(Drop)]
+#[derive(Clone, Copy)]
 pub struct Outcome {
     pub status: u32,
     pub nodes: u8,

@@ -1,4 +1,6 @@
 // Sets of nodes as 64-bit masks, and quorums. Each function is the set operation of specs/.
+#![tactic(auto)]
+
 ghost use Rattle.std.specs.Prelude.{◌≡◌, cond, ◌<◌, ◌≤◌};
 ghost use Rattle.sets.specs.Sets.{has, ◌∪◌, ◌∩◌, ◌∖◌, subset as is_subset};
 ghost use Rattle.sets.specs.Sets.{

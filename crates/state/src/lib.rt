@@ -1,9 +1,11 @@
 // The state of a node, and its 24-byte image.
+#![tactic(auto)]
+
 ghost use Rattle.std.specs.Prelude.{◌≡◌};
 ghost use Rattle.state.specs.State.{next_number};
 
 // Why a node is out: stopped or never started; it halted for want of a quorum; a quorum voted for another view than its own.
-#[derive(Drop)]
+#[derive(Clone, Copy)]
 pub enum Reason {
     Stopped,
     NoQuorum,
@@ -11,7 +13,7 @@ pub enum Reason {
 }
 
 // The group that a member holds: its number G, the set M of its members, and the base B of its quorums (the present and the previous group).
-#[derive(Drop)]
+#[derive(Clone, Copy)]
 pub struct Group {
     pub number: u32,
     pub set: u64,
@@ -19,7 +21,7 @@ pub struct Group {
 }
 
 // A member holds its group, and whether it requests in the next cycle: a bit of its heartbeat that wakes the votes of a quiet press.
-#[derive(Drop)]
+#[derive(Clone, Copy)]
 pub enum State {
     Out(Reason),
     Joining,
@@ -27,7 +29,7 @@ pub enum State {
 }
 
 // A node: its state, its number, and how many nodes the cluster has.
-#[derive(Drop)]
+#[derive(Clone, Copy)]
 pub struct Node {
     pub state: State,
     pub id: u8,
@@ -35,7 +37,7 @@ pub struct Node {
 }
 
 // What reading an image finds.
-#[derive(Drop)]
+#[derive(Clone, Copy)]
 pub enum Decoded {
     Good(Node),
     WrongLength,

@@ -1,4 +1,6 @@
 // The node of an image, if the image is one.
+#![tactic(auto)]
+
 ghost use Rattle.std.specs.Prelude.{◌≡◌, ◌&&◌, ◌≤◌, ◌<◌, eqb, ltb, length};
 ghost use Rattle.state.specs.State.{formed_place, formed_sets};
 ghost use Rattle.state.specs.Image.{is_zero, group_at, member_reason, reason_of, state_of, node_at, node_if, decoded};

@@ -1,4 +1,6 @@
 // A node's 24-byte image, written.
+#![tactic(auto)]
+
 ghost use Rattle.std.specs.Prelude.{◌≡◌, cond};
 ghost use Rattle.state.specs.State.{reason_code};
 ghost use Rattle.state.specs.Image.{kind_code, reason_byte, group_bytes, layout, image_of, no_group};

@@ -1,0 +1,5 @@
+use borrow.Author.Rules.{rules}
+use Rattle.sets.proofs.include.Goals as goal
+
+pub returns-then-yes : goal.returns-then-yes
+returns-then-yes c = cc

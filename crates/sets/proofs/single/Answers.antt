@@ -1,0 +1,6 @@
+use Rattle.sets.proofs.Machine.{bit_one}
+use borrow.Author.Rules.{rules}
+use Rattle.sets.proofs.single.Goals as goal
+
+pub returns : goal.returns
+returns c = bit_one c.args.q c.requires
