@@ -1,4 +1,6 @@
 // The states of all nodes of a cluster as masks and arrays: at the beginning, under rule 1, and one by one.
+#![tactic(auto)]
+
 ghost use Rattle.std.specs.Prelude.{◌≡◌, ◌<◌, ◌≤◌};
 ghost use Rattle.rules.specs.Faults.{founding as the_founding};
 ghost use Rattle.cluster_states.specs.States.{no_roles, row_of};

@@ -1,4 +1,6 @@
 // What is watched of a cluster: who was disturbed in a cycle, who was steady, and whether the cycle met the premise.
+#![tactic(auto)]
+
 ghost use Rattle.std.specs.Prelude.{◌≡◌, ◌&&◌, cond, ◌<◌, ◌≤◌};
 ghost use Rattle.sets.specs.Sets.{has, ◌∪◌, ◌∖◌, those, below, lowest};
 ghost use Rattle.sets.specs.Quorum.{quorum};

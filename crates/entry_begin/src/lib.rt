@@ -1,4 +1,6 @@
 // The entry that puts a node at the beginning.
+#![tactic(auto)]
+
 ghost use Rattle.std.specs.Prelude.{◌≡◌, ◌≤◌, ◌<◌};
 ghost use Rattle.state.specs.State.{initial as the_initial};
 ghost use Rattle.entry_lent.specs.Refusals.{wrong_founding};

@@ -1,4 +1,6 @@
 // The numbers, buffers and states that a C host passes: how they are refused, as definitions, tests of the numbers, and the node of a lent state.
+#![tactic(auto)]
+
 ghost use Rattle.std.specs.Prelude.{◌≡◌, ◌||◌};
 ghost use Rattle.entry_lent.specs.Refusals.{wrong_count, wrong_node, wrong_cycle, wrong_channel, wrong_indicators};
 ghost use Rattle.entry_lent.specs.Found.{in_image, lent_node, lent_state};

@@ -1,4 +1,6 @@
 // A state taken apart into its numbers.
+#![tactic(auto)]
+
 ghost use Rattle.std.specs.Prelude.{◌≡◌};
 ghost use Rattle.state.specs.Image.{kind_code, reason_byte, group_bytes};
 ghost use Rattle.entry_lent.specs.Found.{image_status};

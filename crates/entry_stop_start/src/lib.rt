@@ -1,4 +1,6 @@
 // Rule 1 on a state: stop and start.
+#![tactic(auto)]
+
 ghost use Rattle.std.specs.Prelude.{◌≡◌};
 ghost use Rattle.entry_lent.specs.Found.{lent_state, image_status};
 ghost use Rattle.entry_stop_start.specs.StopStart.{stopped_and_started, rule_one_of, stop_left, start_left};

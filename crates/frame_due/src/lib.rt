@@ -1,5 +1,7 @@
 // Refusals 8 and 9 of a frame that is read, by its header h, the five bytes as one number. Its fields begin at bit 39 (reserved), 38 (preamble), 37 (null frame), 36 (sync),
 // 35 (startup), 24 (frame number), 17 (length), 6 (header check) and 0 (cycle count).
+#![tactic(auto)]
+
 ghost use Rattle.std.specs.Prelude.{◌≡◌, ◌&&◌, List, ℕ};
 ghost use Rattle.bigendian.specs.BigEndian.{number_at};
 ghost use Rattle.frames.specs.Read.{is_due};

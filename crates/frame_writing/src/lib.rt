@@ -1,4 +1,6 @@
 // Heartbeat and vote frames, written.
+#![tactic(auto)]
+
 ghost use Rattle.std.specs.Prelude.{◌≡◌, false, ◌+◌, ◌≤◌, ◌<◌, length};
 ghost use Rattle.bigendian.specs.BigEndian.{bytes_of};
 ghost use Rattle.frames.specs.Written.{header, heartbeat_frame, wrong_drive, vote_payload, vote_frame};

@@ -1,4 +1,6 @@
 // Heartbeat and vote frames: how they are laid out and read, as definitions with their laws, and what reading one can find.
+#![tactic(auto)]
+
 use rules::Vote;
 
 // Why a frame is refused, in the order looked at.

@@ -1,4 +1,6 @@
 // The text that answers each of what a program's arguments ask for, and what it tells of a failure.
+#![tactic(auto)]
+
 ghost use Rattle.std.specs.Prelude.{◌++◌, ◌+◌, ◌≤◌, length};
 ghost use Rattle.print_text.specs.Text.{Appended};
 ghost use Rattle.print_answers.specs.Answers.{name_of, usage_line, hint_line, mode_text, about_text, options_text, refusals_text, help_text, answer_text, failure_line};

@@ -1,4 +1,6 @@
 // The lines that the program prints, each appended to a buffer.
+#![tactic(auto)]
+
 ghost use Rattle.std.specs.Prelude.{◌+◌, ◌≤◌, length};
 ghost use Rattle.print_text.specs.Text.{Appended};
 ghost use Rattle.cluster_watched.specs.Watched.{reference_of};

@@ -1,4 +1,6 @@
 // The programs and their modes, what their arguments ask for, and where the answers go.
+#![tactic(auto)]
+
 ghost use Rattle.std.specs.Prelude.{◌≡◌, replicate};
 ghost use Rattle.print_options.specs.Options.{is_quiet, asked_by, argument_room, goes_aside};
 

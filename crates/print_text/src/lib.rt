@@ -1,5 +1,7 @@
 // Text appended to a lent buffer at a cursor: bytes, masks in hexadecimal, numbers in decimal.
 // Each function returns the cursor after what it wrote, and leaves every other byte as it was.
+#![tactic(auto)]
+
 ghost use Rattle.std.specs.Prelude.{◌≡◌, [], ◌∷◌, ◌+◌, ◌≤◌, ◌<◌, length};
 ghost use Rattle.print_text.specs.Text.{digits, hex_text, places as places_in, decimal_text, Appended};
 ghost use Rattle.print_text.specs.Text.{glyph as the_glyph};

@@ -1,4 +1,6 @@
 // What a program has read of its input and not yet used, and what a stream of records gives of it, in chunks of any size.
+#![tactic(auto)]
+
 ghost use Rattle.std.specs.Prelude.{◌≡◌, ◌+◌, ◌-◌, ◌≤◌, length, take, drop};
 ghost use Rattle.parts.specs.Parts.{with_part};
 

@@ -1,4 +1,6 @@
 // One entry of a row: whether it is in order, its state among those of all nodes, and the node that it becomes.
+#![tactic(auto)]
+
 ghost use Rattle.std.specs.Prelude.{◌≡◌, ◌<◌, ◌≤◌, length, true};
 ghost use Rattle.state.specs.State.{formed_state};
 ghost use Rattle.cluster_states.specs.States.{roles_of, states_of, state_at};

@@ -1,4 +1,6 @@
 // Rule 6 of one joining node. Votes are lent as four arrays, a slot for each sender, and the mask of the slots that hold one.
+#![tactic(auto)]
+
 ghost use Rattle.std.specs.Prelude.{◌≡◌, true, false, ◌&&◌, ℕ, ◌<◌, ◌≤◌};
 ghost use Rattle.sets.specs.Sets.{has, ◌∩◌, ◌∖◌, lowest as the_lowest};
 ghost use Rattle.sets.specs.Quorum.{quorum};

@@ -1,4 +1,6 @@
 // Whether some V has a quorum of the votes with a group. Votes are lent as four arrays, a slot for each sender, and the mask of the slots that hold one.
+#![tactic(auto)]
+
 ghost use Rattle.std.specs.Prelude.{◌≡◌, ◌&&◌, cond, ◌<◌, ◌≤◌, eqb};
 ghost use Rattle.sets.specs.Sets.{has, ◌∩◌, any, single as the_single, lowest as the_lowest};
 ghost use Rattle.sets.specs.Quorum.{quorum};

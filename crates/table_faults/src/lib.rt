@@ -1,4 +1,6 @@
 // The faults of a cycle, from its record.
+#![tactic(auto)]
+
 ghost use Rattle.std.specs.Prelude.{◌≡◌, cond, ◌/◌, ◌%◌, ◌≤◌, eqb, length, set, replicate};
 ghost use Rattle.table.specs.Records.{cycle_length, faults_at, marks_at};
 

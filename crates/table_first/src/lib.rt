@@ -1,4 +1,6 @@
 // The first record of a table file, and what it shares with the others.
+#![tactic(auto)]
+
 ghost use Rattle.std.specs.Prelude.{◌≡◌, true, ◌||◌, cond, ◌-◌, ◌≤◌, ◌<◌, eqb, ltb, length};
 ghost use Rattle.table.specs.Records.{marked, is_kind, beyond, count_at, founding_at, wrong_row, start_refusal};
 

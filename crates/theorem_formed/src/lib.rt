@@ -1,1 +1,2 @@
 // Every state that the rules give is well formed; no code.
+#![tactic(auto)]

@@ -1,0 +1,7 @@
+use Rattle.cluster_states.specs.Decided.{roles_after}
+use borrow.Author.Rules.{rules}
+use Rattle.cluster_states.proofs.rule_one.Goals as goal
+
+pub returns : goal.returns
+unfolding roles_after
+returns c = cc

@@ -1,0 +1,38 @@
+use mathlib.Core.Path.{◌≡◌, sym, ◌∙◌}
+use mathlib.Core.Bool.{false}
+use borrow.Author.Tests.{le-leb, lt-leb, ne_eqb}
+use Rattle.refusal.specs.Refusal.{first}
+use Rattle.entry_lent.specs.Refusals.{wrong_count}
+use Rattle.entry_begin.specs.Begin.{begin_status}
+use Rattle.entry_lent.proofs.Bounds.{count_bounds}
+use borrow.Author.Rules.{rules}
+use Rattle.entry_begin.proofs.begin_refusal.Goals as goal
+use Rattle.entry_begin.proofs.begin_refusal.Goals.{Else-wrong_count}
+
+few : (c : Else-wrong_count) → wrong_count c.args.n ≡ false
+few c = sym c.wrong_count.ensures ∙ c.if-wrong_count.false
+
+pub returns-then-wrong_count : goal.returns-then-wrong_count
+unfolding begin_status first
+returns-then-wrong_count c = simp (sym c.wrong_count.ensures ∙ c.if-wrong_count.true)
+
+pub returns-then-n-node : goal.returns-then-n-node
+unfolding begin_status first
+returns-then-n-node c = simp (few c.before, le-leb _ _ c.if-n-node.true)
+
+pub returns-then-state-ne24 : goal.returns-then-state-ne24
+unfolding begin_status first
+returns-then-state-ne24 c = simp (few c.before.before, lt-leb _ _ c.if-n-node.false, ne_eqb _ _ c.if-state-ne24.true)
+
+pub wrong_founding-requires : goal.wrong_founding-requires
+wrong_founding-requires c = (count_bounds _ (few c.before.before)).1
+
+pub returns-then-wrong_founding : goal.returns-then-wrong_founding
+unfolding begin_status first
+returns-then-wrong_founding c =
+    simp (few c.before.before.before.before, lt-leb _ _ c.if-n-node.false, c.if-state-ne24.false, sym c.wrong_founding.ensures ∙ c.if-wrong_founding.true)
+
+pub returns : goal.returns
+unfolding begin_status first
+returns c =
+    simp (few c.before.before.before.before, lt-leb _ _ c.if-n-node.false, c.if-state-ne24.false, sym c.wrong_founding.ensures ∙ c.if-wrong_founding.false)

@@ -1,0 +1,9 @@
+use mathlib.Core.Path.{sym, ◌∙◌}
+use borrow.Author.Rules.{rules}
+use Rattle.entry_begin.proofs.initial.Goals as goal
+
+pub returns-then-contains : goal.returns-then-contains
+returns-then-contains c = simp (sym c.contains.ensures ∙ c.if-contains.true)
+
+pub returns-else-contains : goal.returns-else-contains
+returns-else-contains c = simp (sym c.contains.ensures ∙ c.if-contains.false)

@@ -1,0 +1,7 @@
+use Rattle.entry_stop_start.specs.StopStart.{start_left}
+use borrow.Author.Rules.{rules}
+use Rattle.entry_stop_start.proofs.start.Goals as goal
+
+pub returns : goal.returns
+unfolding start_left
+returns c = let told = c.rule_one.ensures in record { value = told.0; state_after = told.1 }

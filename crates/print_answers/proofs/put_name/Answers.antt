@@ -1,0 +1,15 @@
+-- `print_answers::put_name` meets its contract. Assumes nothing.
+use mathlib.Core.Path.{sym, ap}
+use borrow.Author.Rules.{rules}
+use Rattle.print_text.specs.Text.{ascii}
+use Rattle.print_text.proofs.Appending.{same}
+use Rattle.print_answers.specs.Answers.{name_of}
+use Rattle.print_answers.proofs.put_name.Goals as goal
+
+pub returns-in-Group : goal.returns-in-Group
+unfolding name_of ascii
+returns-in-Group c = let p = c.before.before in same (sym (ap name_of p.in-Group.is)) p.put.ensures
+
+pub returns-in-Quiet : goal.returns-in-Quiet
+unfolding name_of ascii
+returns-in-Quiet c = let p = c.before.before in same (sym (ap name_of p.in-Quiet.is)) p.put-in-Quiet.ensures

@@ -1,0 +1,11 @@
+-- `print_text::put_digits` meets its contract. The loop's invariant: the digits from place i on are stored. Assumes nothing.
+use native.Mathlib.Nat.{mod-lt}
+use native.Mathlib.Omega.{arith}
+use Rattle.print_text.proofs.Digits.{Stored, stored-none, stored_more, stored-all}
+use Rattle.print_text.proofs.put_digits.Given as goal
+
+abbrev pub invariant-loop-i : goal.invariant-loop-i
+invariant-loop-i l = Stored l.base l.count l.x l.initial.out l.at l.out l.i l.rest
+
+abbrev pub decreases-loop-i : goal.decreases-loop-i
+decreases-loop-i l = l.i

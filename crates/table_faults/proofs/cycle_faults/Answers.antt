@@ -1,0 +1,10 @@
+-- `table_faults::cycle_faults` meets its contract. Assumes nothing.
+use borrow.Author.Rules.{rules}
+use Rattle.table.proofs.Missed.{faults_are}
+use Rattle.table_faults.proofs.cycle_faults.Goals as goal
+
+pub returns : goal.returns
+returns c =
+    let m = c.marks_at-m in
+    let e = c.cycle_missed.ensures in
+    faults_are _ m.result _ _ m.ensures e.0 e.1

@@ -1,0 +1,15 @@
+-- The invariant: after i entries each place of the two rows holds what `missed_of` says. Assumes nothing.
+use mathlib.Core.Path.{◌≡◌, refl, ◌∙◌}
+use Prim.Native.Nat.{◌+◌, ◌≤◌, ◌-◌}
+use native.Mathlib.Omega.{arith}
+use Rattle.rules.specs.Faults.{tabulate}
+use Rattle.table.specs.Records.{missed_of}
+use Rattle.table.proofs.Missed.{row_none, heartbeat_turn, vote-turn, missed_end}
+use Rattle.table_faults.proofs.cycle_missed.Given as goal
+
+abbrev pub invariant-loop-i : goal.invariant-loop-i
+invariant-loop-i l =
+    (l.i ≤ l.count) × (l.heartbeats ≡ tabulate 64 (λ q. missed_of l.s l.i q)) × (l.votes ≡ tabulate 64 (λ q. missed_of l.s l.i (128 + q)))
+
+abbrev pub decreases-loop-i : goal.decreases-loop-i
+decreases-loop-i l = l.count - l.i
