@@ -1,4 +1,5 @@
 -- What the entry begin answers and leaves. Assumes nothing.
+use Rattle.parts.specs.Parts.{at_front}
 use mathlib.Core.Path.{◌≡◌, refl, sym, ap, ◌∙◌}
 use mathlib.Core.List.{List, ◌++◌}
 use Prim.Native.Nat.{ℕ, ◌≤◌, ◌<◌}
@@ -23,7 +24,7 @@ begin_bounds n q F s e =
     ((count_bounds n a.0).1, leb-false n q b.0, length-is 24 s d.0)
 
 pub begun : (n q F : ℕ) (s image left : List ℕ) (t : State) → begin_status n q F s ≡ 0 → t ≡ initial 0 F q
-    → image ≡ image_of (record { state = t; id = q; nodes = n }) → left ≡ take (length image) image ++ drop (length image) s
+    → image ≡ image_of (record { state = t; id = q; nodes = n }) → left ≡ at_front image s
     → (0 ≡ begin_status n q F s) × (left ≡ begin_left n q F s)
 unfolding begin_left
 begun n q F s image left t e i m l =

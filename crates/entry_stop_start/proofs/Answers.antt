@@ -1,4 +1,5 @@
 -- What the entries stop and start answer and leave. Assumes nothing.
+use Rattle.parts.specs.Parts.{at_front}
 use mathlib.Core.Path.{◌≡◌, refl, sym, ap, ◌∙◌}
 use mathlib.Core.Bool.{Bool, true, false}
 use mathlib.Core.List.{List, ◌++◌}
@@ -17,7 +18,7 @@ use Rattle.entry_stop_start.specs.StopStart.{stopped_and_started, rule_one_of, s
 
 module _ (mode : ℕ) (stop· start· : Bool) (s : List ℕ) where
   pub ruled : (image left : List ℕ) (n m : Node) → lent_state mode s ≡ Holds n → m ≡ stopped_and_started stop· start· n → image ≡ image_of m
-      → left ≡ take (length image) image ++ drop (length image) s → (0 ≡ image_status mode s) × (left ≡ rule_one_of stop· start· (lent_state mode s) s)
+      → left ≡ at_front image s → (0 ≡ image_status mode s) × (left ≡ rule_one_of stop· start· (lent_state mode s) s)
   unfolding image_status
   ruled image left n m g t e l =
       let w : length image ≡ 24 = ap length e ∙ image_length m in

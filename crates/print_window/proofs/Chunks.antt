@@ -77,17 +77,17 @@ module _ {S : Type 0} (due : S → List ℕ → Report) (whole : S → List ℕ 
     kept-is =
         let part = take c.count (drop c.took.taken c.window) in
         let long : length part ≡ c.count =
-        ap (λ (n : ℕ). length (take n (drop c.took.taken c.window))) count-is ∙ left-length c.window have c.took.taken taken-within c.ranges ∙ sym count-is in
+        ap (λ (n : ℕ). length (take n (drop c.took.taken c.window))) count-is ∙ left-length c.window have c.took.taken taken-within c.fits ∙ sym count-is in
         let place : c.count ≡ 0 + length part = omega (arith, long) in
         c.keeps
         ∙ ap₂ take place c.took.moved
-        ∙ part-front 0 part c.window (omega (arith, long, c.ranges, c.took.rest))
+        ∙ part-front 0 part c.window (omega (arith, long, c.fits, c.took.rest))
 
     part-is : take c.count (drop c.took.taken c.window) ≡ drop c.took.taken (kept ++ read)
     unfolding have
     part-is =
         ap (λ (n : ℕ). take n (drop c.took.taken c.window)) count-is
-        ∙ sym (left-drop c.window have c.took.taken taken-within c.ranges)
+        ∙ sym (left-drop c.window have c.took.taken taken-within c.fits)
         ∙ ap (drop c.took.taken) c.shown
 
     told : GivenOn due z kept read z' kept' over t

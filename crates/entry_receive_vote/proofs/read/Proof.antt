@@ -1,4 +1,5 @@
 use mathlib.Core.Path.{◌≡◌, sym, ap, ◌∙◌}
+use Rattle.parts.specs.Parts.{at_front}
 use mathlib.Core.List.{List, [], ◌++◌}
 use Prim.Native.Nat.{ℕ}
 use lib.ListN.{length, take, drop}
@@ -40,7 +41,7 @@ module _ (n q cycle channel : ℕ) (f out : List ℕ) where
         )
 
     whole : (v : Vote) (a : List ℕ) {left : List ℕ} → read_vote n q cycle channel f ≡ Whole v → a ≡ vote_payload v
-        → left ≡ take (length a) a ++ drop (length a) out → (0 ≡ read_vote_status n q cycle channel f out) × (left ≡ read_vote_left n q cycle channel f out)
+        → left ≡ at_front a out → (0 ≡ read_vote_status n q cycle channel f out) × (left ≡ read_vote_left n q cycle channel f out)
     whole v a e k l =
         let r = answered (Whole v) e in
         let sized : length out ≡ 28 = (accepted n q cycle channel (length out) 28 [] z).sized in

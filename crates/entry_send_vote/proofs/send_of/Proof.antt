@@ -1,4 +1,5 @@
 -- `entry_send_vote::send_of` meets its contract: a member that votes sends its vote. Assumes nothing.
+use Rattle.parts.specs.Parts.{at_front}
 use mathlib.Core.Path.{◌≡◌, sym, ap, ◌∙◌}
 use mathlib.Core.Bool.{Bool, true, false, cond}
 use mathlib.Core.List.{List, ◌++◌}
@@ -30,7 +31,7 @@ module _ (quiet : Bool) (n : Node) (heard0 heard1 requests cycle channel : ℕ) 
       )
 
   voted : (w : List ℕ) {left : List ℕ} → length f ≡ 36 → votes_with quiet n g a v.view heard0 requests ≡ true → w ≡ vote_frame n.id v cycle channel
-      → left ≡ take (length w) w ++ drop (length w) f
+      → left ≡ at_front w f
       → (left ≡ vote_in quiet n n.state heard0 heard1 requests cycle channel f) × (1 ≡ votes_byte quiet n n.state heard0 heard1 requests)
   voted w sized e i l =
       let test = by_test true e in (

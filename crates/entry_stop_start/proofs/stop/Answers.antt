@@ -4,4 +4,4 @@ use Rattle.entry_stop_start.proofs.stop.Goals as goal
 
 pub returns : goal.returns
 unfolding stop_left
-returns c = let told = c.rule_one.ensures in record { value = told.0; state_after = told.1 }
+returns c = record { value = c.rule_one.ensures.value; state_after = c.rule_one.ensures.state_after }

@@ -1,4 +1,5 @@
 use mathlib.Core.Path.{◌≡◌, refl, sym, ap, ◌∙◌}
+use Rattle.parts.specs.Parts.{at_front}
 use mathlib.Core.Bool.{not}
 use mathlib.Core.List.{List, [], ◌∷◌, ◌++◌}
 use Prim.Native.Nat.{ℕ}
@@ -26,7 +27,7 @@ unfolding write_vote_left
 refused n q cycle channel r v f e h = (e, sym (unless-refused _ _ _ (λ z. h (e ∙ z))))
 
 written : {left : List ℕ} (n q cycle channel : ℕ) (v : Vote) (a f : List ℕ) → write_vote_status n q v cycle channel f ≡ 0 → a ≡ vote_frame q v cycle channel
-    → left ≡ take (length a) a ++ drop (length a) f → (0 ≡ write_vote_status n q v cycle channel f) × (left ≡ write_vote_left n q v cycle channel f)
+    → left ≡ at_front a f → (0 ≡ write_vote_status n q v cycle channel f) × (left ≡ write_vote_left n q v cycle channel f)
 unfolding write_vote_left
 written n q cycle channel v a f z e l =
     let sized : length f ≡ 36 = (taken n q cycle channel v f z).sized in

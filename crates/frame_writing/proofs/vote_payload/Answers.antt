@@ -28,9 +28,5 @@ whole v g m b w f₀ f₁ f₂ f₃ f₄ l eg em eb ew pg pm pb pw =
 
 pub returns : goal.returns
 returns c =
-    let p₄ = c.before in
-    let p₃ = p₄.before.before.before.before.before in
-    let p₂ = p₃.before.before.before.before.before in
-    let p₁ = p₂.before.before.before.before.before in
-    let a = p₁.args in
-    whole a.v _ _ _ _ _ p₁.put.new.0 p₂.put-2.new.0 p₃.put-3.new.0 p₄.put-4.new.0 (omega arith) p₁.write4.ensures p₂.write8.ensures p₃.write8-2.ensures p₄.write8-3.ensures p₁.put.ensures p₂.put-2.ensures p₃.put-3.ensures p₄.put-4.ensures
+    let a = c.args in
+    whole a.v _ _ _ _ _ c.put.new.f c.put-2.new.f c.put-3.new.f c.put-4.new.f (omega arith) c.write4.ensures c.write8.ensures c.write8-2.ensures c.write8-3.ensures c.put.ensures c.put-2.ensures c.put-3.ensures c.put-4.ensures

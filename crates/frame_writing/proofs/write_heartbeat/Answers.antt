@@ -16,7 +16,6 @@ use Rattle.frames.proofs.Payloads.{drive_bounds}
 use Rattle.frame_writing.proofs.Framed.{framed}
 use borrow.Author.Rules.{rules}
 use Rattle.frame_writing.proofs.write_heartbeat.Goals as goal
-use Rattle.frame_writing.proofs.write_heartbeat.Goals.{Start}
 
 whole : (q join request sync startup cycle channel : ℕ) (drive h c f₀ f₁ f₂ f₃ f₄ : List ℕ) (start check : ℕ) → length f₀ ≡ 10 + length drive
     → h ≡ header sync startup (q + 1) (1 + length drive / 2) cycle → start ≡ channel_start channel → check ≡ frame_check start (take (7 + length drive) f₃)
@@ -35,43 +34,33 @@ whole q join request sync startup cycle channel drive h c f₀ f₁ f₂ f₃ f�
 -- above all else: what is wrong in a frame is wrong here
 pub returns : goal.returns
 returns c =
-    let p₄ = c.before.before in
-    let w = p₄.before.before in
-    let k = w.before.before in
-    let n = k.before.before in
-    let p₃ = n.before.before.before in
-    let p₂ = p₃.before.before.before.before in
-    let p₁ = p₂.before.before.before.before.before in
-    let h = p₁.before.before in
-    let s = h.before.before.before.before in
-    let a = s.args in
-    whole a.q a.join a.request a.sync a.startup a.cycle a.channel a.drive.now _ _ a.frame.now p₁.put.new.0 p₂.put-2.new.0 p₃.put-3.new.0 p₄.put-4.new.0 _ _
-    s.requires.join_bound.1.1.1.1.1.1 h.header_bytes.ensures n.channel_start.ensures.value k.frame_check-check.ensures.value w.write3.ensures
-    p₁.put.ensures p₂.put-2.ensures p₃.put-3.ensures p₄.put-4.ensures
-
-few : (s : Start) → length s.args.drive.now ≤ 252
-few s = (drive_bounds s.args.drive.now s.requires.join_bound.1.1.1.1.1.0).1
+    let a = c.args in
+    whole a.q a.join a.request a.sync a.startup a.cycle a.channel a.drive.now _ _ a.frame.now c.put.new.f c.put-2.new.f c.put-3.new.f c.put-4.new.f _ _
+    c.requires.frame_len c.header_bytes.ensures c.channel_start.ensures.value c.frame_check-check.ensures.value c.write3.ensures
+    c.put.ensures c.put-2.ensures c.put-3.ensures c.put-4.ensures
 
 pub overflow_cast-words : goal.overflow_cast-words
-overflow_cast-words c = let b = few c.before.before in omega arith
+overflow_cast-words c =
+    let few : length c.args.drive.now ≤ 252 = (drive_bounds c.args.drive.now c.requires.drive_value).1 in
+    let b = few in omega arith
 
 pub overflow_add-words : goal.overflow_add-words
-overflow_add-words c = let b = few c.before.before in omega arith
+overflow_add-words c =
+    let few : length c.args.drive.now ≤ 252 = (drive_bounds c.args.drive.now c.requires.drive_value).1 in
+    let b = few in omega arith
 
 pub header_bytes-requires : goal.header_bytes-requires
-header_bytes-requires c = let b = few c.before.before.before in omega arith
+header_bytes-requires c =
+    let few : length c.args.drive.now ≤ 252 = (drive_bounds c.args.drive.now c.requires.drive_value).1 in
+    let b = few in omega arith
 
 pub slice_bounds-frame_check-end-2 : goal.slice_bounds-frame_check-end-2
 slice_bounds-frame_check-end-2 c =
-    let k = c.before.before.before in
-    let s = k.before.before.before.before.before.before.before.before.before.before.before.before.before.before.before.before in
-    let l : 7 + length s.args.drive.now ≤ length k.put-3.new.0 = omega (arith, k.frame-3-1.given) in
+    let l : 7 + length c.args.drive.now ≤ length c.put-3.new.f = omega (arith, c.frame-3-1.given) in
     sym (length-take-le _ _ l)
 
 pub put-requires-4 : goal.put-requires-4
 put-requires-4 c =
-    let k = c.before.before.before.before.before.before.before in
-    let s = k.before.before.before.before.before.before.before.before.before.before.before.before.before.before.before.before in
     let three : length c.write3.result ≡ 3 = ap length c.write3.ensures ∙ length_bytes 3 _ in
-    let l : 7 + length s.args.drive.now + length c.write3.result ≤ length k.put-3.new.0 = omega (arith, k.frame-3-1.given) in
+    let l : 7 + length c.args.drive.now + length c.write3.result ≤ length c.put-3.new.f = omega (arith, c.frame-3-1.given) in
     l

@@ -26,19 +26,13 @@ whole q v cycle channel h p c f₀ f₁ f₂ f₃ start check l eh ep es ek ec p
 
 pub slice_bounds-frame_check-end : goal.slice_bounds-frame_check-end
 slice_bounds-frame_check-end c =
-    let f = c.put-2.new.0 in
+    let f = c.put-2.new.f in
     let l : 33 ≤ length f = omega arith in
     sym (length-take-le 33 f l)
 
 pub returns : goal.returns
 returns c =
-    let p₃ = c.before in
-    let w = p₃.before.before.before in
-    let k = w.before in
-    let n = k.before.before in
-    let p₂ = n.before.before in
-    let p₁ = p₂.before.before.before.before.before in
-    let a = p₁.args in
-    whole a.q a.v a.cycle a.channel _ _ _ _ p₁.put.new.0 p₂.put-2.new.0 p₃.put-3.new.0 _ _ (omega arith)
-    p₁.header_bytes.ensures p₂.vote_payload.ensures n.channel_start.ensures.value k.frame_check.ensures.value
-    w.write3-c.ensures p₁.put.ensures p₂.put-2.ensures p₃.put-3.ensures
+    let a = c.args in
+    whole a.q a.v a.cycle a.channel _ _ _ _ c.put.new.f c.put-2.new.f c.put-3.new.f _ _ (omega arith)
+    c.header_bytes.ensures c.vote_payload.ensures c.channel_start.ensures.value c.frame_check.ensures.value
+    c.write3-c.ensures c.put.ensures c.put-2.ensures c.put-3.ensures

@@ -18,4 +18,4 @@ of_member id n s g a r e l f =
 pub returns-in-Member : goal.returns-in-Member
 returns-in-Member c =
     let a = c.args in
-    of_member a.id a.n a.s c.in-Member.is.0.0 c.in-Member.is.0.1.0 _ c.in-Member.is c.in-Member.known_told-1-own.given.0.1.1.0.1 c.sets_formed.ensures
+    of_member a.id a.n a.s c.in-Member.g c.in-Member.field-1 _ c.in-Member.is c.in-Member.known_told-1-own.given.0.1.1.0.1 c.sets_formed.ensures

@@ -7,4 +7,4 @@ pub returns : goal.returns
 returns c =
     let m = c.marks_at-m in
     let e = c.cycle_missed.ensures in
-    faults_are _ m.result _ _ m.ensures e.0 e.1
+    faults_are _ m.result _ _ m.ensures e.heartbeats_after e.votes_after

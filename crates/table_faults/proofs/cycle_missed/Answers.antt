@@ -10,7 +10,7 @@ pub bounds-s-35 : goal.bounds-s-35
 bounds-s-35 c = omega arith
 
 pub overflow_cast-count : goal.overflow_cast-count
-overflow_cast-count c = omega (arith, c.shared_slice_known-2-1.given 35)
+overflow_cast-count c = omega (arith, c.type_inv.s 35)
 
 pub loop-i-init : goal.loop-i-init
 loop-i-init c = (omega arith, c.requires.heartbeats_value.0 ∙ row_none (λ q. q) _, c.requires.heartbeats_value.1 ∙ row_none (λ q. 128 + q) _)
@@ -54,4 +54,4 @@ loop-i-preserved c =
     )
 
 pub returns : goal.returns
-returns c = let end = c.before in let told = missed_end _ end.loop-i.i _ _ end.loop-i.invariant.0 c.loop-i-test.false end.loop-i.invariant.1 end.loop-i.invariant.2 in record { heartbeats_after = told.0; votes_after = told.1 }
+returns c = let told = missed_end _ c.loop-i.i _ _ c.loop-i.invariant.0 c.loop-i-test.false c.loop-i.invariant.1 c.loop-i.invariant.2 in record { heartbeats_after = told.0; votes_after = told.1 }
