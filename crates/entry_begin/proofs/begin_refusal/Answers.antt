@@ -7,10 +7,6 @@ use Rattle.entry_begin.specs.Begin.{begin_status}
 use Rattle.entry_lent.proofs.Bounds.{count_bounds}
 use borrow.Author.Rules.{rules}
 use Rattle.entry_begin.proofs.begin_refusal.Goals as goal
-use Rattle.entry_begin.proofs.begin_refusal.Goals.{Else-wrong_count}
-
-few : (c : Else-wrong_count) → wrong_count c.args.n ≡ false
-few c = sym c.wrong_count.ensures ∙ c.if-wrong_count.false
 
 pub returns-then-wrong_count : goal.returns-then-wrong_count
 unfolding begin_status first
@@ -18,21 +14,29 @@ returns-then-wrong_count c = simp (sym c.wrong_count.ensures ∙ c.if-wrong_coun
 
 pub returns-then-n-node : goal.returns-then-n-node
 unfolding begin_status first
-returns-then-n-node c = simp (few c.before, le-leb _ _ c.if-n-node.true)
+returns-then-n-node c =
+    let few : wrong_count c.args.n ≡ false = sym c.wrong_count.ensures ∙ c.if-wrong_count.false in
+    simp (few, le-leb _ _ c.if-n-node.true)
 
 pub returns-then-state-ne24 : goal.returns-then-state-ne24
 unfolding begin_status first
-returns-then-state-ne24 c = simp (few c.before.before, lt-leb _ _ c.if-n-node.false, ne_eqb _ _ c.if-state-ne24.true)
+returns-then-state-ne24 c =
+    let few : wrong_count c.args.n ≡ false = sym c.wrong_count.ensures ∙ c.if-wrong_count.false in
+    simp (few, lt-leb _ _ c.if-n-node.false, ne_eqb _ _ c.if-state-ne24.true)
 
 pub wrong_founding-requires : goal.wrong_founding-requires
-wrong_founding-requires c = (count_bounds _ (few c.before.before)).1
+wrong_founding-requires c =
+    let few : wrong_count c.args.n ≡ false = sym c.wrong_count.ensures ∙ c.if-wrong_count.false in
+    (count_bounds _ (few)).1
 
 pub returns-then-wrong_founding : goal.returns-then-wrong_founding
 unfolding begin_status first
 returns-then-wrong_founding c =
-    simp (few c.before.before.before.before, lt-leb _ _ c.if-n-node.false, c.if-state-ne24.false, sym c.wrong_founding.ensures ∙ c.if-wrong_founding.true)
+    let few : wrong_count c.args.n ≡ false = sym c.wrong_count.ensures ∙ c.if-wrong_count.false in
+    simp (few, lt-leb _ _ c.if-n-node.false, c.if-state-ne24.false, sym c.wrong_founding.ensures ∙ c.if-wrong_founding.true)
 
 pub returns : goal.returns
 unfolding begin_status first
 returns c =
-    simp (few c.before.before.before.before, lt-leb _ _ c.if-n-node.false, c.if-state-ne24.false, sym c.wrong_founding.ensures ∙ c.if-wrong_founding.false)
+    let few : wrong_count c.args.n ≡ false = sym c.wrong_count.ensures ∙ c.if-wrong_count.false in
+    simp (few, lt-leb _ _ c.if-n-node.false, c.if-state-ne24.false, sym c.wrong_founding.ensures ∙ c.if-wrong_founding.false)

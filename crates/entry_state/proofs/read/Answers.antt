@@ -34,8 +34,8 @@ module _ (mode : ℕ) (s : List ℕ) (kind reason node n number set base : ℕ) 
 
 pub returns-in-Holds : goal.returns-in-Holds
 returns-in-Holds c =
-    let a = c.args in let told = told a.mode a.state.now _ _ _ _ _ _ _ _ _ (sym c.lent_state.ensures ∙ c.in-Holds.is) c.Numbers-of.ensures in record { value = told.0; kind_after = told.1; reason_after = told.2; node_after = told.3; n_after = told.4; number_after = told.5; set_after = told.6; base_after = told.7 }
+    let a = c.args in let told = told a.mode a.state.now _ _ _ _ _ _ _ _ _ (sym c.lent_state.ensures ∙ c.in-Holds.is) c.numbers_of-s.ensures in record { value = told.0; kind_after = told.1.0; reason_after = told.1.1.0; node_after = told.1.1.1.0; n_after = told.1.1.1.1.0; number_after = told.1.1.1.1.1.0; set_after = told.1.1.1.1.1.1.0; base_after = told.1.1.1.1.1.1.1 }
 
 pub returns-in-Refused : goal.returns-in-Refused
 returns-in-Refused c =
-    let a = c.args in let told = refused a.mode a.state.now _ _ _ _ _ _ _ _ (sym c.lent_state.ensures ∙ c.in-Refused.is) in record { value = told.0; kind_after = told.1; reason_after = told.2; node_after = told.3; n_after = told.4; number_after = told.5; set_after = told.6; base_after = told.7 }
+    let a = c.args in let told = refused a.mode a.state.now _ _ _ _ _ _ _ _ (sym c.lent_state.ensures ∙ c.in-Refused.is) in record { value = told.0; kind_after = told.1.0; reason_after = told.1.1.0; node_after = told.1.1.1.0; n_after = told.1.1.1.1.0; number_after = told.1.1.1.1.1.0; set_after = told.1.1.1.1.1.1.0; base_after = told.1.1.1.1.1.1.1 }

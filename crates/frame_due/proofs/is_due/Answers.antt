@@ -25,12 +25,9 @@ returns-then-h-cycle c = λ s e. simp (e, div-one, eq-eqb _ _ c.if-h-ne0.false, 
 pub returns-then-not-words_due : goal.returns-then-not-words_due
 unfolding is_due
 returns-then-not-words_due c =
-    let p = c.before.before in
-    λ s e. simp (e, div-one, eq-eqb _ _ p.if-h-ne0.false, eq-eqb _ _ p.if-h-ne0-2.false, eq-eqb _ _ p.if-h-number.false, eq-eqb _ _ p.if-h-cycle.false, sym (c.words_due.ensures s e) ∙ c.if-not-words_due.true)
+    λ s e. simp (e, div-one, eq-eqb _ _ c.if-h-ne0.false, eq-eqb _ _ c.if-h-ne0-2.false, eq-eqb _ _ c.if-h-number.false, eq-eqb _ _ c.if-h-cycle.false, sym (c.words_due.ensures s e) ∙ c.if-not-words_due.true)
 
 pub returns : goal.returns
 unfolding is_due
 returns c =
-    let w = c.before.before in
-    let p = w.before in
-    λ s e. simp (e, div-one, eq-eqb _ _ p.if-h-ne0.false, eq-eqb _ _ p.if-h-ne0-2.false, eq-eqb _ _ p.if-h-number.false, eq-eqb _ _ p.if-h-cycle.false, sym (w.words_due.ensures s e) ∙ c.if-not-words_due.false, c.indicators.ensures s e)
+    λ s e. simp (e, div-one, eq-eqb _ _ c.if-h-ne0.false, eq-eqb _ _ c.if-h-ne0-2.false, eq-eqb _ _ c.if-h-number.false, eq-eqb _ _ c.if-h-cycle.false, sym (c.words_due.ensures s e) ∙ c.if-not-words_due.false, c.indicators.ensures s e)

@@ -8,6 +8,7 @@ use Rattle.sets.proofs.Dropping.{lowest_node}
 use Rattle.rule_tally.proofs.Candidates.{rest-less, left_less, Tried, Counted, tried-none, tried-next, tried-end, candidate-in, counted_none, counted_next, counted-won}
 use borrow.Author.Rules.{rules}
 use Rattle.rule_tally.proofs.any_agreed.Goals as goal
+use Rattle.rule_tally.proofs.any_agreed.Goals.{else-found-test, then-found-test+then-loop-rest-test+then-completes}
 
 pub found-init : goal.found-init
 found-init c =
@@ -82,17 +83,15 @@ found-preserved c =
 
 pub returns : goal.returns
 returns c =
-    let voter : (c.lowest-p.result < c.args.n) × (has c.lowest-p.result c.loop-rest.rest ≡ true) = let l = c.loop-rest in
-    lowest_node c.args.n l.rest c.lowest-p.result c.requires.n_bound (λ x h. (c.found.invariant.within x (l.invariant.inside x h)).0) c.loop-rest-test.true c.lowest-p.ensures in
     let a = c.args in
     c.is_quorum-2.ensures
-    ∙ ⊎_elim
-    (λ w.
-    let few = sym c.is_quorum.ensures ∙ c.left in
-    few ∙ sym (tried-end a.numbers.now a.sets.now a.bases.now a.views.now a.n a.present a.group c.found.left c.found.invariant few))
-    (λ w.
-    let y : tie.After-lowest invariant-loop decreases-loop invariant-found decreases-found =
-    record { before = record { before = record { before = record { before = record { before = record { before = c; if1 = c.0 }; first_of = c.1 }; view = c.2 }; loop = c.3 }; loop-test = c.4 }; lowest = c.5 } in
-    sym c.is_quorum.ensures ∙ c.0.taken
-    ∙ sym (counted-won a.numbers.now a.sets.now a.bases.now a.views.now a.n a.present a.group a.lead c.requires.one_vote _ c.found.left c.3.m c.3.rest c.5.result c.6.result c.7.result c.8.result c.9.result c.10.result c.found.invariant c.3.inv (voter y).1 c.6.ensures c.7.ensures c.8.ensures c.9.ensures c.10.ensures refl c.11.result c.11.ensures c.12.taken))
-    c.found-test.branch
+    ∙ elim c.found-test.branch [
+      | else-found-test w ↦
+          let few = sym c.is_quorum.ensures ∙ w.found-test.false in
+          few ∙ sym (tried-end a.numbers.now a.sets.now a.bases.now a.views.now a.n a.present a.group c.found.left c.found.invariant few)
+      | then-found-test+then-loop-rest-test+then-completes w ↦
+          let l = w.loop-rest in
+          let voter = lowest_node a.n l.rest w.lowest-p.result c.requires.n_bound (λ x h. (c.found.invariant.within x (l.invariant.inside x h)).0) w.loop-rest-test.true w.lowest-p.ensures in
+          sym c.is_quorum.ensures ∙ w.found-test.true
+          ∙ sym (counted-won a.numbers.now a.sets.now a.bases.now a.views.now a.n a.present a.group a.lead c.requires.one_vote _ c.found.left l.m l.rest w.lowest-p.result w.known.result w.intersection-these.result w.equals_at-counted.result w.pick.result w.union-m.result c.found.invariant l.invariant voter.1 w.known.ensures w.intersection-these.ensures w.equals_at-counted.ensures w.pick.ensures w.union-m.ensures refl w.completes.result w.completes.ensures w.if-completes.true)
+    ]
