@@ -1,4 +1,6 @@
 // The two channels, and the heartbeats of a cycle run through them: what a unit hears is what it reads there.
+#![tactic(auto)]
+
 ghost use Rattle.std.specs.Prelude.{◌≡◌, true, false, cond, ℕ, ◌<◌, ◌≤◌, length, get_or};
 ghost use Rattle.sets.specs.Sets.{has, ◌∩◌, ◌∖◌};
 ghost use Rattle.frames.specs.Written.{wrong_request, heartbeat_frame, run_drive};

@@ -1,4 +1,6 @@
 // Votes grouped by their value once a cycle, so that each node's tally is an intersection and a count; and what members and joining nodes decide by them.
+#![tactic(auto)]
+
 ghost use Rattle.std.specs.Prelude.{◌≡◌, true, ℕ, ◌<◌, ◌≤◌, length, get_or};
 ghost use Rattle.sets.specs.Sets.{has, ◌∩◌, those};
 ghost use Rattle.rules.specs.OneCycle.{member_decides, silent_decides, joiner_decides};

@@ -1,4 +1,6 @@
 // Heartbeats that come in: read from one channel, received on both.
+#![tactic(auto)]
+
 ghost use Rattle.std.specs.Prelude.{◌≡◌};
 ghost use Rattle.frames.specs.Read.{join_of, request_of};
 ghost use Rattle.entry_receive_heartbeat.specs.Hearing.{read_status, heartbeat_refusal, read_heartbeat_status, read_heartbeat_join, read_heartbeat_request, read_heartbeat_drive_bytes, read_heartbeat_drive};

@@ -1,4 +1,6 @@
 // A node's heartbeat, from its state.
+#![tactic(auto)]
+
 ghost use Rattle.std.specs.Prelude.{◌≡◌, false, ◌+◌, ◌≤◌, ◌<◌, length};
 ghost use Rattle.frames.specs.Written.{wrong_drive};
 ghost use Rattle.entry_send_heartbeat.specs.Beating.{wrong_sending, send_heartbeat_status, sends_byte, join_bit, request_bit, heartbeat_of, send_heartbeat_left, send_heartbeat_sent};

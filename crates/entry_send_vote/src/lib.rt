@@ -1,4 +1,6 @@
 // A node's view, and its vote, from its state.
+#![tactic(auto)]
+
 ghost use Rattle.std.specs.Prelude.{◌≡◌, ◌≤◌, ◌<◌, length};
 ghost use Rattle.entry_lent.specs.Found.{lent_state, image_status};
 ghost use Rattle.entry_send_vote.specs.Voting.{own_view, view_in, view_from, votes_with, votes_byte, vote_in, send_vote_status, send_vote_left, send_vote_sent};

@@ -1,4 +1,6 @@
 // The vote buffer that a host lends: read into arrays, and looked at in place.
+#![tactic(auto)]
+
 ghost use Rattle.std.specs.Prelude.{◌≡◌, not, ◌&&◌, ℕ, ◌≤◌, ◌<◌, eqb, length};
 ghost use Rattle.sets.specs.Sets.{has, those};
 ghost use Rattle.rules.specs.OneCycle.{is};

@@ -1,4 +1,6 @@
 // Heartbeat frames, written from numbers.
+#![tactic(auto)]
+
 ghost use Rattle.std.specs.Prelude.{◌≡◌};
 ghost use Rattle.rules.specs.OneCycle.{quiet_in};
 ghost use Rattle.frames.specs.Written.{wrong_request};

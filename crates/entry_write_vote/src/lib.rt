@@ -1,4 +1,6 @@
 // Vote frames, written from numbers, and what is refused of a call that names a slot.
+#![tactic(auto)]
+
 ghost use Rattle.std.specs.Prelude.{◌≡◌, not, ◌||◌, List, [], ◌∷◌, ℕ, eqb, length};
 ghost use Rattle.refusal.specs.Refusal.{when, first};
 ghost use Rattle.entry_lent.specs.Refusals.{wrong_count, wrong_node, wrong_cycle, wrong_channel};

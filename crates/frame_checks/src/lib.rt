@@ -1,4 +1,6 @@
 // Refusals 5 to 9 of a frame that is read.
+#![tactic(auto)]
+
 ghost use Rattle.std.specs.Prelude.{◌≡◌, List, ℕ, ◌+◌, ◌≤◌, ◌<◌, length};
 ghost use Rattle.bigendian.specs.BigEndian.{number_at};
 ghost use Rattle.frames.specs.Read.{wrong_header, wrong_frame, fault_of};

@@ -1,4 +1,6 @@
 // Heartbeat and vote frames, read, and the two-channel rule.
+#![tactic(auto)]
+
 ghost use Rattle.std.specs.Prelude.{◌≡◌, ◌+◌, ◌≤◌, ◌<◌, length};
 ghost use Rattle.parts.specs.Parts.{at_front};
 ghost use Rattle.rules.specs.OneCycle.{same_vote};

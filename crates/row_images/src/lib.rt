@@ -1,4 +1,6 @@
 // The row as C lends it: N images of 24 bytes, one after the other, read to values and written from them.
+#![tactic(auto)]
+
 ghost use Rattle.std.specs.Prelude.{◌≡◌, cond, ◌*◌, ◌+◌, ◌≤◌, ltb, length};
 ghost use Rattle.cluster_states.specs.States.{row_of};
 ghost use Rattle.row.specs.Row.{nodes_of};

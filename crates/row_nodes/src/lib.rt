@@ -1,4 +1,6 @@
 // The row of node structs that a caller lends, gathered into values and scattered back.
+#![tactic(auto)]
+
 ghost use Rattle.std.specs.Prelude.{◌≡◌, ◌<◌};
 ghost use Rattle.row.specs.Gathered.{with_node, nothing_of, push_of, gathered, node_of, each};
 

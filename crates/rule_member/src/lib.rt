@@ -1,4 +1,6 @@
 // Rule 5 of one member, and what one decides that did not vote. Votes are lent as four arrays, a slot for each sender, and the mask of the slots that hold one.
+#![tactic(auto)]
+
 ghost use Rattle.std.specs.Prelude.{◌≡◌, false, cond, ◌<◌, ◌≤◌};
 ghost use Rattle.sets.specs.Sets.{has, single as the_single, ◌∪◌, ◌∩◌};
 ghost use Rattle.rules.specs.OneCycle.{wins, with_own, member_decides, rests, silent_decides};

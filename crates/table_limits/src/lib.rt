@@ -1,4 +1,6 @@
 // The limits of a record of kind 2: its masks, its entries and its place in the table.
+#![tactic(auto)]
+
 ghost use Rattle.std.specs.Prelude.{◌≡◌, not, ◌&&◌, ◌||◌, ◌+◌, ◌-◌, ◌*◌, ◌/◌, ◌%◌, ◌≤◌, ◌<◌, eqb, ltb, length};
 ghost use Rattle.sets.specs.Sets.{has, every};
 ghost use Rattle.table.specs.Records.{beyond};

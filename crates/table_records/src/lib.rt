@@ -1,4 +1,6 @@
 // The cycles of a table file, record by record, and whole tables.
+#![tactic(auto)]
+
 ghost use Rattle.std.specs.Prelude.{◌≡◌, true, cond, ◌≤◌, ltb, length};
 ghost use Rattle.table.specs.Records.{is_kind};
 ghost use Rattle.table.specs.Records.{entries_at, cycle_length, cycle_refusal};

@@ -12,6 +12,8 @@
 //     for b in (0, 0, 0, 0, 0, 0), (4, 1, 0, 0, 63, 0), (63, 0, 1, 1, 9, 0), (2, 1, 1, 0, 5, 2), (40, 0, 0, 0, 62, 4), (63, 1, 1, 1, 63, 252):
 //         for crc in Crc24FlexrayA, Crc24FlexrayB: beat(*b[:5], drive[:b[5]], crc)
 // That with a request is one of the open vectors of request 3, in heartbeat.txt, made by other code too.
+#![tactic(auto)]
+
 ghost use Rattle.std.specs.Prelude.{◌<◌};
 
 use libc::STDOUT_FILENO;

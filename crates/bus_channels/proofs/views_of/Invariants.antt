@@ -1,0 +1,24 @@
+use mathlib.Core.Path.{◌≡◌, refl, ap, ap₂, ◌∙◌}
+use mathlib.Core.Bool.{Bool, ◌&&◌}
+use mathlib.Core.List.{List}
+use Prim.Native.Nat.{ℕ, ◌≤◌, ◌<◌, ◌-◌}
+use native.Mathlib.Omega.{arith}
+use lib.ListN.{length, get_or, length-set}
+use borrow.Author.Rules.{rules}
+use borrow.Author.Count.{below_none}
+use Rattle.sets.specs.Sets.{has, ◌∖◌, those}
+use Rattle.sets.proofs.Nodes.{those-none, those-next, those_end}
+use Rattle.rules.specs.declared.Config.{Config}
+use Rattle.rules.specs.OneCycle.{view_of, called, will_vote}
+use Rattle.rules.proofs.Arrays.{stored}
+use Rattle.bus_units.specs.Units.{is_alive, is_join, is_request}
+use Rattle.bus_channels.specs.Channels.{heard_read, view_read, votes_read, voting_read}
+use Rattle.bus_channels.proofs.views_of.Given as goal
+
+abbrev pub invariant-loop-q : goal.invariant-loop-q
+invariant-loop-q l =
+    (l.q ≤ l.config.nodes) × (length l.views ≡ 64) × ((j : ℕ) → j < l.q → get_or l.views j 0 ≡ view_read l.config l.count (l.sent ∖ get_or l.missed j 0) l.a l.b (get_or l.sets j 0) j)
+    × (l.voting ≡ those l.q (λ j. has j l.w.members && votes_read l.config l.count (l.sent ∖ get_or l.missed j 0) l.a l.b (get_or l.sets j 0) (has j l.w.asking) j))
+
+abbrev pub decreases-loop-q : goal.decreases-loop-q
+decreases-loop-q l = l.config.nodes - l.q

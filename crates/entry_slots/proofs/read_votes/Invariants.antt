@@ -1,0 +1,26 @@
+use mathlib.Core.Path.{◌≡◌, ap, ◌∙◌}
+use mathlib.Core.Bool.{Bool}
+use Prim.Native.Nat.{ℕ, ◌-◌, ◌≤◌, ◌<◌}
+use lib.ListN.{length, length-set}
+use Rattle.sets.specs.Sets.{those}
+use Rattle.sets.proofs.Nodes.{those-none, those-next, those_end}
+use Rattle.rules.specs.declared.Vote.{Vote}
+use Rattle.rules.specs.Ballots.{vote_at}
+use Rattle.entry_slots.specs.Slots.{slot_vote, counted_vote, arrived_in}
+use Rattle.entry_slots.proofs.Buffers.{counts, filled, counted-vote}
+use native.Mathlib.Omega.{arith}
+use borrow.Author.Rules.{rules}
+use Rattle.entry_slots.proofs.read_votes.Given as goal
+
+abbrev pub invariant-loop-p : goal.invariant-loop-p
+invariant-loop-p l =
+    (l.p ≤ l.n)
+    × (length l.numbers ≡ 64)
+    × (length l.sets ≡ 64)
+    × (length l.bases ≡ 64)
+    × (length l.views ≡ 64)
+    × (l.m ≡ those l.p (λ x. counts l.n l.q l.arrived x (slot_vote l.votes x)))
+    × ((i : ℕ) → i < l.p → vote_at l.numbers l.sets l.bases l.views i ≡ counted_vote l.n l.q l.votes l.arrived i)
+
+abbrev pub decreases-loop-p : goal.decreases-loop-p
+decreases-loop-p l = l.n - l.p

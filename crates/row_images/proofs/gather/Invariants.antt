@@ -1,0 +1,17 @@
+use mathlib.Core.Path.{◌≡◌, ap, ◌∙◌}
+use Prim.Native.Nat.{ℕ, ◌-◌, ◌≤◌, ◌<◌}
+use native.Mathlib.Omega.{arith}
+use lib.ListN.{length, length-replicate}
+use Rattle.rules.specs.Faults.{tabulate}
+use Rattle.row.specs.Gathered.{nothing_of, gathered}
+use Rattle.row_images.specs.Images.{node_in, entries_in, nodes_in}
+use Rattle.row_images.proofs.Images.{entries_fit}
+use Rattle.row_images.proofs.Walks.{found, found_none, found-next, put-lengths, read-bounds, gathered_next, gathered-read}
+use Rattle.row_images.proofs.gather.Given as goal
+
+abbrev pub invariant-loop-q : goal.invariant-loop-q
+invariant-loop-q l =
+    (l.q ≤ l.count) × ((length l.numbers ≡ 64) × (length l.sets ≡ 64) × (length l.bases ≡ 64)) × (found l.w l.numbers l.sets l.bases l.good ≡ gathered l.n nothing_of 0 (tabulate l.q (node_in l.images)))
+
+abbrev pub decreases-loop-q : goal.decreases-loop-q
+decreases-loop-q l = l.count - l.q
