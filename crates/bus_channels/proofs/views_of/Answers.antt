@@ -43,7 +43,7 @@ pub bounds-missed-q : goal.bounds-missed-q
 bounds-missed-q c = omega arith
 
 pub hear-heard-requires : goal.hear-heard-requires
-hear-heard-requires c = let told = c.requires in record { nodes_bound = told.0; a_len = told.1 }
+hear-heard-requires c = record { nodes_bound = c.requires.nodes_bound; a_len = c.requires.a_len }
 
 pub offset_bounds-sets-q : goal.offset_bounds-sets-q
 offset_bounds-sets-q c = omega arith

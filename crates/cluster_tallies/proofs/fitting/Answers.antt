@@ -23,7 +23,7 @@ votes_like-votes-requires c =
 pub fits_at-yes-requires : goal.fits_at-yes-requires
 fits_at-yes-requires c =
     let next : (c.lowest-p.result < c.args.n) × (has c.lowest-p.result c.loop-left.left ≡ true) = lowest_node c.args.n c.loop-left.left c.lowest-p.result c.requires.n_bound.0 (λ p h. (c.loop-left.invariant.within p h).0) c.loop-left-test.true c.lowest-p.ensures in
-    let told = ((c.requires.n_bound.0, c.requires.n_bound.1, (next).0), c.requires.1) in record { n_bound = told.0; grouped = told.1.0; within = told.1.1 }
+    record { n_bound = (c.requires.n_bound.0, c.requires.n_bound.1, (next).0); grouped = c.requires.grouped; within = c.requires.within }
 
 pub loop-left-smaller : goal.loop-left-smaller
 loop-left-smaller c =

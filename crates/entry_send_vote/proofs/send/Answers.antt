@@ -36,23 +36,35 @@ bounds mode s cycle channel f n b h =
 
 pub send_of-requires : goal.send_of-requires
 send_of-requires c =
-    let a = c.args in let told = bounds a.mode a.state.now a.cycle a.channel a.frame.now _ (λ i. (c.type_inv.state i).fits) (looked c _ c.in-Holds.is) in record { nodes_bound = told.0; cycle_bound = told.1.0; frame_len = told.1.1 }
+    let looked : (r : Lent) → c.lent_node.result ≡ r
+    → let a = c.args in lent_node (quiet_in a.mode) (wrongs a.mode a.cycle a.channel) a.state.now (length a.frame.now) 36 ≡ r = λ r e. let a = c.args in
+    seen (quiet_in a.mode) (wrongs a.mode a.cycle a.channel) a.state.now 36 a.frame.now _ _ _ _ c.is_quiet-quiet.ensures
+    (ap₂ (λ (x y : Bool). x || y) c.wrong_mode.ensures c.wrong_slot.ensures) c.lent_node.ensures e in
+    let a = c.args in let told = bounds a.mode a.state.now a.cycle a.channel a.frame.now _ (λ i. (c.type_inv.state i).fits) (looked _ c.in-Holds.is) in record { nodes_bound = told.0; cycle_bound = told.1.0; frame_len = told.1.1 }
 
 pub returns-in-Holds : goal.returns-in-Holds
 unfolding send_vote_status send_vote_left send_vote_sent
 returns-in-Holds c =
+    let looked : (r : Lent) → c.lent_node.result ≡ r
+    → let a = c.args in lent_node (quiet_in a.mode) (wrongs a.mode a.cycle a.channel) a.state.now (length a.frame.now) 36 ≡ r = λ r e. let a = c.args in
+    seen (quiet_in a.mode) (wrongs a.mode a.cycle a.channel) a.state.now 36 a.frame.now _ _ _ _ c.is_quiet-quiet.ensures
+    (ap₂ (λ (x y : Bool). x || y) c.wrong_mode.ensures c.wrong_slot.ensures) c.lent_node.ensures e in
     let a = c.args in
     let quiet = c.is_quiet-quiet.ensures in let told = sends (quiet_in a.mode) (wrongs a.mode a.cycle a.channel) a.state.now 36 a.frame.now
     (λ (x : Decoded). vote_from (quiet_in a.mode) x a.heard0 a.heard1 a.requests a.cycle a.channel a.frame.now)
     (λ (x : Decoded). voted_of (quiet_in a.mode) x a.heard0 a.heard1 a.requests) a.sent.now c.in-Holds.n _ _
-    (looked c _ c.in-Holds.is)
+    (looked _ c.in-Holds.is)
     (c.send_of.ensures.frame_after ∙ ap (λ (b : Bool). vote_from b (Good c.in-Holds.n) a.heard0 a.heard1 a.requests a.cycle a.channel a.frame.now) quiet)
     (c.send_of.ensures.sent_after ∙ ap (λ (b : Bool). voted_of b (Good c.in-Holds.n) a.heard0 a.heard1 a.requests) quiet) in record { value = told.0; frame_after = told.1.0; sent_after = told.1.1 }
 
 pub returns-in-Refused : goal.returns-in-Refused
 unfolding send_vote_status send_vote_left send_vote_sent
 returns-in-Refused c =
+    let looked : (r : Lent) → c.lent_node.result ≡ r
+    → let a = c.args in lent_node (quiet_in a.mode) (wrongs a.mode a.cycle a.channel) a.state.now (length a.frame.now) 36 ≡ r = λ r e. let a = c.args in
+    seen (quiet_in a.mode) (wrongs a.mode a.cycle a.channel) a.state.now 36 a.frame.now _ _ _ _ c.is_quiet-quiet.ensures
+    (ap₂ (λ (x y : Bool). x || y) c.wrong_mode.ensures c.wrong_slot.ensures) c.lent_node.ensures e in
     let a = c.args in let told = sends_none (quiet_in a.mode) (wrongs a.mode a.cycle a.channel) a.state.now 36 a.frame.now
     (λ (x : Decoded). vote_from (quiet_in a.mode) x a.heard0 a.heard1 a.requests a.cycle a.channel a.frame.now)
     (λ (x : Decoded). voted_of (quiet_in a.mode) x a.heard0 a.heard1 a.requests) a.sent.now _
-    (looked c _ c.in-Refused.is) in record { value = told.0; frame_after = told.1.0; sent_after = told.1.1 }
+    (looked _ c.in-Refused.is) in record { value = told.0; frame_after = told.1.0; sent_after = told.1.1 }

@@ -18,7 +18,7 @@ counted n q arrived p v w e k = e ∙ ap (counts n q arrived p) k
 pub loop-p-init : goal.loop-p-init
 loop-p-init c =
     let w = c.requires.numbers_len in
-    (omega arith, c.0, c.1, c.2, c.3, those-none _, λ i h. absurd (omega arith))
+    (omega arith, w.0, w.1, w.2, w.3, those-none _, λ i h. absurd (omega arith))
 
 pub slot_vote-w-requires : goal.slot_vote-w-requires
 slot_vote-w-requires c = (omega arith, omega arith)

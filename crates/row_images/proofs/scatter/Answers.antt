@@ -44,7 +44,7 @@ pub loop-q-preserved : goal.loop-q-preserved
 loop-q-preserved c =
     let a = c.args in
     let l = c.loop-q in
-    let x = is_placed a.n a.t2 _ l.q _ (omega arith) c.roles_of-w.ensures c.node_of-x.ensures in
+    let x = is_placed a.n a.s _ l.q _ (omega arith) c.roles_of-w.ensures c.node_of-x.ensures in
     (omega arith, written_next _ _ _ _ _ _ _ l.invariant.1 x c.encode.ensures c.put.ensures)
 
 pub shape_of-images : goal.shape_of-images
@@ -55,5 +55,5 @@ returns c =
     let a = c.args in
     let l = c.loop-q in
     let end : l.q ≡ a.n = omega arith in
-    l.invariant.1 ∙ ap (λ (k : ℕ). Written k (placed a.n a.t2) a.images.now) end ∙ written_all a.n _ _ c.requires.1
-    ∙ ap images_of (all_placed a.n a.t2)
+    l.invariant.1 ∙ ap (λ (k : ℕ). Written k (placed a.n a.s) a.images.now) end ∙ written_all a.n _ _ c.requires.1
+    ∙ ap images_of (all_placed a.n a.s)
