@@ -1,4 +1,6 @@
 // One cycle of all nodes run through frames: what a unit counts is what it reads on the two channels.
+#![tactic(auto)]
+
 ghost use Rattle.std.specs.Prelude.{◌≡◌, true, ℕ, ◌^◌, ◌<◌, ◌≤◌, length, get_or};
 ghost use Rattle.sets.specs.Sets.{has, ◌∖◌};
 ghost use Rattle.state.specs.State.{formed_state};

@@ -1,4 +1,6 @@
 // The votes of a cycle on the two channels: written for all nodes, and read by one.
+#![tactic(auto)]
+
 ghost use Rattle.std.specs.Prelude.{◌≡◌, ◌<◌, ◌≤◌, length};
 ghost use Rattle.rules.specs.Ballots.{ballots_of};
 ghost use Rattle.bus_channels.specs.Channels.{with_sent, channel_of, vote_put, vote_read, is_whole, vote_in, ballots_read};

@@ -1,4 +1,6 @@
 // One cycle of all nodes of a cluster, on masks and arrays.
+#![tactic(auto)]
+
 ghost use Rattle.std.specs.Prelude.{◌≡◌, false, ℕ, ◌<◌, ◌≤◌, length, get_or};
 ghost use Rattle.sets.specs.Sets.{has, ◌∖◌};
 ghost use Rattle.rules.specs.Faults.{cycle as the_cycle};

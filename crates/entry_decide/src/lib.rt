@@ -1,4 +1,6 @@
 // The decision of one node.
+#![tactic(auto)]
+
 ghost use Rattle.std.specs.Prelude.{◌≡◌, false, ◌≤◌, ◌<◌, length, get_or};
 ghost use Rattle.state.specs.Image.{image_of, node_at};
 ghost use Rattle.rules.specs.OneCycle.{member_decides};

@@ -1,4 +1,6 @@
 // Votes that arrive: read from one channel, or received on both into the vote buffer.
+#![tactic(auto)]
+
 ghost use Rattle.std.specs.Prelude.{◌≡◌};
 ghost use Rattle.entry_receive_vote.specs.Arrivals.{read_vote_status, read_vote_left, receive_vote_status, receive_vote_left, receive_vote_arrived};
 

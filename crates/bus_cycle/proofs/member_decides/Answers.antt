@@ -1,0 +1,9 @@
+use mathlib.Core.Path.{ap, ◌∙◌}
+use borrow.Author.Rules.{rules}
+use Rattle.rules.specs.OneCycle.{Ballots, member_decides}
+use Rattle.bus_cycle.proofs.member_decides.Goals as goal
+
+pub returns : goal.returns
+returns c =
+    let a = c.args in
+    c.member_decides-after.ensures ∙ ap (λ (x : Ballots). member_decides a.config a.q a.own x) c.arrive-arrived.ensures

@@ -1,0 +1,16 @@
+use mathlib.Core.Path.{◌≡◌, ap₂, ◌∙◌}
+use Prim.Native.Nat.{ℕ, ◌≤◌, ◌<◌, ◌-◌}
+use native.Mathlib.Omega.{arith}
+use lib.ListN.{length, get_or, length-set}
+use borrow.Author.Rules.{rules}
+use borrow.Author.Count.{below_none}
+use Rattle.rules.specs.OneCycle.{view_of}
+use Rattle.cluster_states.specs.Decided.{view_at}
+use Rattle.rules.proofs.Arrays.{stored}
+use Rattle.cluster_cycle.proofs.views_of.Given as goal
+
+abbrev pub invariant-loop-p : goal.invariant-loop-p
+invariant-loop-p l = (l.p ≤ l.n) × (length l.views ≡ 64) × ((j : ℕ) → j < l.p → get_or l.views j 0 ≡ view_at l.n l.sets l.members l.joining l.missed j)
+
+abbrev pub decreases-loop-p : goal.decreases-loop-p
+decreases-loop-p l = l.n - l.p
