@@ -60,4 +60,4 @@ returns c =
     let l = c.loop-q in
     let a = c.args in
     let done : l.q ≡ a.config.nodes = omega arith in
-    holds_state (λ j. decided_read a.numbers.now a.sets.now a.bases.now a.views.now a.config a.count a.w a.voting (a.sent ∖ get_or a.missed.now j 0) a.a.now a.b.now j) a.config.nodes l.q l.next l.new-numbers l.new-sets l.new-bases l.invariant.1 done
+    holds_state (λ j. decided_read a.numbers.now a.sets.now a.bases.now a.views.now a.config a.count a.w a.voting (a.sent ∖ get_or a.missed.now j 0) a.a.now a.b.now j) a.config.nodes l.q l.next l.new_numbers l.new_sets l.new_bases l.invariant.1 done

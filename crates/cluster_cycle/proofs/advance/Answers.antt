@@ -18,9 +18,8 @@ voting_of-voting-requires c =
 
 pub decide_all-requires : goal.decide_all-requires
 decide_all-requires c =
-    let r = ruled c in
-    let a = r.before.args in
-    let d = c.voting_of-voting.result in record { nodes_bound = r.before.pre; below = voting-below a.config a.sets.now _ r.rule-one.result _ a.unheard.now d c.voting_of-voting.ensures; within = inside_less d _ _ d (λ p h. h) c.difference-3.ensures }
+    let a = c.args in
+    let d = c.voting_of-voting.result in record { nodes_bound = c.requires; below = voting-below a.config a.sets.now _ c.rule_one-v.result _ a.unheard.now d c.voting_of-voting.ensures; within = inside_less d _ _ d (λ p h. h) c.difference-3.ensures }
 
 -- nobody votes
 pub returns-then-voting-eq0 : goal.returns-then-voting-eq0

@@ -14,6 +14,7 @@ use Rattle.cluster_tallies.proofs.Tallies.{inside_less}
 use Rattle.cluster_cycle.proofs.Keeping.{worth-none, kept-worth}
 use Rattle.cluster_states.proofs.Deciding.{Holds, holds_none, holds_next, holds_state}
 use Rattle.cluster_cycle.proofs.decisions.Goals as goal
+use Rattle.cluster_cycle.proofs.decisions.Goals.{then-follows, else-follows}
 
 pub loop-q-init : goal.loop-q-init
 loop-q-init c =
@@ -76,19 +77,19 @@ loop-q-preserved c =
     let worth = Worth a.numbers.now a.sets.now a.bases.now a.views.now a.config a.w a.voting in
     let below64 : c.loop-q.q < 64 = omega (arith, c.loop-q-test.true, c.requires.nodes_bound.0) in
     let arrived = ap (λ (x : ℕ). decided_at a.numbers.now a.sets.now a.bases.now a.views.now a.config a.w a.voting x c.loop-q.q) c.difference-came.ensures in (
-      ⊎_elim
-          (λ w. (
-            holds_next (decided) c.loop-q.q c.loop-q.next c.if-follows.next _ _ _ (Member c.loop-q.k.group c.loop-q.k.request) c.if-follows.g below64 c.loop-q.invariant.0.0
-                (sym (c.loop-q.invariant.0.1 c.loop-q.q c.difference-came.result c.loop-q-test.true (inside) (sym c.follows.ensures ∙ w.0.taken)) ∙ arrived) w.4 (w.2 ∙ w.1.ensures),
-            subst worth (sym w.3) c.loop-q.invariant.0.1,
-          ))
-          (λ w. (
-            holds_next (decided) c.loop-q.q c.loop-q.next c.if-follows.next _ _ _ w.1.result c.if-follows.g below64 c.loop-q.invariant.0.0 (w.1.ensures ∙ arrived) (w.7 ∙ w.3.ensures) (w.5 ∙ w.4.ensures),
-            subst worth (sym (w.6 ∙ w.2.ensures))
-                (kept-worth a.numbers.now a.sets.now a.bases.now a.views.now a.config a.w a.voting a.lead a.same.now c.requires.grouped c.loop-q.q c.difference-came.result w.1.result c.loop-q.k c.loop-q-test.true (inside)
-                w.1.ensures c.loop-q.invariant.0.1),
-          ))
-          c.if-follows.branch,
+      elim c.if-follows.branch [
+        | then-follows w ↦ (
+          holds_next (decided) c.loop-q.q c.loop-q.next c.if-follows.next _ _ _ (Member c.loop-q.k.group c.loop-q.k.request) c.if-follows.g below64 c.loop-q.invariant.0.0
+              (sym (c.loop-q.invariant.0.1 c.loop-q.q c.difference-came.result c.loop-q-test.true (inside) (sym c.follows.ensures ∙ w.if-follows.true)) ∙ arrived) w.g-is (w.next-is ∙ w.with_member-next.ensures),
+          subst worth (sym w.k-is) c.loop-q.invariant.0.1,
+        )
+        | else-follows w ↦ (
+          holds_next (decided) c.loop-q.q c.loop-q.next c.if-follows.next _ _ _ w.decide-d.result c.if-follows.g below64 c.loop-q.invariant.0.0 (w.decide-d.ensures ∙ arrived) (w.g-is ∙ w.held_by-g.ensures) (w.next-is ∙ w.with_state-next.ensures),
+          subst worth (sym (w.k-is ∙ w.keep-k.ensures))
+              (kept-worth a.numbers.now a.sets.now a.bases.now a.views.now a.config a.w a.voting a.lead a.same.now c.requires.grouped c.loop-q.q c.difference-came.result w.decide-d.result c.loop-q.k c.loop-q-test.true (inside)
+              w.decide-d.ensures c.loop-q.invariant.0.1),
+        )
+      ],
       omega arith,
     )
 

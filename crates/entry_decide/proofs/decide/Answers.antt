@@ -69,7 +69,7 @@ goes_on-on-requires c =
     seen (quiet_in a.mode) (wrong_mode a.mode) a.state.now 1792 a.votes.now _ _ _ _ c.is_quiet-quiet.ensures c.wrong_mode.ensures c.lent_node.ensures e in
     let held : let a = c.args in lent a.mode a.state.now a.votes.now ≡ Holds (noded) = looked _ c.in-Holds.is in
     let known : let a = c.args in ((length a.state.now ≡ 24) × (length a.votes.now ≡ 1792)) × (((noded).nodes ≤ 64) × ((noded).id < (noded).nodes)) = let a = c.args in
-    bounds a.mode a.state.now a.votes.now (noded) (λ i. (c.type_inv.state i).fits) (held) in
+    bounds a.mode a.state.now a.votes.now (noded) (λ i. (c.slice_known-1.given i).fits) (held) in
     let a = c.args in
     let e = good_node _ a.state.now _ (there a.mode a.state.now a.votes.now (noded) (held)).1 in
     let z = known in record { s_len = z.0; s_bound = (omega (arith, ap (λ (x : Node). x.nodes) e, z.1.0), omega (arith, ap (λ (x : Node). x.nodes) e, ap (λ (x : Node). x.id) e, z.1.1)) }
@@ -81,7 +81,7 @@ put_state-requires c =
     seen (quiet_in a.mode) (wrong_mode a.mode) a.state.now 1792 a.votes.now _ _ _ _ c.is_quiet-quiet.ensures c.wrong_mode.ensures c.lent_node.ensures e in
     let held : let a = c.args in lent a.mode a.state.now a.votes.now ≡ Holds (noded) = looked _ c.in-Holds.is in
     let known : let a = c.args in ((length a.state.now ≡ 24) × (length a.votes.now ≡ 1792)) × (((noded).nodes ≤ 64) × ((noded).id < (noded).nodes)) = let a = c.args in
-    bounds a.mode a.state.now a.votes.now (noded) (λ i. (c.type_inv.state i).fits) (held) in
+    bounds a.mode a.state.now a.votes.now (noded) (λ i. (c.slice_known-1.given i).fits) (held) in
     (known).0.0
 
 pub next_state-requires : goal.next_state-requires
@@ -91,7 +91,7 @@ next_state-requires c =
     seen (quiet_in a.mode) (wrong_mode a.mode) a.state.now 1792 a.votes.now _ _ _ _ c.is_quiet-quiet.ensures c.wrong_mode.ensures c.lent_node.ensures e in
     let held : let a = c.args in lent a.mode a.state.now a.votes.now ≡ Holds (noded) = looked _ c.in-Holds.is in
     let known : let a = c.args in ((length a.state.now ≡ 24) × (length a.votes.now ≡ 1792)) × (((noded).nodes ≤ 64) × ((noded).id < (noded).nodes)) = let a = c.args in
-    bounds a.mode a.state.now a.votes.now (noded) (λ i. (c.type_inv.state i).fits) (held) in
+    bounds a.mode a.state.now a.votes.now (noded) (λ i. (c.slice_known-1.given i).fits) (held) in
     let z = known in (z.1.0, z.1.1, z.0.1)
 
 pub put_state-requires-else-on : goal.put_state-requires-else-on
@@ -101,7 +101,7 @@ put_state-requires-else-on c =
     seen (quiet_in a.mode) (wrong_mode a.mode) a.state.now 1792 a.votes.now _ _ _ _ c.is_quiet-quiet.ensures c.wrong_mode.ensures c.lent_node.ensures e in
     let held : let a = c.args in lent a.mode a.state.now a.votes.now ≡ Holds (noded) = looked _ c.in-Holds.is in
     let known : let a = c.args in ((length a.state.now ≡ 24) × (length a.votes.now ≡ 1792)) × (((noded).nodes ≤ 64) × ((noded).id < (noded).nodes)) = let a = c.args in
-    bounds a.mode a.state.now a.votes.now (noded) (λ i. (c.type_inv.state i).fits) (held) in
+    bounds a.mode a.state.now a.votes.now (noded) (λ i. (c.slice_known-1.given i).fits) (held) in
     (known).0.0
 
 pub returns-then-on : goal.returns-then-on

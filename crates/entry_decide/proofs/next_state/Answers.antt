@@ -32,16 +32,16 @@ returns-in-Out c =
 
 pub returns-in-Joining : goal.returns-in-Joining
 returns-in-Joining c =
-    let read : let a = c.args in let r = c.read_votes-present in ballots_of r.new.1.1.1.1.0 r.new.1.1.1.1.1.0 r.new.1.1.1.1.1.1.0 r.new.1.1.1.1.1.1.1.0 r.result ≡ buffer_ballots a.n.nodes a.n.id a.votes.now a.arrived = let a = c.args in
+    let read : let a = c.args in let r = c.read_votes-present in ballots_of r.new.numbers r.new.sets r.new.bases r.new.views r.result ≡ buffer_ballots a.n.nodes a.n.id a.votes.now a.arrived = let a = c.args in
     let r = c.read_votes-present in
-    same-ballots a.n.nodes a.n.id a.votes.now a.arrived r.new.1.1.1.1.0 r.new.1.1.1.1.1.0 r.new.1.1.1.1.1.1.0 r.new.1.1.1.1.1.1.1.0 r.result r.ensures.0 r.ensures.1 in
+    same-ballots a.n.nodes a.n.id a.votes.now a.arrived r.new.numbers r.new.sets r.new.bases r.new.views r.result r.ensures.value r.ensures.by_index in
     let a = c.args in
     by-joining a.quiet a.n a.heard0 a.heard1 a.requests a.votes.now a.arrived (read) c.in-Joining.is c.joiner_decides.ensures
 
 pub returns-in-Member : goal.returns-in-Member
 returns-in-Member c =
-    let read : let a = c.args in let r = c.read_votes-present in ballots_of r.new.1.1.1.1.0 r.new.1.1.1.1.1.0 r.new.1.1.1.1.1.1.0 r.new.1.1.1.1.1.1.1.0 r.result ≡ buffer_ballots a.n.nodes a.n.id a.votes.now a.arrived = let a = c.args in
+    let read : let a = c.args in let r = c.read_votes-present in ballots_of r.new.numbers r.new.sets r.new.bases r.new.views r.result ≡ buffer_ballots a.n.nodes a.n.id a.votes.now a.arrived = let a = c.args in
     let r = c.read_votes-present in
-    same-ballots a.n.nodes a.n.id a.votes.now a.arrived r.new.1.1.1.1.0 r.new.1.1.1.1.1.0 r.new.1.1.1.1.1.1.0 r.new.1.1.1.1.1.1.1.0 r.result r.ensures.0 r.ensures.1 in
+    same-ballots a.n.nodes a.n.id a.votes.now a.arrived r.new.numbers r.new.sets r.new.bases r.new.views r.result r.ensures.value r.ensures.by_index in
     let a = c.args in
     by-member a.quiet a.n a.heard0 a.heard1 a.requests a.votes.now a.arrived (read) _ _ c.in-Member.is c.member_decides.ensures
