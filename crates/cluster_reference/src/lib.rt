@@ -1,4 +1,6 @@
 // The reference group: what is watched of a cluster from cycle to cycle, and what a cycle did.
+#![tactic(auto)]
+
 ghost use Rattle.std.specs.Prelude.{◌≡◌, ◌≤◌};
 ghost use Rattle.rules.specs.declared.Config.{Config as TheConfig};
 ghost use Rattle.rules.specs.Faults.{founding as the_founding};

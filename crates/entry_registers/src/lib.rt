@@ -1,4 +1,6 @@
 // The steps of a register block: read, write, cycle, and a write and a cycle together.
+#![tactic(auto)]
+
 ghost use Rattle.std.specs.Prelude.{◌≡◌, false, cond, ◌≤◌, ◌<◌, eqb, length, take};
 ghost use Rattle.state.specs.Image.{node_at};
 ghost use Rattle.rules.specs.OneCycle.{wrong_mode};

@@ -1,4 +1,6 @@
 // What the program prints for a table, record by record.
+#![tactic(auto)]
+
 ghost use Rattle.std.specs.Prelude.{◌≡◌, true, false, ◌+◌, ◌≤◌, length};
 ghost use Rattle.table.specs.Records.{cycle_refusal};
 ghost use Rattle.print_pieces.specs.Pieces.{whole_in, held, Sound, Fresh, SessionBegun, Gives};

@@ -1,4 +1,6 @@
 // The printed run as a stream: what is read of a table goes in, in chunks of any size, and what is to be written comes out.
+#![tactic(auto)]
+
 ghost use Rattle.std.specs.Prelude.{◌≡◌, not, ◌&&◌, ◌||◌, ◌+◌, ◌*◌, ◌≤◌, length};
 ghost use Rattle.print_pieces.specs.Pieces.{whole_in, held, Sound};
 ghost use Rattle.print_stream.specs.Stream.{Begins, Takes};

@@ -1,4 +1,6 @@
 // The bytes behind the state of a register block: looked at, and written.
+#![tactic(auto)]
+
 ghost use Rattle.std.specs.Prelude.{◌≡◌, ◌+◌, ◌≤◌, length, take, drop};
 ghost use Rattle.registers.specs.Block.{flags_byte, all_zero, reads_so};
 ghost use Rattle.registers.specs.Steps.{raised_by};

@@ -1,4 +1,6 @@
 // A run through frames, on both channels.
+#![tactic(auto)]
+
 ghost use Rattle.std.specs.Prelude.{◌≡◌, true, ℕ, ◌≤◌, ◌<◌, length};
 ghost use Rattle.state.specs.State.{formed_state};
 ghost use Rattle.table.specs.Table.{cycles_in};

@@ -1,4 +1,6 @@
 // A run on the fault table alone.
+#![tactic(auto)]
+
 ghost use Rattle.std.specs.Prelude.{◌≡◌, true, ℕ, ◌≤◌, ◌<◌, length, replicate};
 ghost use Rattle.state.specs.State.{formed_state};
 ghost use Rattle.rules.specs.Faults.{cycle as the_cycle};

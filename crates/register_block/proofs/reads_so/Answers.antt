@@ -1,0 +1,6 @@
+use Rattle.register_block.proofs.Flags.{reads_so_lem}
+use borrow.Author.Rules.{rules}
+use Rattle.register_block.proofs.reads_so.Goals as goal
+
+pub returns : goal.returns
+returns c = reads_so_lem c.args.block.now _ _ c.shares.ensures c.rest_is_zero.ensures

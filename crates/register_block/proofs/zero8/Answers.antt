@@ -1,0 +1,11 @@
+use mathlib.Core.Path.{ap, ◌∙◌}
+use Prim.Native.Nat.{ℕ}
+use lib.Dec.{eqb}
+use Rattle.register_block.proofs.Zeros.{number_zero}
+use borrow.Author.Rules.{rules}
+use Rattle.register_block.proofs.zero8.Goals as goal
+
+pub returns : goal.returns
+returns c =
+    let a = c.args in
+    ap (λ (x : ℕ). eqb x 0) c.read8.ensures ∙ number_zero a.s.now a.at 8 c.requires
