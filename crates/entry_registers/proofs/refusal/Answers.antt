@@ -24,10 +24,28 @@ slice_bounds-decode-end c =
     omega (arith, (rest_passed c.args.block.now (sym c.rest_refusal-status.ensures ∙ c.if-status-ne0.false)).0)
 
 pub returns-in-Good : goal.returns-in-Good
-returns-in-Good c = sym (state-read c c.in-Good.is)
+returns-in-Good c =
+    let moded : wrong_mode c.args.mode ≡ false = sym c.wrong_mode.ensures ∙ c.if-wrong_mode.false in
+    let state-read : (r : Decoded) → c.decode.result ≡ r
+    → let a = c.args in refusal_of a.mode a.block.now ≡ block_status (machine_in r a.block.now) = λ r e. let a = c.args in
+    in_mode_lem a.mode a.block.now (moded)
+    ∙ ap block_status (by_state (quiet_in a.mode) _ a.block.now _ _ r c.is_quiet.ensures c.rest_refusal-status.ensures c.if-status-ne0.false c.decode.ensures e) in
+    sym (state-read _ c.in-Good.is)
 
 pub returns-in-WrongLength : goal.returns-in-WrongLength
-returns-in-WrongLength c = sym (state-read c c.in-WrongLength.is)
+returns-in-WrongLength c =
+    let moded : wrong_mode c.args.mode ≡ false = sym c.wrong_mode.ensures ∙ c.if-wrong_mode.false in
+    let state-read : (r : Decoded) → c.decode.result ≡ r
+    → let a = c.args in refusal_of a.mode a.block.now ≡ block_status (machine_in r a.block.now) = λ r e. let a = c.args in
+    in_mode_lem a.mode a.block.now (moded)
+    ∙ ap block_status (by_state (quiet_in a.mode) _ a.block.now _ _ r c.is_quiet.ensures c.rest_refusal-status.ensures c.if-status-ne0.false c.decode.ensures e) in
+    sym (state-read _ c.in-WrongLength.is)
 
 pub returns-in-Malformed : goal.returns-in-Malformed
-returns-in-Malformed c = sym (state-read c c.in-Malformed.is)
+returns-in-Malformed c =
+    let moded : wrong_mode c.args.mode ≡ false = sym c.wrong_mode.ensures ∙ c.if-wrong_mode.false in
+    let state-read : (r : Decoded) → c.decode.result ≡ r
+    → let a = c.args in refusal_of a.mode a.block.now ≡ block_status (machine_in r a.block.now) = λ r e. let a = c.args in
+    in_mode_lem a.mode a.block.now (moded)
+    ∙ ap block_status (by_state (quiet_in a.mode) _ a.block.now _ _ r c.is_quiet.ensures c.rest_refusal-status.ensures c.if-status-ne0.false c.decode.ensures e) in
+    sym (state-read _ c.in-Malformed.is)

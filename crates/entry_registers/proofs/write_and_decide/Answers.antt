@@ -32,18 +32,22 @@ slice_bounds-decode-end c =
 pub returns-else-address-gt63 : goal.returns-else-address-gt63
 returns-else-address-gt63 c =
     let voted : not (eqb (length c.args.votes.now) 1792) ≡ false = ap not (eq-eqb (length c.args.votes.now) 1792 c.requires.2) in
+    let state-read : (r : Decoded) → c.decode.result ≡ r → let a = c.args in registers_at (quiet_in a.mode) a.block.now ≡ machine_in r a.block.now = λ r e. let a = c.args in
+    by_state (quiet_in a.mode) _ a.block.now _ _ r c.is_quiet-quiet.ensures c.rest_refusal-status.ensures c.if-status-ne0.false c.decode.ensures e in
     let a = c.args in
     let t = WriteCycle a.mode a.address a.value a.heard0 a.heard1 a.requests a.votes.now a.arrived in
-    let held = state-read c c.in-Good.is in let told = done t a.block.now _ _ held (passed t a.block.now c.requires.0 _ (voted) held (le-ltb 63 a.address c.if-address-gt63.false))
+    let held = state-read _ c.in-Good.is in let told = done t a.block.now _ _ held (passed t a.block.now c.requires.0 _ (voted) held (le-ltb 63 a.address c.if-address-gt63.false))
     (c.decide.ensures ∙ cycle-is (quiet_in a.mode) _ a.address a.value _ _ _ _ _ _ _ _ a.block.now _ c.is_quiet-quiet.ensures
-    (held_block (quiet_in a.mode) a.block.now _ (λ i. (c.type_inv.block i).fits) held).1 refl c.requires.1 c.flags_after-flags.ensures c.enables_after-enables.ensures) in record { value = told.0; block_after = told.1 }
+    (held_block (quiet_in a.mode) a.block.now _ (λ i. (c.slice_known-1.given i).fits) held).1 refl c.requires.1 c.flags_after-flags.ensures c.enables_after-enables.ensures) in record { value = told.0; block_after = told.1 }
 
 pub returns-then-address-gt63 : goal.returns-then-address-gt63
 returns-then-address-gt63 c =
     let voted : not (eqb (length c.args.votes.now) 1792) ≡ false = ap not (eq-eqb (length c.args.votes.now) 1792 c.requires.2) in
+    let state-read : (r : Decoded) → c.decode.result ≡ r → let a = c.args in registers_at (quiet_in a.mode) a.block.now ≡ machine_in r a.block.now = λ r e. let a = c.args in
+    by_state (quiet_in a.mode) _ a.block.now _ _ r c.is_quiet-quiet.ensures c.rest_refusal-status.ensures c.if-status-ne0.false c.decode.ensures e in
     let a = c.args in
     let t = WriteCycle a.mode a.address a.value a.heard0 a.heard1 a.requests a.votes.now a.arrived in let told = kept t a.block.now 14 (λ z. omega arith)
-    (past_the_end t a.block.now c.requires.0 _ (voted) (state-read c c.in-Good.is) (lt-ltb 63 a.address c.if-address-gt63.true)) in record { value = told.0; block_after = told.1 }
+    (past_the_end t a.block.now c.requires.0 _ (voted) (state-read _ c.in-Good.is) (lt-ltb 63 a.address c.if-address-gt63.true)) in record { value = told.0; block_after = told.1 }
 
 pub bounds-block-24 : goal.bounds-block-24
 bounds-block-24 c =
@@ -58,27 +62,33 @@ bounds-block-25 c =
 pub decide-requires : goal.decide-requires
 decide-requires c =
     let sized : length c.args.block.now ≡ 64 = (rest_passed c.args.block.now (sym c.rest_refusal-status.ensures ∙ c.if-status-ne0.false)).0 in
+    let state-read : (r : Decoded) → c.decode.result ≡ r → let a = c.args in registers_at (quiet_in a.mode) a.block.now ≡ machine_in r a.block.now = λ r e. let a = c.args in
+    by_state (quiet_in a.mode) _ a.block.now _ _ r c.is_quiet-quiet.ensures c.rest_refusal-status.ensures c.if-status-ne0.false c.decode.ensures e in
     let a = c.args in
-    let p = placed (quiet_in a.mode) a.block.now _ (λ i. (c.type_inv.block i).fits) (state-read c c.in-Good.is) _ refl in record { nodes_bound = (p.0, p.1, c.requires.2, sized); block_value = good_node _ _ _ (sym c.decode.ensures ∙ c.in-Good.is) }
+    let p = placed (quiet_in a.mode) a.block.now _ (λ i. (c.slice_known-1.given i).fits) (state-read _ c.in-Good.is) _ refl in record { nodes_bound = (p.0, p.1, c.requires.2, sized); block_value = good_node _ _ _ (sym c.decode.ensures ∙ c.in-Good.is) }
 
 pub returns-in-WrongLength : goal.returns-in-WrongLength
 returns-in-WrongLength c =
     let voted : not (eqb (length c.args.votes.now) 1792) ≡ false = ap not (eq-eqb (length c.args.votes.now) 1792 c.requires.2) in
+    let state-read : (r : Decoded) → c.decode.result ≡ r → let a = c.args in registers_at (quiet_in a.mode) a.block.now ≡ machine_in r a.block.now = λ r e. let a = c.args in
+    by_state (quiet_in a.mode) _ a.block.now _ _ r c.is_quiet-quiet.ensures c.rest_refusal-status.ensures c.if-status-ne0.false c.decode.ensures e in
     let no-state : {r : Decoded} → c.decode.result ≡ r → let a = c.args in 4 ≡ block_status (machine_in r a.block.now)
     → let t = WriteCycle a.mode a.address a.value a.heard0 a.heard1 a.requests a.votes.now a.arrived in
     (4 ≡ step_status t a.block.now) × (a.block.now ≡ step_left t a.block.now) = λ e h. let a = c.args in
     let t = WriteCycle a.mode a.address a.value a.heard0 a.heard1 a.requests a.votes.now a.arrived in
     kept t a.block.now 4 (λ z. omega arith)
-    (block_refused t a.block.now (voted) 4 (h ∙ sym (in_mode_lem a.mode a.block.now c.requires.0 ∙ ap block_status (state-read c e))) (λ z. omega arith)) in
+    (block_refused t a.block.now (voted) 4 (h ∙ sym (in_mode_lem a.mode a.block.now c.requires.0 ∙ ap block_status (state-read _ e))) (λ z. omega arith)) in
     let told = no-state c.in-WrongLength.is refl in record { value = told.0; block_after = told.1 }
 
 pub returns-in-Malformed : goal.returns-in-Malformed
 returns-in-Malformed c =
     let voted : not (eqb (length c.args.votes.now) 1792) ≡ false = ap not (eq-eqb (length c.args.votes.now) 1792 c.requires.2) in
+    let state-read : (r : Decoded) → c.decode.result ≡ r → let a = c.args in registers_at (quiet_in a.mode) a.block.now ≡ machine_in r a.block.now = λ r e. let a = c.args in
+    by_state (quiet_in a.mode) _ a.block.now _ _ r c.is_quiet-quiet.ensures c.rest_refusal-status.ensures c.if-status-ne0.false c.decode.ensures e in
     let no-state : {r : Decoded} → c.decode.result ≡ r → let a = c.args in 4 ≡ block_status (machine_in r a.block.now)
     → let t = WriteCycle a.mode a.address a.value a.heard0 a.heard1 a.requests a.votes.now a.arrived in
     (4 ≡ step_status t a.block.now) × (a.block.now ≡ step_left t a.block.now) = λ e h. let a = c.args in
     let t = WriteCycle a.mode a.address a.value a.heard0 a.heard1 a.requests a.votes.now a.arrived in
     kept t a.block.now 4 (λ z. omega arith)
-    (block_refused t a.block.now (voted) 4 (h ∙ sym (in_mode_lem a.mode a.block.now c.requires.0 ∙ ap block_status (state-read c e))) (λ z. omega arith)) in
+    (block_refused t a.block.now (voted) 4 (h ∙ sym (in_mode_lem a.mode a.block.now c.requires.0 ∙ ap block_status (state-read _ e))) (λ z. omega arith)) in
     let told = no-state c.in-Malformed.is refl in record { value = told.0; block_after = told.1 }

@@ -25,7 +25,7 @@ pub returns-then-status-ne0 : goal.returns-then-status-ne0
 returns-then-status-ne0 c =
     let moded : wrong_mode c.args.mode ≡ false = sym c.wrong_mode.ensures ∙ c.if-wrong_mode.false in
     let voted : not (eqb (length c.args.votes.now) 1792) ≡ false = ap not (eq-eqb (length c.args.votes.now) 1792 c.if-votes-ne1792.false) in
-    let a = c.args in let told = command-refused a.mode a.address a.value a.heard0 a.heard1 a.requests a.votes.now a.arrived a.block.now (λ i. (c.type_inv.block i).fits)
+    let a = c.args in let told = command-refused a.mode a.address a.value a.heard0 a.heard1 a.requests a.votes.now a.arrived a.block.now (λ i. (c.slice_known-1.given i).fits)
     (moded) (voted) _ _ c.command_first-status.ensures.value c.command_first-status.ensures.block_after c.if-status-ne0.true in record { value = told.0; block_after = told.1 }
 
 pub write_and_decide-requires : goal.write_and_decide-requires
@@ -37,6 +37,6 @@ pub returns : goal.returns
 returns c =
     let moded : wrong_mode c.args.mode ≡ false = sym c.wrong_mode.ensures ∙ c.if-wrong_mode.false in
     let voted : not (eqb (length c.args.votes.now) 1792) ≡ false = ap not (eq-eqb (length c.args.votes.now) 1792 c.if-votes-ne1792.false) in
-    let a = c.args in let told = command-done a.mode a.address a.value a.heard0 a.heard1 a.requests a.votes.now a.arrived a.block.now (λ i. (c.type_inv.block i).fits)
+    let a = c.args in let told = command-done a.mode a.address a.value a.heard0 a.heard1 a.requests a.votes.now a.arrived a.block.now (λ i. (c.slice_known-1.given i).fits)
     (moded) (voted) _ _ c.command_first-status.ensures.value c.command_first-status.ensures.block_after c.if-status-ne0.false _ _ _ c.address_left-left.ensures
     c.write_and_decide.ensures.value c.write_and_decide.ensures.block_after in record { value = told.0; block_after = told.1 }

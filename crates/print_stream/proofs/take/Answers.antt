@@ -109,6 +109,6 @@ returns c =
       took =
           takes due whole longest rate 128 short c.args.window.now c.args.have c.args.ended _ c.args.out.now c.args.at _ l.out l.used l.end l.over l.more
           c.requires.have_in_bounds.0 l.invariant.0 _ c.keep-kept.result
-          (λ j. (c.type_inv.window j).fits) c.loop-more-test.false c.keep-kept.ensures.value c.keep-kept.ensures.window_after;
+          (λ j. (c.slice_known-1.given j).fits) c.loop-more-test.false c.keep-kept.ensures.value c.keep-kept.ensures.window_after;
       sound = l.invariant.1;
     }

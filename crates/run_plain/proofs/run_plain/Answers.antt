@@ -38,7 +38,7 @@ cycle_length-at-requires c =
     let begun : Row = row_of (press).nodes c.args.start in
     let table : List ℕ = c.args.s.now in
     let states : States = states_of c.loop-at.w c.loop-at.numbers c.loop-at.sets c.loop-at.bases in
-    let i = c.loop-at.inv in
+    let i = c.loop-at.invariant in
     (going-there (press) (begun) (table) (states) c.loop-at.at i.number i.going c.loop-at-test.taken).0
 
 pub overflow_add-at : goal.overflow_add-at
@@ -47,7 +47,7 @@ overflow_add-at c =
     let begun : Row = row_of (press).nodes c.args.start in
     let table : List ℕ = c.args.s.now in
     let states : States = states_of c.loop-at.w c.loop-at.numbers c.loop-at.sets c.loop-at.bases in
-    let past : (36 ≤ c.cycle_length-at.result) × (c.loop-at.at + c.cycle_length-at.result ≤ length (table)) = let i = c.loop-at.inv in
+    let past : (36 ≤ c.cycle_length-at.result) × (c.loop-at.at + c.cycle_length-at.result ≤ length (table)) = let i = c.loop-at.invariant in
     going-past (press) (begun) (table) (states) c.loop-at.at i.number i.going c.loop-at-test.taken _ c.cycle_length-at.ensures in
     let t = past in omega arith
 
@@ -57,7 +57,7 @@ loop-at-smaller c =
     let begun : Row = row_of (press).nodes c.args.start in
     let table : List ℕ = c.args.s.now in
     let states : States = states_of c.loop-at.w c.loop-at.numbers c.loop-at.sets c.loop-at.bases in
-    let past : (36 ≤ c.cycle_length-at.result) × (c.loop-at.at + c.cycle_length-at.result ≤ length (table)) = let i = c.loop-at.inv in
+    let past : (36 ≤ c.cycle_length-at.result) × (c.loop-at.at + c.cycle_length-at.result ≤ length (table)) = let i = c.loop-at.invariant in
     going-past (press) (begun) (table) (states) c.loop-at.at i.number i.going c.loop-at-test.taken _ c.cycle_length-at.ensures in
     let t = past in omega arith
 
@@ -67,7 +67,7 @@ loop-at-preserved c =
     let begun : Row = row_of (press).nodes c.args.start in
     let table : List ℕ = c.args.s.now in
     let states : States = states_of c.loop-at.w c.loop-at.numbers c.loop-at.sets c.loop-at.bases in
-    let i = c.loop-at.inv in
+    let i = c.loop-at.invariant in
     record {
       number = i.number + 1;
       going =
