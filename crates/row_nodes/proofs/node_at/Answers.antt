@@ -2,7 +2,6 @@
 use mathlib.Core.Path.{◌≡◌, sym, ap, ◌∙◌}
 use mathlib.Core.Bool.{Bool, cond}
 use Prim.Native.Nat.{ℕ, ◌<◌}
-use borrow.Author.Rules.{rules}
 use borrow.Author.Tests.{lt-ltb, le-ltb}
 use Rattle.state.specs.declared.Node.{Node}
 use Rattle.cluster_states.specs.declared.Roles.{Roles}
@@ -21,7 +20,7 @@ in-range n s q x r w l e f =
 pub returns-then-q-lt64 : goal.returns-then-q-lt64
 returns-then-q-lt64 c =
     let a = c.args in
-    in-range a.n a.t2 a.q a.x _ _ c.if-q-lt64.true c.roles_of.ensures c.node_of.ensures
+    in-range a.n a.s a.q a.x _ _ c.if-q-lt64.true c.roles_of.ensures c.node_of.ensures
 
 pub returns-else-q-lt64 : goal.returns-else-q-lt64
 unfolding node_of
