@@ -1,9 +1,8 @@
 -- What a call answers and leaves, from what its parts do. Assumes nothing.
-use mathlib.Core.Path.{◌≡◌, refl, sym, ap, subst, ◌∙◌}
-use mathlib.Core.Bool.{not}
+use mathlib.Core.Logic.{◌≢◌}
+use mathlib.Core.Path.{◌≡◌, refl, sym, ap, ◌∙◌}
 use mathlib.Core.List.{List}
 use Prim.Native.Nat.{ℕ}
-use lib.Dec.{T as True, T_not, eqb, eqb→eq}
 use lib.ListN.{length}
 use Rattle.state.specs.declared.Node.{Node}
 use Rattle.bus_units.specs.Run.{frames_length}
@@ -22,12 +21,12 @@ from_row n m g ys e e' = (refl, e' ∙ ap (λ (k : ℕ). gathered k nothing_of 0
 
 module _ (t : Task) (n mode : ℕ) (ys : List Node) (bs : List ℕ) (r : Outcome) where
   -- a call that is not refused sets the row
-  pub row_set : (zs : List Node) → (r.status ≡ 0 → Leaves r.nodes r.states (length ys) (call_left t n mode ys frames_length bs)) → True (eqb r.status 0)
+  pub row_set : (zs : List Node) → (r.status ≡ 0 → Leaves r.nodes r.states (length ys) (call_left t n mode ys frames_length bs)) → r.status ≡ 0
       → zs ≡ each (node_of r.nodes r.states) 0 ys → zs ≡ call_left t n mode ys frames_length bs
   row_set zs leaves taken e =
-      let left = leaves (eqb→eq r.status 0 taken) in
+      let left = leaves taken in
       e ∙ scattered r.nodes r.states ys (sym left.0) left.1 ∙ left.2
 
   -- one that is refused leaves it as it was
-  pub row_kept : r.status ≡ call_status t n mode ys frames_length bs → True (not (eqb r.status 0)) → ys ≡ call_left t n mode ys frames_length bs
-  row_kept e refused = sym (refused_left t n mode ys frames_length bs (λ zero. T_not (eqb r.status 0) refused (subst (λ (k : ℕ). True (eqb k 0)) (sym (e ∙ zero)) tt)))
+  pub row_kept : r.status ≡ call_status t n mode ys frames_length bs → r.status ≢ 0 → ys ≡ call_left t n mode ys frames_length bs
+  row_kept e refused = sym (refused_left t n mode ys frames_length bs (λ zero. refused (e ∙ zero)))

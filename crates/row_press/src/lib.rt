@@ -1,4 +1,6 @@
 // Calls on the row of node structs that a caller lends.
+#![tactic(auto)]
+
 ghost use Rattle.std.specs.Prelude.{◌≡◌};
 ghost use Rattle.bus_units.specs.Run.{frames_length};
 ghost use Rattle.row_calls.specs.Calls.{call_status, call_left};
