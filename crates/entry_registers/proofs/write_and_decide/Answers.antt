@@ -72,23 +72,23 @@ returns-in-WrongLength c =
     let voted : not (eqb (length c.args.votes.now) 1792) ≡ false = ap not (eq-eqb (length c.args.votes.now) 1792 c.requires.2) in
     let state-read : (r : Decoded) → c.decode.result ≡ r → let a = c.args in registers_at (quiet_in a.mode) a.block.now ≡ machine_in r a.block.now = λ r e. let a = c.args in
     by_state (quiet_in a.mode) _ a.block.now _ _ r c.is_quiet-quiet.ensures c.rest_refusal-status.ensures c.if-status-ne0.false c.decode.ensures e in
-    let no-state : {r : Decoded} → c.decode.result ≡ r → let a = c.args in 4 ≡ block_status (machine_in r a.block.now)
+    let no-state : (r : Decoded) → c.decode.result ≡ r → let a = c.args in 4 ≡ block_status (machine_in r a.block.now)
     → let t = WriteCycle a.mode a.address a.value a.heard0 a.heard1 a.requests a.votes.now a.arrived in
-    (4 ≡ step_status t a.block.now) × (a.block.now ≡ step_left t a.block.now) = λ e h. let a = c.args in
+    (4 ≡ step_status t a.block.now) × (a.block.now ≡ step_left t a.block.now) = λ r e h. let a = c.args in
     let t = WriteCycle a.mode a.address a.value a.heard0 a.heard1 a.requests a.votes.now a.arrived in
     kept t a.block.now 4 (λ z. omega arith)
     (block_refused t a.block.now (voted) 4 (h ∙ sym (in_mode_lem a.mode a.block.now c.requires.0 ∙ ap block_status (state-read _ e))) (λ z. omega arith)) in
-    let told = no-state c.in-WrongLength.is refl in record { value = told.0; block_after = told.1 }
+    let told = no-state _ c.in-WrongLength.is refl in record { value = told.0; block_after = told.1 }
 
 pub returns-in-Malformed : goal.returns-in-Malformed
 returns-in-Malformed c =
     let voted : not (eqb (length c.args.votes.now) 1792) ≡ false = ap not (eq-eqb (length c.args.votes.now) 1792 c.requires.2) in
     let state-read : (r : Decoded) → c.decode.result ≡ r → let a = c.args in registers_at (quiet_in a.mode) a.block.now ≡ machine_in r a.block.now = λ r e. let a = c.args in
     by_state (quiet_in a.mode) _ a.block.now _ _ r c.is_quiet-quiet.ensures c.rest_refusal-status.ensures c.if-status-ne0.false c.decode.ensures e in
-    let no-state : {r : Decoded} → c.decode.result ≡ r → let a = c.args in 4 ≡ block_status (machine_in r a.block.now)
+    let no-state : (r : Decoded) → c.decode.result ≡ r → let a = c.args in 4 ≡ block_status (machine_in r a.block.now)
     → let t = WriteCycle a.mode a.address a.value a.heard0 a.heard1 a.requests a.votes.now a.arrived in
-    (4 ≡ step_status t a.block.now) × (a.block.now ≡ step_left t a.block.now) = λ e h. let a = c.args in
+    (4 ≡ step_status t a.block.now) × (a.block.now ≡ step_left t a.block.now) = λ r e h. let a = c.args in
     let t = WriteCycle a.mode a.address a.value a.heard0 a.heard1 a.requests a.votes.now a.arrived in
     kept t a.block.now 4 (λ z. omega arith)
     (block_refused t a.block.now (voted) 4 (h ∙ sym (in_mode_lem a.mode a.block.now c.requires.0 ∙ ap block_status (state-read _ e))) (λ z. omega arith)) in
-    let told = no-state c.in-Malformed.is refl in record { value = told.0; block_after = told.1 }
+    let told = no-state _ c.in-Malformed.is refl in record { value = told.0; block_after = told.1 }

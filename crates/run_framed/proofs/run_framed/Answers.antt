@@ -50,7 +50,7 @@ overflow_add-cursor c =
     let press : Config = c.args.config in
     let begun : Row = row_of (press).nodes c.args.start in
     let table : List ℕ = c.args.s.now in
-    let past : (36 ≤ c.cycle_length-cursor.result) × (c.loop-cursor.cursor + c.cycle_length-cursor.result ≤ length (table)) = going-past (press) (begun) (table) c.loop-cursor.states c.loop-cursor.cursor c.loop-cursor.k c.loop-cursor.invariant.going c.loop-cursor-test.taken _ c.cycle_length-cursor.ensures in
+    let past : (36 ≤ c.cycle_length-cursor.result) × (c.loop-cursor.cursor + c.cycle_length-cursor.result ≤ length (table)) = going-past (press) (begun) (table) c.loop-cursor.states c.loop-cursor.cursor c.loop-cursor.k c.loop-cursor.invariant.going c.loop-cursor-test.true _ c.cycle_length-cursor.ensures in
     let t = past in omega arith
 
 pub overflow_add-k : goal.overflow_add-k
@@ -58,7 +58,7 @@ overflow_add-k c =
     let press : Config = c.args.config in
     let begun : Row = row_of (press).nodes c.args.start in
     let table : List ℕ = c.args.s.now in
-    let past : (36 ≤ c.cycle_length-cursor.result) × (c.loop-cursor.cursor + c.cycle_length-cursor.result ≤ length (table)) = going-past (press) (begun) (table) c.loop-cursor.states c.loop-cursor.cursor c.loop-cursor.k c.loop-cursor.invariant.going c.loop-cursor-test.taken _ c.cycle_length-cursor.ensures in
+    let past : (36 ≤ c.cycle_length-cursor.result) × (c.loop-cursor.cursor + c.cycle_length-cursor.result ≤ length (table)) = going-past (press) (begun) (table) c.loop-cursor.states c.loop-cursor.cursor c.loop-cursor.k c.loop-cursor.invariant.going c.loop-cursor-test.true _ c.cycle_length-cursor.ensures in
     let t = past in let few = c.loop-cursor.invariant.going.few in omega arith
 
 pub loop-cursor-smaller : goal.loop-cursor-smaller
@@ -66,7 +66,7 @@ loop-cursor-smaller c =
     let press : Config = c.args.config in
     let begun : Row = row_of (press).nodes c.args.start in
     let table : List ℕ = c.args.s.now in
-    let past : (36 ≤ c.cycle_length-cursor.result) × (c.loop-cursor.cursor + c.cycle_length-cursor.result ≤ length (table)) = going-past (press) (begun) (table) c.loop-cursor.states c.loop-cursor.cursor c.loop-cursor.k c.loop-cursor.invariant.going c.loop-cursor-test.taken _ c.cycle_length-cursor.ensures in
+    let past : (36 ≤ c.cycle_length-cursor.result) × (c.loop-cursor.cursor + c.cycle_length-cursor.result ≤ length (table)) = going-past (press) (begun) (table) c.loop-cursor.states c.loop-cursor.cursor c.loop-cursor.k c.loop-cursor.invariant.going c.loop-cursor-test.true _ c.cycle_length-cursor.ensures in
     let t = past in omega arith
 
 pub loop-cursor-preserved : goal.loop-cursor-preserved
@@ -74,7 +74,7 @@ loop-cursor-preserved c =
     let press : Config = c.args.config in
     let begun : Row = row_of (press).nodes c.args.start in
     let table : List ℕ = c.args.s.now in
-    showing-next (press) (begun) (table) c.args.frames.now c.loop-cursor.states c.loop-cursor.cursor c.loop-cursor.k c.loop-cursor.frames c.loop-cursor.invariant c.requires.nodes_bound.0 c.loop-cursor-test.taken
+    showing-next (press) (begun) (table) c.args.frames.now c.loop-cursor.states c.loop-cursor.cursor c.loop-cursor.k c.loop-cursor.frames c.loop-cursor.invariant c.requires.nodes_bound.0 c.loop-cursor-test.true
     _ _ _ _ _ c.cycle_count.ensures.value c.cycle_faults.ensures c.cycle-states.ensures.result_value c.cycle-states.ensures.frames_after c.cycle_length-cursor.ensures (search rules)
 
 pub returns : goal.returns

@@ -23,7 +23,7 @@ bounds-s-35 c = omega arith
 pub returns-then-s-ne0 : goal.returns-then-s-ne0
 returns-then-s-ne0 c =
     let before : Row = let g = c.args in row_of g.config.nodes (states_of g.w g.numbers.now g.sets.now g.bases.now) in
-    let after : Row = let g = c.advance-after.new.1.1 in row_of c.args.config.nodes (states_of c.advance-after.result g.0 g.1.0 g.1.1.0) in
+    let after : Row = let g = c.advance-after.new in row_of c.args.config.nodes (states_of c.advance-after.result g.numbers g.sets g.bases) in
     let cycled : after ≡ cycle c.args.config (faults_at c.args.s.now) (before) = let m = c.marks_at-m in
     let e = c.cycle_missed.ensures in
     c.advance-after.ensures ∙ ap (λ (f : Faults). cycle c.args.config f (before)) (faults_are _ m.result _ _ m.ensures e.heartbeats_after e.votes_after) in
@@ -32,7 +32,7 @@ returns-then-s-ne0 c =
 pub returns-else-s-ne0 : goal.returns-else-s-ne0
 returns-else-s-ne0 c =
     let before : Row = let g = c.args in row_of g.config.nodes (states_of g.w g.numbers.now g.sets.now g.bases.now) in
-    let after : Row = let g = c.advance-after.new.1.1 in row_of c.args.config.nodes (states_of c.advance-after.result g.0 g.1.0 g.1.1.0) in
+    let after : Row = let g = c.advance-after.new in row_of c.args.config.nodes (states_of c.advance-after.result g.numbers g.sets g.bases) in
     let cycled : after ≡ cycle c.args.config (faults_at c.args.s.now) (before) = let m = c.marks_at-m in
     let e = c.cycle_missed.ensures in
     c.advance-after.ensures ∙ ap (λ (f : Faults). cycle c.args.config f (before)) (faults_are _ m.result _ _ m.ensures e.heartbeats_after e.votes_after) in

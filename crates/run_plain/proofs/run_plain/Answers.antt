@@ -39,7 +39,7 @@ cycle_length-at-requires c =
     let table : List ℕ = c.args.s.now in
     let states : States = states_of c.loop-at.w c.loop-at.numbers c.loop-at.sets c.loop-at.bases in
     let i = c.loop-at.invariant in
-    (going-there (press) (begun) (table) (states) c.loop-at.at i.number i.going c.loop-at-test.taken).0
+    (going-there (press) (begun) (table) (states) c.loop-at.at i.number i.going c.loop-at-test.true).0
 
 pub overflow_add-at : goal.overflow_add-at
 overflow_add-at c =
@@ -48,7 +48,7 @@ overflow_add-at c =
     let table : List ℕ = c.args.s.now in
     let states : States = states_of c.loop-at.w c.loop-at.numbers c.loop-at.sets c.loop-at.bases in
     let past : (36 ≤ c.cycle_length-at.result) × (c.loop-at.at + c.cycle_length-at.result ≤ length (table)) = let i = c.loop-at.invariant in
-    going-past (press) (begun) (table) (states) c.loop-at.at i.number i.going c.loop-at-test.taken _ c.cycle_length-at.ensures in
+    going-past (press) (begun) (table) (states) c.loop-at.at i.number i.going c.loop-at-test.true _ c.cycle_length-at.ensures in
     let t = past in omega arith
 
 pub loop-at-smaller : goal.loop-at-smaller
@@ -58,7 +58,7 @@ loop-at-smaller c =
     let table : List ℕ = c.args.s.now in
     let states : States = states_of c.loop-at.w c.loop-at.numbers c.loop-at.sets c.loop-at.bases in
     let past : (36 ≤ c.cycle_length-at.result) × (c.loop-at.at + c.cycle_length-at.result ≤ length (table)) = let i = c.loop-at.invariant in
-    going-past (press) (begun) (table) (states) c.loop-at.at i.number i.going c.loop-at-test.taken _ c.cycle_length-at.ensures in
+    going-past (press) (begun) (table) (states) c.loop-at.at i.number i.going c.loop-at-test.true _ c.cycle_length-at.ensures in
     let t = past in omega arith
 
 pub loop-at-preserved : goal.loop-at-preserved
@@ -71,7 +71,7 @@ loop-at-preserved c =
     record {
       number = i.number + 1;
       going =
-          going_next (press) (begun) (table) (states) c.loop-at.at i.number i.going c.loop-at-test.taken
+          going_next (press) (begun) (table) (states) c.loop-at.at i.number i.going c.loop-at-test.true
           _ _ _ refl c.plain_cycle-w.ensures.bases_after c.cycle_length-at.ensures;
       clear = c.plain_cycle-w.ensures.unheard_after;
     }
