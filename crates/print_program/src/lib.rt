@@ -1,4 +1,6 @@
 // A program over tables: reads one from standard input and prints its run, in the program's mode (read, call, write, and tell what failed); or answers its arguments.
+#![tactic(auto)]
+
 ghost use Rattle.std.specs.Prelude.{◌≡◌, ◌+◌, ◌*◌, ◌≤◌, ◌<◌, length, take};
 ghost use Rattle.print_options.specs.Options.{is_quiet};
 ghost use Rattle.print_pieces.specs.Pieces.{held};

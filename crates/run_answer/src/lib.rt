@@ -1,4 +1,6 @@
 // Calls on a row, worked out on values: what each answers, and the states that it leaves.
+#![tactic(auto)]
+
 ghost use Rattle.std.specs.Prelude.{◌≡◌, true, cond, List, ℕ, ◌≤◌, ◌<◌, ltb, length};
 ghost use Rattle.state.specs.declared.Node.{Node};
 ghost use Rattle.state.specs.State.{formed_state};
