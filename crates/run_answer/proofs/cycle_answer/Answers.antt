@@ -54,6 +54,11 @@ returns-then-refusal-ne0 c =
       as_lent = λ _. (c.refused-then-refusal-ne0.ensures.1, c.refused-then-refusal-ne0.ensures.2);
     }
 
+pub overflow_cast-result : goal.overflow_cast-result
+overflow_cast-result c =
+    let fitting : Fits c.args.n c.args.mode c.args.len = row_fits _ _ _ _ _ (sym (looked) ∙ c.if-status-ne0.false) in
+    omega (arith, fitting.count.1)
+
 pub cycle_faults-requires : goal.cycle_faults-requires
 cycle_faults-requires c = let t = accepted _ _ _ (sym c.cycle_refusal-refusal.ensures ∙ c.if-refusal-ne0.false) in (t.head, t.there)
 
