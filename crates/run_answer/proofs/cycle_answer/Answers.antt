@@ -56,6 +56,9 @@ returns-then-refusal-ne0 c =
 
 pub overflow_cast-result : goal.overflow_cast-result
 overflow_cast-result c =
+    let looked : let a = c.args in c.row_status-status.result ≡ row_status a.n a.mode a.len (ordered (quiet_in a.mode) a.g) a.s.now = let a = c.args in
+    c.row_status-status.ensures
+    ∙ ap (λ (b : Bool). row_status a.n a.mode a.len b a.s.now) (c.is_ordered.ensures ∙ ap (λ (b : Bool). ordered b a.g) c.is_quiet-quiet.ensures) in
     let fitting : Fits c.args.n c.args.mode c.args.len = row_fits _ _ _ _ _ (sym (looked) ∙ c.if-status-ne0.false) in
     omega (arith, fitting.count.1)
 
