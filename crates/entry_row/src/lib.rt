@@ -1,4 +1,6 @@
 // Calls on the row as C lends it.
+#![tactic(auto)]
+
 ghost use Rattle.std.specs.Prelude.{◌≡◌, length};
 ghost use Rattle.entry_row.specs.OnImages.{lent_status, lent_left, lent_frames, images_status, images_left};
 

@@ -1,4 +1,6 @@
 // A program that makes the calls of its input on a lent row of node structs, and prints each unit's state after each call.
+#![tactic(auto)]
+
 ghost use Rattle.std.specs.Prelude.{◌≡◌, ◌++◌, ◌+◌, ◌≤◌, ◌<◌, length, take, drop};
 ghost use Rattle.bus_units.specs.Run.{frames_length};
 ghost use Rattle.row_calls.specs.Calls.{call_status, call_left};

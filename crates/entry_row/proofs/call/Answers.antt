@@ -1,0 +1,10 @@
+use borrow.Author.Rules.{rules}
+use Rattle.entry_row.specs.OnImages.{images_status, images_left}
+use Rattle.entry_row.proofs.call.Goals as goal
+
+pub call_with-requires : goal.call_with-requires
+call_with-requires c = tt
+
+pub returns : goal.returns
+unfolding images_status images_left
+returns c = let e = c.call_with.ensures in record { value = e.value; images_after = e.images_after }
