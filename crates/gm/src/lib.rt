@@ -1,5 +1,7 @@
 // The entries for a C host: numbers and byte buffers only. Every entry answers 0 or the number of its refusal, and a refusal changes nothing.
 // include/gm.h declares the entries; the contract of each gives its status and every byte that it is lent, for all inputs.
+#![tactic(auto)]
+
 ghost use Rattle.std.specs.Prelude.{◌≡◌, length};
 ghost use Rattle.entry_lent.specs.Found.{lent_state, image_status};
 ghost use Rattle.entry_stop_start.specs.StopStart.{stop_left, start_left};

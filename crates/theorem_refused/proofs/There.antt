@@ -4,6 +4,7 @@ use mathlib.Core.List.{List, []}
 use Prim.Native.Nat.{ℕ, suc}
 use native.Mathlib.Omega.{arith}
 use denote.Ref.{Bor}
+use denote.MutBor.{MutBor}
 use Rattle.refusal.specs.Refusal.{first, unless}
 use Rattle.state.specs.Image.{decoded}
 use Rattle.table.specs.Records.{start_refusal}
@@ -48,12 +49,15 @@ use Rattle.gm.proofs.gm_run.Reads as gm-run
 use Rattle.gm.proofs.gm_run_frames.Reads as gm-run-frames
 use Rattle.theorem_refused.specs.Kept.{Refused}
 
--- an empty buffer and a result that is 0, lent at any place
-abbrev empty : Bor (List ℕ)
-empty = record { ref_ptr = (0, 0); now = [] }
+-- an empty buffer that is lent to be read, one that is lent to be written, and a result that is 0, at any place
+abbrev read : Bor (List ℕ)
+read = record { ref_ptr = (0, 0); now = [] }
 
-abbrev nought : Bor ℕ
-nought = record { ref_ptr = (0, 0); now = 0 }
+abbrev empty : MutBor (List ℕ)
+empty = record { ref_ptr = (0, 0); ghost_name = 0; now = [] }
+
+abbrev nought : MutBor ℕ
+nought = record { ref_ptr = (0, 0); ghost_name = 0; now = 0 }
 
 some : (k : ℕ) → Refused (suc k)
 some k z = omega arith
@@ -74,7 +78,7 @@ pub state_there : (κs : _) × (a : _) × (r : _) × gm-state.Learnt κs a r a �
 unfolding decoded lent_state image_status kind_left reason_left node_left count_left number_left set_left base_left
 state_there = (
   ([], ([], ([], ([], ([], ([], ([], ([], tt)))))))),
-  (0, (empty, (nought, (nought, (nought, (nought, (nought, (nought, (nought, tt))))))))),
+  (0, (read, (nought, (nought, (nought, (nought, (nought, (nought, (nought, tt))))))))),
   3,
   (refl, (refl, (refl, (refl, (refl, (refl, (refl, refl))))))),
   some 2,
@@ -82,17 +86,17 @@ state_there = (
 
 pub write_heartbeat_there : (κs : _) × (a : _) × (r : _) × gm-write-heartbeat.Learnt κs a r a × Refused r
 unfolding first unless wrong_count write_heartbeat_status write_heartbeat_left
-write_heartbeat_there = (([], ([], tt)), (0, (0, (0, (0, (0, (0, (0, (0, (0, (empty, (empty, tt))))))))))), 1, (refl, refl), some 0)
+write_heartbeat_there = (([], ([], tt)), (0, (0, (0, (0, (0, (0, (0, (0, (0, (read, (empty, tt))))))))))), 1, (refl, refl), some 0)
 
 pub send_heartbeat_there : (κs : _) × (a : _) × (r : _) × gm-send-heartbeat.Learnt κs a r a × Refused r
 unfolding first unless wrong_indicators wrong_drive send_heartbeat_status send_heartbeat_left send_heartbeat_sent
-send_heartbeat_there = (([], ([], ([], ([], tt)))), (0, (empty, (0, (0, (0, (0, (empty, (empty, (nought, tt))))))))), 3, (refl, (refl, refl)), some 2)
+send_heartbeat_there = (([], ([], ([], ([], tt)))), (0, (read, (0, (0, (0, (0, (read, (empty, (nought, tt))))))))), 3, (refl, (refl, refl)), some 2)
 
 pub read_heartbeat_there : (κs : _) × (a : _) × (r : _) × gm-read-heartbeat.Learnt κs a r a × Refused r
 unfolding first unless wrong_count read_status read_heartbeat_status read_heartbeat_drive read_heartbeat_join read_heartbeat_request read_heartbeat_drive_bytes
 read_heartbeat_there = (
   ([], ([], ([], ([], ([], tt))))),
-  (0, (0, (0, (0, (0, (empty, (empty, (nought, (nought, (nought, tt)))))))))),
+  (0, (0, (0, (0, (0, (read, (empty, (nought, (nought, (nought, tt)))))))))),
   1,
   (refl, (refl, (refl, (refl, refl)))),
   some 0,
@@ -100,11 +104,11 @@ read_heartbeat_there = (
 
 pub receive_heartbeat_there : (κs : _) × (a : _) × (r : _) × gm-receive-heartbeat.Learnt κs a r a × Refused r
 unfolding first unless wrong_count receive_heartbeat_status receive_heartbeat_drive receive_heartbeat_heard receive_heartbeat_drive_bytes
-receive_heartbeat_there = (([], ([], ([], ([], ([], tt))))), (0, (0, (0, (0, (empty, (empty, (empty, (nought, (nought, tt))))))))), 1, (refl, (refl, (refl, refl))), some 0)
+receive_heartbeat_there = (([], ([], ([], ([], ([], tt))))), (0, (0, (0, (0, (read, (read, (empty, (nought, (nought, tt))))))))), 1, (refl, (refl, (refl, refl))), some 0)
 
 pub view_there : (κs : _) × (a : _) × (r : _) × gm-view.Learnt κs a r a × Refused r
 unfolding decoded lent_state image_status
-view_there = (([], ([], tt)), (0, (empty, (0, (0, (nought, tt))))), 3, (refl, refl), some 2)
+view_there = (([], ([], tt)), (0, (read, (0, (0, (nought, tt))))), 3, (refl, refl), some 2)
 
 pub write_vote_there : (κs : _) × (a : _) × (r : _) × gm-write-vote.Learnt κs a r a × Refused r
 unfolding first unless wrong_count write_vote_status write_vote_left
@@ -112,23 +116,23 @@ write_vote_there = (([], tt), (0, (0, (0, (0, (0, (0, (0, (0, (empty, tt))))))))
 
 pub send_vote_there : (κs : _) × (a : _) × (r : _) × gm-send-vote.Learnt κs a r a × Refused r
 unfolding first unless send_vote_status send_vote_left send_vote_sent
-send_vote_there = (([], ([], ([], tt))), (0, (empty, (0, (0, (0, (0, (0, (empty, (nought, tt))))))))), 3, (refl, (refl, refl)), some 2)
+send_vote_there = (([], ([], ([], tt))), (0, (read, (0, (0, (0, (0, (0, (empty, (nought, tt))))))))), 3, (refl, (refl, refl)), some 2)
 
 pub read_vote_there : (κs : _) × (a : _) × (r : _) × gm-read-vote.Learnt κs a r a × Refused r
 unfolding first unless wrong_count read_vote_numbers read_vote_status read_vote_left
-read_vote_there = (([], ([], tt)), (0, (0, (0, (0, (empty, (empty, tt)))))), 1, (refl, refl), some 0)
+read_vote_there = (([], ([], tt)), (0, (0, (0, (0, (read, (empty, tt)))))), 1, (refl, refl), some 0)
 
 pub receive_vote_there : (κs : _) × (a : _) × (r : _) × gm-receive-vote.Learnt κs a r a × Refused r
 unfolding first unless wrong_count receive_vote_status receive_vote_left receive_vote_arrived
-receive_vote_there = (([], ([], ([], ([], tt)))), (0, (0, (0, (empty, (empty, (empty, (nought, tt))))))), 1, (refl, (refl, refl)), some 0)
+receive_vote_there = (([], ([], ([], ([], tt)))), (0, (0, (0, (read, (read, (empty, (nought, tt))))))), 1, (refl, (refl, refl)), some 0)
 
 pub decide_there : (κs : _) × (a : _) × (r : _) × gm-decide.Learnt κs a r a × Refused r
 unfolding first unless decide_status decide_left
-decide_there = (([], ([], tt)), (0, (empty, (0, (0, (0, (empty, (0, tt))))))), 3, (refl, refl), some 2)
+decide_there = (([], ([], tt)), (0, (empty, (0, (0, (0, (read, (0, tt))))))), 3, (refl, refl), some 2)
 
 pub register_read_there : (κs : _) × (a : _) × (r : _) × gm-register-read.Learnt κs a r a × Refused r
 unfolding first unless step_status step_read step_value
-register_read_there = (([], ([], tt)), (0, (empty, (0, (nought, tt)))), 3, (refl, refl), some 2)
+register_read_there = (([], ([], tt)), (0, (read, (0, (nought, tt)))), 3, (refl, refl), some 2)
 
 pub register_write_there : (κs : _) × (a : _) × (r : _) × gm-register-write.Learnt κs a r a × Refused r
 unfolding first unless step_status step_left
@@ -136,20 +140,20 @@ register_write_there = (([], tt), (0, (empty, (0, (0, tt)))), 3, (refl, refl), s
 
 pub register_cycle_there : (κs : _) × (a : _) × (r : _) × gm-register-cycle.Learnt κs a r a × Refused r
 unfolding first unless step_status step_left
-register_cycle_there = (([], ([], tt)), (0, (empty, (0, (0, (0, (empty, (0, tt))))))), 3, (refl, refl), some 2)
+register_cycle_there = (([], ([], tt)), (0, (empty, (0, (0, (0, (read, (0, tt))))))), 3, (refl, refl), some 2)
 
 pub register_write_cycle_there : (κs : _) × (a : _) × (r : _) × gm-register-write-cycle.Learnt κs a r a × Refused r
 unfolding first unless step_status step_left
-register_write_cycle_there = (([], ([], tt)), (0, (empty, (0, (0, (0, (0, (0, (empty, (0, tt))))))))), 3, (refl, refl), some 2)
+register_write_cycle_there = (([], ([], tt)), (0, (empty, (0, (0, (0, (0, (0, (read, (0, tt))))))))), 3, (refl, refl), some 2)
 
 pub cycle_there : (κs : _) × (a : _) × (r : _) × gm-cycle.Learnt κs a r a × Refused r
 unfolding first unless row_status cycle_status lent_status lent_left images_status images_left
-cycle_there = (([], ([], tt)), (0, (0, (empty, (empty, tt)))), 1, (refl, refl), some 0)
+cycle_there = (([], ([], tt)), (0, (0, (empty, (read, tt)))), 1, (refl, refl), some 0)
 
 pub run_there : (κs : _) × (a : _) × (r : _) × gm-run.Learnt κs a r a × Refused r
 unfolding first unless start_refusal table_of run_status lent_status lent_left images_status images_left
-run_there = (([], ([], tt)), (0, (empty, (empty, tt))), 11, (refl, refl), some 10)
+run_there = (([], ([], tt)), (0, (empty, (read, tt))), 11, (refl, refl), some 10)
 
 pub run_frames_there : (κs : _) × (a : _) × (r : _) × gm-run-frames.Learnt κs a r a × Refused r
 unfolding first unless start_refusal table_of framed_status frames_left lent_status lent_left lent_frames
-run_frames_there = (([], ([], ([], tt))), (0, (empty, (empty, (empty, tt)))), 11, (refl, (refl, refl)), some 10)
+run_frames_there = (([], ([], ([], tt))), (0, (empty, (read, (empty, tt)))), 11, (refl, (refl, refl)), some 10)

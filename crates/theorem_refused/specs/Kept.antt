@@ -5,7 +5,7 @@
 -- What is lent only to be read is not said to be kept: no code can write it.
 -- Assumes nothing.
 use Rattle.std.specs.Prelude.{◌≡◌, ℕ}
-use Rattle.std.specs.Borrow.{Bor}
+use Rattle.std.specs.Borrow.{MutBor}
 use Rattle.gm.proofs.gm_begin.Reads as gm-begin
 use Rattle.gm.proofs.gm_stop.Reads as gm-stop
 use Rattle.gm.proofs.gm_start.Reads as gm-start
@@ -33,7 +33,7 @@ abbrev pub Refused : ℕ → Type 0
 Refused r = r ≡ 0 → ⊥
 
 -- a lent argument holds at the end what it held when the call began: of a buffer every byte, and its length
-abbrev pub Kept : {X : Type 0} → Bor X → Bor X → Type 0
+abbrev pub Kept : {X : Type 0} → MutBor X → MutBor X → Type 0
 Kept before after = after.now ≡ before.now
 
 pub record RefusedKept : Type 1 where

@@ -225,8 +225,12 @@ module _ (E : Entries) (told : Within E by_definition) (mode n : ℕ) (two : 2 �
   sound-pressed : (k : Cluster) (cs : List Faults) (x z : ℕ → List ℕ) → FormedRow C k.row → Holds x k.row → SoundPressed E mode n k.row cs x z → Holds z (after C k cs).row
   unfolding after step
   sound-pressed k [] x z w e no-cycle = e
-  sound-pressed k (c ∷ cs) x z w e (next {y = y} count stop start bus d rest) =
-      sound-pressed (step C k c) cs y z (cycle-formed C c k.row w) (sound-holds count stop start bus x y k.row w e d) rest
+  sound-pressed k (c ∷ cs) x z w e press = first k c w e press (λ k' y w' e' p. sound-pressed k' cs y z w' e' p)
+    where
+      first : (k : Cluster) (c : Faults) → FormedRow C k.row → Holds x k.row → SoundPressed E mode n k.row (c ∷ cs) x z
+          → ((k' : Cluster) (y : ℕ → List ℕ) → FormedRow C k'.row → Holds y k'.row → SoundPressed E mode n k'.row cs y z → Holds z (after C k' cs).row)
+          → Holds z (after C (step C k c) cs).row
+      first k c w e (next {y = y} count stop start bus d rest) follow = follow (step C k c) y (cycle-formed C c k.row w) (sound-holds count stop start bus x y k.row w e d) rest
 
 -- ---- the theorems
 

@@ -10,6 +10,7 @@ use lib.ListN.{length, take, replicate}
 use lib.Seq.{take_at}
 use borrow.Author.Tests.{eq-eqb}
 use denote.Ref.{Bor}
+use denote.MutBor.{MutBor}
 use Rattle.sets.specs.Sets.{below}
 use Rattle.sets.proofs.Booleans.{or_f_r}
 use Rattle.refusal.proofs.Laws.{none}
@@ -38,9 +39,12 @@ use Rattle.theorem_units.proofs.Compiled as single
 use Rattle.theorem_units.specs.Blocks.{Commands, command, Cycles, alone, with_a_write, in_blocks}
 use Rattle.theorem_units.proofs.Blocks.{told}
 
--- a reference to a value, at any place
+-- a value that is lent to be read, and one that is lent to be written, at any place
 abbrev ref : {X : Type 0} → X → Bor X
 ref x = record { ref_ptr = (0, 0); now = x }
+
+abbrev own : {X : Type 0} → X → MutBor X
+own x = record { ref_ptr = (0, 0); ghost_name = 0; now = x }
 
 -- the node of a state that is accepted, in a mode that there is
 node_in_lem : (mode : ℕ) (x : List ℕ) → 0 ≡ image_status mode x → (n : Node) × (wrong_mode mode ≡ false) × (decoded (quiet_in mode) x ≡ Good n)
@@ -78,7 +82,7 @@ module _ (mode : ℕ) (x : List ℕ) (n : Node) (moded : wrong_mode mode ≡ fal
   command-there v =
       let left = step_left (Write mode 27 v) (block x) in
       subst (λ (z : List ℕ). Commands v mode z (take 24 left)) front
-      (command ([], tt) (mode, (ref (block x), (27, (v, tt)))) 0 (mode, (ref left, (27, (v, tt)))) (step_good (Write mode 27 v) x n moded e refl refl, refl) refl refl refl)
+      (command ([], tt) (mode, (own (block x), (27, (v, tt)))) 0 (mode, (own left, (27, (v, tt)))) (step_good (Write mode 27 v) x n moded e refl refl, refl) refl refl refl)
 
   module _ (heard0 heard1 requests : ℕ) (votes : List ℕ) (arrived : ℕ) (l : length votes ≡ 1792) where
     cycle_there : Cycles mode x heard0 heard1 requests votes arrived (take 24 (step_left (Cycle mode heard0 heard1 requests votes arrived) (block x)))
@@ -86,8 +90,8 @@ module _ (mode : ℕ) (x : List ℕ) (n : Node) (moded : wrong_mode mode ≡ fal
         let t = Cycle mode heard0 heard1 requests votes arrived in
         let left = step_left t (block x) in
         subst (λ (z : List ℕ). Cycles mode z heard0 heard1 requests votes arrived (take 24 left)) front
-        (alone ([], ([], tt)) (mode, (ref (block x), (heard0, (heard1, (requests, (ref votes, (arrived, tt))))))) 0
-        (mode, (ref left, (heard0, (heard1, (requests, (ref votes, (arrived, tt)))))))
+        (alone ([], ([], tt)) (mode, (own (block x), (heard0, (heard1, (requests, (ref votes, (arrived, tt))))))) 0
+        (mode, (own left, (heard0, (heard1, (requests, (ref votes, (arrived, tt)))))))
         (step_good t x n moded e (ap not (eq-eqb (length votes) 1792 l)) refl, refl) refl)
 
     -- the same together with a write to byte 24
@@ -96,8 +100,8 @@ module _ (mode : ℕ) (x : List ℕ) (n : Node) (moded : wrong_mode mode ≡ fal
         let t = WriteCycle mode 24 v heard0 heard1 requests votes arrived in
         let left = step_left t (block x) in
         subst (λ (z : List ℕ). Cycles mode z heard0 heard1 requests votes arrived (take 24 left)) front
-        (with_a_write ([], ([], tt)) (mode, (ref (block x), (24, (v, (heard0, (heard1, (requests, (ref votes, (arrived, tt))))))))) 0
-        (mode, (ref left, (24, (v, (heard0, (heard1, (requests, (ref votes, (arrived, tt)))))))))
+        (with_a_write ([], ([], tt)) (mode, (own (block x), (24, (v, (heard0, (heard1, (requests, (ref votes, (arrived, tt))))))))) 0
+        (mode, (own left, (24, (v, (heard0, (heard1, (requests, (ref votes, (arrived, tt)))))))))
         (step_good t x n moded e (ap not (eq-eqb (length votes) 1792 l)) refl, refl) refl (λ z. omega arith))
 
 -- ---- so that every call by the definitions is one of a block

@@ -3,6 +3,7 @@ use mathlib.Core.Path.{refl, sym, ◌∙◌}
 use mathlib.Core.List.{List, []}
 use Prim.Native.Nat.{ℕ}
 use denote.Ref.{Bor}
+use denote.MutBor.{MutBor}
 use Rattle.theorem_unit_calls.specs.Entries.{Frame, Within, by_definition}
 use Rattle.entry_receive_heartbeat.specs.Hearing.{receive_heartbeat_drive, receive_heartbeat_drive_bytes}
 use Rattle.theorem_units.specs.Compiled.{begin, stop, start, send_heartbeat, receive_heartbeat, send_vote, receive_vote, decide, compiled}
@@ -97,31 +98,34 @@ told =
 
 -- ---- and what the definition says of a call, a contract can tell of one
 
--- a reference to a value, at any place
+-- a value that is lent to be read, and one that is lent to be written, at any place
 abbrev ref : {X : Type 0} → X → Bor X
 ref x = record { ref_ptr = (0, 0); now = x }
+
+abbrev own : {X : Type 0} → X → MutBor X
+own x = record { ref_ptr = (0, 0); ghost_name = 0; now = x }
 
 pub had : Within by_definition compiled
 had =
     record {
-      begin = λ n q F y k. begin ([], tt) (n, (q, (F, (ref k.lower.0, tt)))) 0 (n, (q, (F, (ref y, tt)))) (k.lower.1, k.lower.2) refl;
-      stop = λ mode x y k. stop ([], tt) (mode, (ref x, tt)) 0 (mode, (ref y, tt)) (k.lower.0, k.lower.1) refl;
-      start = λ mode x y k. start ([], tt) (mode, (ref x, tt)) 0 (mode, (ref y, tt)) (k.lower.0, k.lower.1) refl;
+      begin = λ n q F y k. begin ([], tt) (n, (q, (F, (own k.lower.0, tt)))) 0 (n, (q, (F, (own y, tt)))) (k.lower.1, k.lower.2) refl;
+      stop = λ mode x y k. stop ([], tt) (mode, (own x, tt)) 0 (mode, (own y, tt)) (k.lower.0, k.lower.1) refl;
+      start = λ mode x y k. start ([], tt) (mode, (own x, tt)) 0 (mode, (own y, tt)) (k.lower.0, k.lower.1) refl;
       send_heartbeat = λ mode x sync startup count channel drive g k.
-          send_heartbeat ([], ([], ([], ([], tt)))) (mode, (ref x, (sync, (startup, (count, (channel, (ref drive, (ref k.lower.0, (ref k.lower.1, tt))))))))) 0
-          (mode, (ref x, (sync, (startup, (count, (channel, (ref drive, (ref g.bytes, (ref g.sent, tt))))))))) (k.lower.2, (k.lower.3, k.lower.4)) refl;
+          send_heartbeat ([], ([], ([], ([], tt)))) (mode, (ref x, (sync, (startup, (count, (channel, (ref drive, (own k.lower.0, (own k.lower.1, tt))))))))) 0
+          (mode, (ref x, (sync, (startup, (count, (channel, (ref drive, (own g.bytes, (own g.sent, tt))))))))) (k.lower.2, (k.lower.3, k.lower.4)) refl;
       receive_heartbeat = λ n mode p count x y heard k.
           let d = k.lower.0 in
-          receive_heartbeat ([], ([], ([], ([], ([], tt))))) (n, (mode, (p, (count, (ref x, (ref y, (ref d, (ref k.lower.1, (ref 0, tt))))))))) 0
-          (n, (mode, (p, (count, (ref x, (ref y, (ref (receive_heartbeat_drive n mode p count x y d), (ref heard, (ref (receive_heartbeat_drive_bytes n mode p count x y d 0), tt)))))))))
+          receive_heartbeat ([], ([], ([], ([], ([], tt))))) (n, (mode, (p, (count, (ref x, (ref y, (own d, (own k.lower.1, (own 0, tt))))))))) 0
+          (n, (mode, (p, (count, (ref x, (ref y, (own (receive_heartbeat_drive n mode p count x y d), (own heard, (own (receive_heartbeat_drive_bytes n mode p count x y d 0), tt)))))))))
           (k.lower.2, (refl, (k.lower.3, refl))) refl;
       send_vote = λ mode x heard0 heard1 requests count channel g k.
-          send_vote ([], ([], ([], tt))) (mode, (ref x, (heard0, (heard1, (requests, (count, (channel, (ref k.lower.0, (ref k.lower.1, tt))))))))) 0
-          (mode, (ref x, (heard0, (heard1, (requests, (count, (channel, (ref g.bytes, (ref g.sent, tt))))))))) (k.lower.2, (k.lower.3, k.lower.4)) refl;
+          send_vote ([], ([], ([], tt))) (mode, (ref x, (heard0, (heard1, (requests, (count, (channel, (own k.lower.0, (own k.lower.1, tt))))))))) 0
+          (mode, (ref x, (heard0, (heard1, (requests, (count, (channel, (own g.bytes, (own g.sent, tt))))))))) (k.lower.2, (k.lower.3, k.lower.4)) refl;
       receive_vote = λ n p count x y t m u l k.
-          receive_vote ([], ([], ([], ([], tt)))) (n, (p, (count, (ref x, (ref y, (ref t, (ref m, tt))))))) 0 (n, (p, (count, (ref x, (ref y, (ref u, (ref l, tt)))))))
+          receive_vote ([], ([], ([], ([], tt)))) (n, (p, (count, (ref x, (ref y, (own t, (own m, tt))))))) 0 (n, (p, (count, (ref x, (ref y, (own u, (own l, tt)))))))
           (k.lower.0, (k.lower.1, k.lower.2)) refl;
       decide = λ mode x heard0 heard1 requests votes arrived y k.
-          decide ([], ([], tt)) (mode, (ref x, (heard0, (heard1, (requests, (ref votes, (arrived, tt))))))) 0 (mode, (ref y, (heard0, (heard1, (requests, (ref votes, (arrived, tt)))))))
+          decide ([], ([], tt)) (mode, (own x, (heard0, (heard1, (requests, (ref votes, (arrived, tt))))))) 0 (mode, (own y, (heard0, (heard1, (requests, (ref votes, (arrived, tt)))))))
           (k.lower.0, k.lower.1) refl;
     }
