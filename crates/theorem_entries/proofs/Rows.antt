@@ -13,6 +13,7 @@ use prog.Routine.{Routine}
 use types.Logic.{Logic, sem}
 use contract.Monad.{Fun, fact, fact_mono, fact_use}
 use denote.Ref.{Bor}
+use denote.MutBor.{MutBor}
 use denote.Triple.Clauses.{Lasts, lasts}
 use Rattle.sets.specs.Sets.{below}
 use Rattle.state.specs.declared.Node.{Node}
@@ -40,11 +41,11 @@ both_facts 𝓤 P Q =
 
 -- a call of the routine with the task t, the number n, the mode m, the row x and the bytes b, that answers r
 module _ {M : Type 1} {𝓤 : Ura M} (𝓛 : Logic 𝓤) (mem : Memory → SProp 𝓤) (run : Routine → Fun 𝓤)
-    (κ κ₁ : Lft) (t : Task) (n m : ℕ) (x : Bor (List Node)) (b : Bor (List ℕ)) (r : ℕ) where
+    (κ κ₁ : Lft) (t : Task) (n m : ℕ) (x : MutBor (List Node)) (b : Bor (List ℕ)) (r : ℕ) where
   abbrev κs : Lft × (Lft × Unit {0})
   κs = (κ, (κ₁, tt))
 
-  abbrev a : Task × (ℕ × (ℕ × (Bor (List Node) × (Bor (List ℕ) × Unit {0}))))
+  abbrev a : Task × (ℕ × (ℕ × (MutBor (List Node) × (Bor (List ℕ) × Unit {0}))))
   a = (t, (n, (m, (x, (b, tt)))))
 
   abbrev made : Call

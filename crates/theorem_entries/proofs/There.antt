@@ -7,6 +7,7 @@ use mathlib.Core.List.{List, [], ◌∷◌, ◌++◌}
 use Prim.Native.Nat.{ℕ, ◌≤◌}
 use lib.ListN.{length, replicate, length-replicate}
 use denote.Ref.{Bor}
+use denote.MutBor.{MutBor}
 use Rattle.sets.specs.Sets.{below}
 use Rattle.bigendian.specs.BigEndian.{number_at}
 use Rattle.state.specs.declared.Node.{Node}
@@ -54,23 +55,26 @@ done_callable (cycle κs a r s l p q rest) = cycles a.0 a.1.0 a.1.1.1.0.now (don
 done_callable (run κs a r s l p q rest) = runs a.0 a.1.1.0.now (done_callable rest)
 done_callable (run_frames κs a r s l p q rest) = runs_frames a.0 (length a.1.1.1.0.now) a.1.1.0.now (done_callable rest)
 
--- bytes lent at any place
+-- bytes that are lent to be read, and bytes that are lent to be written, at any place
 abbrev ref : List ℕ → Bor (List ℕ)
 ref x = record { ref_ptr = (0, 0); now = x }
+
+abbrev own : List ℕ → MutBor (List ℕ)
+own x = record { ref_ptr = (0, 0); ghost_name = 0; now = x }
 
 -- each call as its contract tells it, with the status and the bytes of the definitions that it cites
 cycle-first : {cs : List Call} {x z : List ℕ} (n mode : ℕ) (s : List ℕ) → Done cs (images_left Cycle n mode x s) z → Done (a_cycle n mode s ∷ cs) x z
 cycle-first {cs} {x} {z} n mode s rest =
-    cycle ([], ([], tt)) (n, (mode, (ref x, (ref s, tt)))) (images_status Cycle n mode x s) (n, (mode, (ref (images_left Cycle n mode x s), (ref s, tt)))) (refl, refl) refl refl rest
+    cycle ([], ([], tt)) (n, (mode, (own x, (ref s, tt)))) (images_status Cycle n mode x s) (n, (mode, (own (images_left Cycle n mode x s), (ref s, tt)))) (refl, refl) refl refl rest
 
 run_first : {cs : List Call} {x z : List ℕ} (mode : ℕ) (s : List ℕ) → Done cs (images_left Run 0 mode x s) z → Done (a_run mode s ∷ cs) x z
 run_first {cs} {x} {z} mode s rest =
-    run ([], ([], tt)) (mode, (ref x, (ref s, tt))) (images_status Run 0 mode x s) (mode, (ref (images_left Run 0 mode x s), (ref s, tt))) (refl, refl) refl refl rest
+    run ([], ([], tt)) (mode, (own x, (ref s, tt))) (images_status Run 0 mode x s) (mode, (own (images_left Run 0 mode x s), (ref s, tt))) (refl, refl) refl refl rest
 
 run_frames_first : {cs : List Call} {x z : List ℕ} (mode : ℕ) (frames s : List ℕ) → Done cs (lent_left FramedRun 0 mode x (length frames) s) z → Done (a_framed_run mode (length frames) s ∷ cs) x z
 run_frames_first {cs} {x} {z} mode frames s rest =
-    run_frames ([], ([], ([], tt))) (mode, (ref x, (ref s, (ref frames, tt)))) (lent_status FramedRun 0 mode x (length frames) s)
-    (mode, (ref (lent_left FramedRun 0 mode x (length frames) s), (ref s, (ref (lent_frames FramedRun mode x s frames), tt)))) (refl, (refl, refl)) refl refl rest
+    run_frames ([], ([], ([], tt))) (mode, (own x, (ref s, (own frames, tt)))) (lent_status FramedRun 0 mode x (length frames) s)
+    (mode, (own (lent_left FramedRun 0 mode x (length frames) s), (ref s, (own (lent_frames FramedRun mode x s frames), tt)))) (refl, (refl, refl)) refl refl rest
 
 -- .. and each can be made on a row of any bytes
 pub images_there : (cs : List Call) (x : List ℕ) → Callable cs → (z : List ℕ) × Done cs x z
