@@ -21,8 +21,7 @@ ghost use Rattle.entry_row.specs.OnImages.{lent_status, lent_left, lent_frames, 
 use row_calls::Task;
 
 // Puts a node at the beginning.
-#[unsafe(no_mangle)]
-pub extern "C" fn gm_begin(n: u32, node: u32, founding: u64, state: &mut [u8]) -> u32
+pub fn gm_begin(n: u32, node: u32, founding: u64, state: &mut [u8]) -> u32
     ensures value { result ≡ begin_status n node founding state.old }
     ensures state_after { state.new ≡ begin_left n node founding state.old }
 {
@@ -30,8 +29,7 @@ pub extern "C" fn gm_begin(n: u32, node: u32, founding: u64, state: &mut [u8]) -
 }
 
 // Rule 1, stop.
-#[unsafe(no_mangle)]
-pub extern "C" fn gm_stop(mode: u32, state: &mut [u8]) -> u32
+pub fn gm_stop(mode: u32, state: &mut [u8]) -> u32
     ensures value { result ≡ image_status mode state.old }
     ensures state_after { state.new ≡ stop_left mode state.old }
 {
@@ -39,8 +37,7 @@ pub extern "C" fn gm_stop(mode: u32, state: &mut [u8]) -> u32
 }
 
 // Rule 1, start.
-#[unsafe(no_mangle)]
-pub extern "C" fn gm_start(mode: u32, state: &mut [u8]) -> u32
+pub fn gm_start(mode: u32, state: &mut [u8]) -> u32
     ensures value { result ≡ image_status mode state.old }
     ensures state_after { state.new ≡ start_left mode state.old }
 {
@@ -48,8 +45,7 @@ pub extern "C" fn gm_start(mode: u32, state: &mut [u8]) -> u32
 }
 
 // A state taken apart into its numbers.
-#[unsafe(no_mangle)]
-pub extern "C" fn gm_state(
+pub fn gm_state(
     mode: u32,
     state: &[u8],
     kind: &mut u32,
@@ -73,8 +69,7 @@ pub extern "C" fn gm_state(
 }
 
 // A heartbeat from numbers and drive bytes, into a buffer as long as it.
-#[unsafe(no_mangle)]
-pub extern "C" fn gm_write_heartbeat(
+pub fn gm_write_heartbeat(
     n: u32,
     mode: u32,
     node: u32,
@@ -96,8 +91,7 @@ pub extern "C" fn gm_write_heartbeat(
 }
 
 // Rule 2: the heartbeat that a node sends, if it sends one, with these drive bytes.
-#[unsafe(no_mangle)]
-pub extern "C" fn gm_send_heartbeat(
+pub fn gm_send_heartbeat(
     mode: u32,
     state: &[u8],
     sync: u32,
@@ -118,8 +112,7 @@ pub extern "C" fn gm_send_heartbeat(
 }
 
 // One copy of a node's heartbeat: its join bit, its request and its drive bytes.
-#[unsafe(no_mangle)]
-pub extern "C" fn gm_read_heartbeat(
+pub fn gm_read_heartbeat(
     n: u32,
     mode: u32,
     node: u32,
@@ -152,8 +145,7 @@ pub extern "C" fn gm_read_heartbeat(
 }
 
 // Both copies of a node's heartbeat: missed, a member's, a joining node's or that of a member that requests, and its drive bytes.
-#[unsafe(no_mangle)]
-pub extern "C" fn gm_receive_heartbeat(
+pub fn gm_receive_heartbeat(
     n: u32,
     mode: u32,
     node: u32,
@@ -173,8 +165,7 @@ pub extern "C" fn gm_receive_heartbeat(
 }
 
 // Rule 3: the view of a node, 0 if it is no member.
-#[unsafe(no_mangle)]
-pub extern "C" fn gm_view(mode: u32, state: &[u8], heard0: u64, heard1: u64, view: &mut u64) -> u32
+pub fn gm_view(mode: u32, state: &[u8], heard0: u64, heard1: u64, view: &mut u64) -> u32
     ensures value { result ≡ image_status mode state.now }
     ensures view_after { view.new ≡ view_from (lent_state mode state.now) heard0 heard1 view.old }
 {
@@ -182,8 +173,7 @@ pub extern "C" fn gm_view(mode: u32, state: &[u8], heard0: u64, heard1: u64, vie
 }
 
 // A vote from numbers, into 36 bytes.
-#[unsafe(no_mangle)]
-pub extern "C" fn gm_write_vote(
+pub fn gm_write_vote(
     n: u32,
     node: u32,
     number: u32,
@@ -201,8 +191,7 @@ pub extern "C" fn gm_write_vote(
 }
 
 // Rule 4: the vote that a node sends, if it sends one.
-#[unsafe(no_mangle)]
-pub extern "C" fn gm_send_vote(
+pub fn gm_send_vote(
     mode: u32,
     state: &[u8],
     heard0: u64,
@@ -223,8 +212,7 @@ pub extern "C" fn gm_send_vote(
 }
 
 // One copy of a node's vote: its 28 bytes.
-#[unsafe(no_mangle)]
-pub extern "C" fn gm_read_vote(
+pub fn gm_read_vote(
     n: u32,
     node: u32,
     cycle: u32,
@@ -239,8 +227,7 @@ pub extern "C" fn gm_read_vote(
 }
 
 // Both copies of a node's vote: into its slot of the vote buffer, and its bit of the mask.
-#[unsafe(no_mangle)]
-pub extern "C" fn gm_receive_vote(
+pub fn gm_receive_vote(
     n: u32,
     node: u32,
     cycle: u32,
@@ -257,8 +244,7 @@ pub extern "C" fn gm_receive_vote(
 }
 
 // Rules 3 to 6: the next state, from what the node heard and the votes that arrived.
-#[unsafe(no_mangle)]
-pub extern "C" fn gm_decide(
+pub fn gm_decide(
     mode: u32,
     state: &mut [u8],
     heard0: u64,
@@ -274,8 +260,7 @@ pub extern "C" fn gm_decide(
 }
 
 // A register of a block.
-#[unsafe(no_mangle)]
-pub extern "C" fn gm_register_read(mode: u32, block: &[u8], address: u32, value: &mut u32) -> u32
+pub fn gm_register_read(mode: u32, block: &[u8], address: u32, value: &mut u32) -> u32
     ensures value { result ≡ step_status (Read mode address) block.now }
     ensures value_after { value.new ≡ step_value (Read mode address) block.now value.old }
 {
@@ -283,8 +268,7 @@ pub extern "C" fn gm_register_read(mode: u32, block: &[u8], address: u32, value:
 }
 
 // A byte to a register of a block.
-#[unsafe(no_mangle)]
-pub extern "C" fn gm_register_write(mode: u32, block: &mut [u8], address: u32, value: u8) -> u32
+pub fn gm_register_write(mode: u32, block: &mut [u8], address: u32, value: u8) -> u32
     ensures value { result ≡ step_status (Write mode address value) block.old }
     ensures block_after { block.new ≡ step_left (Write mode address value) block.old }
 {
@@ -292,8 +276,7 @@ pub extern "C" fn gm_register_write(mode: u32, block: &mut [u8], address: u32, v
 }
 
 // Rules 3 to 6 on a block, and the flag that they raise.
-#[unsafe(no_mangle)]
-pub extern "C" fn gm_register_cycle(
+pub fn gm_register_cycle(
     mode: u32,
     block: &mut [u8],
     heard0: u64,
@@ -309,8 +292,7 @@ pub extern "C" fn gm_register_cycle(
 }
 
 // A write and a cycle together, the write first.
-#[unsafe(no_mangle)]
-pub extern "C" fn gm_register_write_cycle(
+pub fn gm_register_write_cycle(
     mode: u32,
     block: &mut [u8],
     address: u32,
@@ -330,8 +312,7 @@ pub extern "C" fn gm_register_write_cycle(
 }
 
 // One cycle on a row of n states.
-#[unsafe(no_mangle)]
-pub extern "C" fn gm_cycle(n: u32, mode: u32, row: &mut [u8], cycle: &[u8]) -> u32
+pub fn gm_cycle(n: u32, mode: u32, row: &mut [u8], cycle: &[u8]) -> u32
     ensures value { result ≡ images_status Task.Cycle n mode row.old cycle.now }
     ensures row_after { row.new ≡ images_left Task.Cycle n mode row.old cycle.now }
 {
@@ -339,8 +320,7 @@ pub extern "C" fn gm_cycle(n: u32, mode: u32, row: &mut [u8], cycle: &[u8]) -> u
 }
 
 // A table's run on a row; the table has N.
-#[unsafe(no_mangle)]
-pub extern "C" fn gm_run(mode: u32, row: &mut [u8], table: &[u8]) -> u32
+pub fn gm_run(mode: u32, row: &mut [u8], table: &[u8]) -> u32
     ensures value { result ≡ images_status Task.Run 0 mode row.old table.now }
     ensures row_after { row.new ≡ images_left Task.Run 0 mode row.old table.now }
 {
@@ -348,8 +328,7 @@ pub extern "C" fn gm_run(mode: u32, row: &mut [u8], table: &[u8]) -> u32
 }
 
 // The same run through frames, which hands out those of its last cycle.
-#[unsafe(no_mangle)]
-pub extern "C" fn gm_run_frames(mode: u32, row: &mut [u8], table: &[u8], frames: &mut [u8]) -> u32
+pub fn gm_run_frames(mode: u32, row: &mut [u8], table: &[u8], frames: &mut [u8]) -> u32
     ensures value { result ≡ lent_status Task.FramedRun 0 mode row.old (length frames.old) table.now }
     ensures row_after { row.new ≡ lent_left Task.FramedRun 0 mode row.old (length frames.old) table.now }
     ensures frames_after { frames.new ≡ lent_frames Task.FramedRun mode row.old table.now frames.old }
