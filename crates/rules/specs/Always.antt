@@ -4,7 +4,7 @@
 --     always_vote: what a node sends as its vote
 --     always_decides: what a node decides
 --     always_cycle: one whole cycle
-use Rattle.std.specs.Prelude.{List, ℕ}
+use Rattle.std.specs.Prelude.{ℕ}
 use Rattle.std.proofs.Math.Option.{Option, none, some}
 use Rattle.state.specs.declared.State.{State}
 use Rattle.state.specs.declared.State.TheVariants.{Out, Joining, Member}

@@ -1,7 +1,6 @@
 use native.Mathlib.Nat.{zero-add, add-zero}
 use native.Mathlib.Omega.{arith}
 use Rattle.bigendian.specs.BigEndian.{number_at}
-use borrow.Author.Rules.{rules}
 use Rattle.bigendian.proofs.read4.Goals as goal
 
 pub bounds-s-at : goal.bounds-s-at

@@ -2,7 +2,6 @@ use mathlib.Core.Path.{sym, ap₂, ◌∙◌}
 use Prim.Native.Nat.{ℕ, ◌+◌, ◌*◌}
 use native.Mathlib.Omega.{arith}
 use Rattle.bigendian.proofs.Laws.{number_join}
-use borrow.Author.Rules.{rules}
 use Rattle.bigendian.proofs.read8.Goals as goal
 
 pub overflow_cast-high : goal.overflow_cast-high

@@ -1,10 +1,8 @@
 -- `crc::bits_step` meets its contract. The loop's invariant: the bits that are left, from the register, give the check of all bits.
 -- Assumes nothing.
-use mathlib.Core.Path.{◌≡◌, refl, ◌∙◌}
+use mathlib.Core.Path.{◌≡◌}
 use Prim.Native.Nat.{◌^◌, ◌≤◌, ◌<◌}
-use native.Mathlib.Omega.{arith}
 use Rattle.crc.specs.Crc.{check, bits_of}
-use Rattle.crc.proofs.Laws.{bits_next}
 use Rattle.crc.proofs.bits_step.Given as goal
 
 abbrev pub invariant-loop-left : goal.invariant-loop-left

@@ -1,12 +1,9 @@
 -- `crc::frame_check` meets its contract. The loop's invariant: the bytes that are left, from the register, give the check of all bytes.
 -- Assumes nothing.
-use mathlib.Core.Path.{◌≡◌, refl, sym, ◌∙◌}
+use mathlib.Core.Path.{◌≡◌}
 use Prim.Native.Nat.{◌-◌, ◌^◌, ◌≤◌, ◌<◌}
-use native.Mathlib.Omega.{arith}
-use borrow.Author.Rules.{rules}
 use lib.ListN.{length, drop}
 use Rattle.crc.specs.Crc.{frame_check}
-use Rattle.crc.proofs.Laws.{bytes_next, bytes_end}
 use Rattle.crc.proofs.frame_check.Given as goal
 
 abbrev pub invariant-loop-i : goal.invariant-loop-i

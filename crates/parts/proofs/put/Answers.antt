@@ -7,7 +7,6 @@ use lib.ListN.{length, take, drop}
 use borrow.Rule.Slice.PartMut.{mid_of, put_mid, mid_len, Post-is}
 use Rattle.parts.specs.Parts.{at_front, with_part}
 use Rattle.parts.proofs.Copies.{copied}
-use borrow.Author.Rules.{rules}
 use Rattle.parts.proofs.put.Goals as goal
 
 -- a part of f, lent and filled

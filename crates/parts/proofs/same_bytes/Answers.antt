@@ -1,8 +1,5 @@
-use mathlib.Core.Path.{◌≡◌, refl, sym, ◌∙◌}
-use Prim.Native.Nat.{◌-◌, ◌≤◌}
+use mathlib.Core.Path.{refl, sym, ◌∙◌}
 use native.Mathlib.Omega.{arith}
-use lib.ListN.{length, drop}
-use Rattle.parts.specs.Compared.{same_bytes}
 use Rattle.parts.proofs.Compared.{other_length, equal_next, other_byte, none_left}
 use Rattle.parts.proofs.same_bytes.Goals as goal
 

@@ -1,10 +1,8 @@
 -- `parts::same_bytes` meets its contract. The loop's invariant: what is left to be compared decides. Assumes nothing.
-use mathlib.Core.Path.{◌≡◌, refl, sym, ◌∙◌}
+use mathlib.Core.Path.{◌≡◌}
 use Prim.Native.Nat.{◌-◌, ◌≤◌}
-use native.Mathlib.Omega.{arith}
 use lib.ListN.{length, drop}
 use Rattle.parts.specs.Compared.{same_bytes}
-use Rattle.parts.proofs.Compared.{other_length, equal_next, other_byte, none_left}
 use Rattle.parts.proofs.same_bytes.Given as goal
 
 abbrev pub invariant-loop-i : goal.invariant-loop-i

@@ -3,7 +3,6 @@ use Prim.Native.Nat.{ℕ}
 use Rattle.sets.specs.Sets.{has}
 use Rattle.sets.specs.Quorum.{quorum}
 use Rattle.rules.proofs.Counting.{and_taken, and_left}
-use borrow.Author.Rules.{rules}
 use Rattle.rule_joiner.proofs.fits_node.Goals as goal
 
 pub returns-then-contains : goal.returns-then-contains

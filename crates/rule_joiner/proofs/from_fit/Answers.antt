@@ -5,8 +5,7 @@ use native.Mathlib.Omega.{arith}
 use Rattle.sets.specs.Sets.{has}
 use Rattle.rules.specs.Ballots.{ballots_of, fits_at}
 use Rattle.sets.proofs.Dropping.{lowest_node}
-use Rattle.rule_joiner.proofs.Fitting.{Dropped, dropped-none, fits-slot, dropped-less, dropped-next}
-use borrow.Author.Rules.{rules}
+use Rattle.rule_joiner.proofs.Fitting.{dropped-none, fits-slot, dropped-less, dropped-next}
 use Rattle.rule_joiner.proofs.from_fit.Goals as goal
 
 pub loop-left-init : goal.loop-left-init

@@ -4,7 +4,6 @@ use Prim.Native.Nat.{◌<◌}
 use native.Mathlib.Omega.{arith}
 use Rattle.sets.specs.Sets.{has}
 use Rattle.rule_joiner.proofs.Fitting.{Dropped, arrived-in, enters-nowhere, first_in, others-in, enters-only, enters-other}
-use borrow.Author.Rules.{rules}
 use Rattle.rule_joiner.proofs.joiner_decides.Goals as goal
 
 pub from_fit-rest-requires : goal.from_fit-rest-requires

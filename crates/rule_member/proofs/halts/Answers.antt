@@ -8,7 +8,6 @@ use Rattle.rules.specs.Ballots.{ballots_of}
 use Rattle.rules.proofs.Counting.{cond-taken, cond-left}
 use Rattle.rules.proofs.Own.{others, decides-out}
 use Rattle.rules.proofs.Slots.{one_less}
-use borrow.Author.Rules.{rules}
 use Rattle.rule_member.proofs.halts.Goals as goal
 
 pub any_agreed-requires : goal.any_agreed-requires

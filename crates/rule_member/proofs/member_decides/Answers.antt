@@ -4,7 +4,6 @@ use Rattle.rules.specs.OneCycle.{Ballots, voters, wins, with_own}
 use Rattle.rules.specs.Ballots.{ballots_of}
 use Rattle.rules.proofs.Own.{own-tally, wins_by, decides-on}
 use Rattle.rules.proofs.Slots.{one_none}
-use borrow.Author.Rules.{rules}
 use Rattle.rule_member.proofs.member_decides.Goals as goal
 
 pub halts-requires : goal.halts-requires

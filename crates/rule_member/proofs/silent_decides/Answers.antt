@@ -9,7 +9,6 @@ use Rattle.rules.specs.Ballots.{ballots_of}
 use Rattle.rules.proofs.Counting.{cond-taken, cond-left}
 use Rattle.rules.proofs.Own.{others, silent_out}
 use Rattle.rules.proofs.Slots.{one_less}
-use borrow.Author.Rules.{rules}
 use Rattle.rule_member.proofs.silent_decides.Goals as goal
 
 pub any_agreed-requires : goal.any_agreed-requires

@@ -2,7 +2,6 @@ use mathlib.Core.Path.{ap₂, ◌∙◌}
 use mathlib.Core.Bool.{Bool, cond}
 use Prim.Native.Nat.{ℕ}
 use Rattle.sets.specs.Sets.{single, ◌∪◌}
-use borrow.Author.Rules.{rules}
 use Rattle.rule_member.proofs.with_own.Goals as goal
 
 pub returns : goal.returns

@@ -2,7 +2,6 @@ use mathlib.Core.Path.{ap, ◌∙◌}
 use Rattle.state.specs.declared.Group.{Group}
 use Rattle.state.specs.declared.State.TheVariants.{Member}
 use Rattle.rules.specs.OneCycle.{group_with}
-use borrow.Author.Rules.{rules}
 use Rattle.rule_steps.proofs.enters_with.Goals as goal
 
 pub returns : goal.returns

@@ -1,12 +1,8 @@
 use mathlib.Core.Path.{◌≡◌}
 use Prim.Native.Nat.{◌≤◌, ◌-◌}
-use native.Mathlib.Omega.{arith}
 use Rattle.sets.specs.Sets.{those}
-use Rattle.sets.proofs.Nodes.{those-none, those-next, those_end}
 use Rattle.rules.specs.OneCycle.{same_vote}
 use Rattle.rules.specs.Ballots.{vote_at}
-use Rattle.rule_steps.proofs.Holding.{holds-slot, masked}
-use borrow.Author.Rules.{rules}
 use Rattle.rule_steps.proofs.equal_votes.Given as goal
 
 abbrev pub invariant-loop-p : goal.invariant-loop-p

@@ -2,7 +2,6 @@ use mathlib.Core.Path.{sym, ap, ◌∙◌}
 use Rattle.rules.specs.OneCycle.{is}
 use Rattle.rules.proofs.Slots.{slot-empty}
 use Rattle.rule_steps.proofs.Holding.{holds-full}
-use borrow.Author.Rules.{rules}
 use Rattle.rule_steps.proofs.equals_at.Goals as goal
 
 pub returns-then-contains : goal.returns-then-contains

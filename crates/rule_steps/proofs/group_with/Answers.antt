@@ -1,6 +1,5 @@
 use Rattle.rules.specs.OneCycle.{group_with}
 use borrow.Author.Tests.{eq-eqb, ne_eqb}
-use borrow.Author.Rules.{rules}
 use Rattle.rule_steps.proofs.group_with.Goals as goal
 
 pub returns-then-set-g : goal.returns-then-set-g

@@ -1,6 +1,5 @@
 use mathlib.Core.Path.{sym, ◌∙◌}
 use Rattle.rules.specs.OneCycle.{same_vote}
-use borrow.Author.Rules.{rules}
 use Rattle.rule_steps.proofs.holds_vote.Goals as goal
 
 pub returns-then-same_group : goal.returns-then-same_group

@@ -3,7 +3,6 @@ use mathlib.Core.Bool.{Bool}
 use Rattle.state.specs.declared.Group.{Group}
 use Rattle.state.specs.declared.State.TheVariants.{Member}
 use Rattle.rules.specs.OneCycle.{group_with, request_with}
-use borrow.Author.Rules.{rules}
 use Rattle.rule_steps.proofs.member_on.Goals as goal
 
 pub returns : goal.returns

@@ -1,7 +1,6 @@
 use mathlib.Core.Logic.{⊎_elim}
 use Rattle.sets.proofs.Booleans.{bool}
 use Rattle.rules.specs.OneCycle.{stop_and_start}
-use borrow.Author.Rules.{rules}
 use Rattle.rule_steps.proofs.stop_and_start.Goals as goal
 
 pub returns-then-start : goal.returns-then-start

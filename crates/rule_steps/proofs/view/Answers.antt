@@ -2,7 +2,6 @@ use mathlib.Core.Path.{ap, ap₂, ◌∙◌}
 use Prim.Native.Nat.{ℕ}
 use Rattle.sets.specs.Sets.{◌∪◌, ◌∩◌, ◌∖◌}
 use Rattle.rules.specs.OneCycle.{view_of}
-use borrow.Author.Rules.{rules}
 use Rattle.rule_steps.proofs.view.Goals as goal
 
 pub returns : goal.returns

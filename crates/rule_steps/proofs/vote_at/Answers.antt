@@ -1,4 +1,3 @@
-use borrow.Author.Rules.{rules}
 use Rattle.rule_steps.proofs.vote_at.Goals as goal
 
 pub returns : goal.returns

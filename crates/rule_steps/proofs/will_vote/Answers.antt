@@ -1,5 +1,4 @@
 use borrow.Author.Tests.{eq-eqb, ne_eqb}
-use borrow.Author.Rules.{rules}
 use Rattle.rules.specs.OneCycle.{called, will_vote}
 use Rattle.rule_steps.proofs.will_vote.Goals as goal
 

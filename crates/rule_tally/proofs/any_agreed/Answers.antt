@@ -1,12 +1,10 @@
 use mathlib.Core.Bool.{true}
-use mathlib.Core.Logic.{⊎_elim}
 use mathlib.Core.Path.{◌≡◌, refl, sym, ◌∙◌}
 use Prim.Native.Nat.{◌<◌}
 use native.Mathlib.Omega.{arith}
 use Rattle.sets.specs.Sets.{has}
 use Rattle.sets.proofs.Dropping.{lowest_node}
-use Rattle.rule_tally.proofs.Candidates.{rest-less, left_less, Tried, Counted, tried-none, tried-next, tried-end, candidate-in, counted_none, counted_next, counted-won}
-use borrow.Author.Rules.{rules}
+use Rattle.rule_tally.proofs.Candidates.{rest-less, left_less, tried-none, tried-next, tried-end, candidate-in, counted_none, counted_next, counted-won}
 use Rattle.rule_tally.proofs.any_agreed.Goals as goal
 use Rattle.rule_tally.proofs.any_agreed.Goals.{else-found-test, then-found-test+then-loop-rest-test+then-completes}
 

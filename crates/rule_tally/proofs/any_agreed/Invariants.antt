@@ -1,12 +1,4 @@
-use mathlib.Core.Bool.{true}
-use mathlib.Core.Logic.{⊎_elim}
-use mathlib.Core.Path.{◌≡◌, refl, sym, ◌∙◌}
-use Prim.Native.Nat.{◌<◌}
-use native.Mathlib.Omega.{arith}
-use Rattle.sets.specs.Sets.{has}
-use Rattle.sets.proofs.Dropping.{lowest_node}
-use Rattle.rule_tally.proofs.Candidates.{rest-less, left_less, Tried, Counted, tried-none, tried-next, tried-end, candidate-in, counted_none, counted_next, counted-won}
-use borrow.Author.Rules.{rules}
+use Rattle.rule_tally.proofs.Candidates.{Tried, Counted}
 use Rattle.rule_tally.proofs.any_agreed.Given as goal
 
 abbrev pub invariant-loop-rest : goal.invariant-loop-rest

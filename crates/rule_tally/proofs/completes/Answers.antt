@@ -1,4 +1,3 @@
-use borrow.Author.Rules.{rules}
 use Rattle.rule_tally.proofs.completes.Goals as goal
 
 pub returns-then-counted : goal.returns-then-counted

@@ -3,7 +3,6 @@ use mathlib.Core.Bool.{cond}
 use Prim.Native.Nat.{ℕ}
 use lib.Dec.{eqb}
 use Rattle.sets.specs.Sets.{has, lowest}
-use borrow.Author.Rules.{rules}
 use Rattle.rule_tally.proofs.first_of.Goals as goal
 
 pub returns : goal.returns

@@ -3,7 +3,6 @@ use Prim.Native.Nat.{ℕ, ◌%◌}
 use native.Mathlib.Nat.{mod-eq_of_lt}
 use lib.Pow.{pow_pos}
 use Rattle.sets.specs.Sets.{below, single}
-use borrow.Author.Rules.{rules}
 use Rattle.sets.proofs.below.Goals as goal
 
 pub nonzero_rem-result : goal.nonzero_rem-result

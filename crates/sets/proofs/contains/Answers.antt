@@ -1,5 +1,4 @@
 use Rattle.sets.proofs.Machine.{bit_test}
-use borrow.Author.Rules.{rules}
 use Rattle.sets.proofs.contains.Goals as goal
 
 pub returns : goal.returns

@@ -1,4 +1,3 @@
-use borrow.Author.Rules.{rules}
 use Rattle.sets.proofs.include.Goals as goal
 
 pub returns-then-yes : goal.returns-then-yes

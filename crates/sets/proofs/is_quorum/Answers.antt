@@ -2,7 +2,6 @@ use mathlib.Core.Path.{ap₂}
 use Prim.Native.Nat.{ℕ, ◌*◌}
 use lib.Dec.{ltb}
 use Rattle.sets.specs.Quorum.{quorum}
-use borrow.Author.Rules.{rules}
 use Rattle.sets.proofs.is_quorum.Goals as goal
 
 pub returns : goal.returns

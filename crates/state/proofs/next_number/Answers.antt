@@ -1,5 +1,4 @@
 use Rattle.state.specs.State.{next_number}
-use Rattle.std.proofs.Common.{rules}
 use Rattle.state.proofs.next_number.Goals as goal
 
 pub returns : goal.returns

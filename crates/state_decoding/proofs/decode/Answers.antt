@@ -1,13 +1,7 @@
 -- Each way through `decode` is one of the laws of Fields. Assumes nothing.
-use mathlib.Core.Path.{◌≡◌, sym, ◌∙◌}
-use mathlib.Core.Bool.{true}
-use mathlib.Core.List.{List}
-use Prim.Native.Nat.{ℕ}
+use mathlib.Core.Path.{sym, ◌∙◌}
 use native.Mathlib.Omega.{arith}
-use lib.ListN.{length}
-use borrow.Author.Tests.{not-true, not-false}
-use Rattle.state.proofs.Fields.{three, place_at, place_bounds, wrong_length_lem, no_place, kind_unknown, of_out, of_joining, of_member}
-use borrow.Author.Rules.{rules}
+use Rattle.state.proofs.Fields.{three, place_bounds, wrong_length_lem, no_place, kind_unknown, of_out, of_joining, of_member}
 use Rattle.state_decoding.proofs.decode.Goals as goal
 
 pub returns-then-s-ne24 : goal.returns-then-s-ne24

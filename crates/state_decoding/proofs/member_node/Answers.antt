@@ -3,7 +3,6 @@ use mathlib.Core.Bool.{Bool, false, and-false}
 use Prim.Native.Nat.{ℕ}
 use borrow.Author.Tests.{ne_eqb}
 use Rattle.state.specs.Image.{member_reason}
-use borrow.Author.Rules.{rules}
 use Rattle.state_decoding.proofs.member_node.Goals as goal
 
 -- any other reason is none of a member

@@ -1,5 +1,4 @@
 use Rattle.state_decoding.proofs.Codes.{last_reason}
-use borrow.Author.Rules.{rules}
 use Rattle.state_decoding.proofs.reason_of.Goals as goal
 
 pub returns-in_default : goal.returns-in_default

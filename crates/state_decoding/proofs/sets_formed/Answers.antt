@@ -1,7 +1,5 @@
 use mathlib.Core.Path.{sym, ◌∙◌}
-use borrow.Author.Tests.{not-true, not-false}
 use Rattle.state.specs.State.{formed_sets}
-use borrow.Author.Rules.{rules}
 use Rattle.state_decoding.proofs.sets_formed.Goals as goal
 
 pub returns-then-not-contains : goal.returns-then-not-contains

@@ -1,5 +1,4 @@
 use Rattle.state_decoding.proofs.Codes.{last_kind}
-use borrow.Author.Rules.{rules}
 use Rattle.state_decoding.proofs.state_of.Goals as goal
 
 pub returns-in-0 : goal.returns-in-0

@@ -1,5 +1,4 @@
 use Rattle.state.specs.Image.{image_of}
-use borrow.Author.Rules.{rules}
 use Rattle.state_encoding.proofs.encode.Goals as goal
 
 pub returns : goal.returns

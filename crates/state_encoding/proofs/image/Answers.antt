@@ -1,6 +1,5 @@
 use native.Mathlib.Omega.{arith}
 use Rattle.bigendian.specs.BigEndian.{bytes_of}
-use borrow.Author.Rules.{rules}
 use Rattle.state_encoding.proofs.image.Goals as goal
 
 pub bounds-g4-0 : goal.bounds-g4-0

@@ -1,4 +1,3 @@
-use borrow.Author.Rules.{rules}
 use Rattle.state_encoding.proofs.reason_byte.Goals as goal
 
 pub returns-in-Member : goal.returns-in-Member
