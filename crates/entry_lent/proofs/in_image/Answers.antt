@@ -1,6 +1,5 @@
 use mathlib.Core.Path.{sym, ap}
 use Rattle.entry_lent.specs.Found.{in_image}
-use borrow.Author.Rules.{rules}
 use Rattle.entry_lent.proofs.in_image.Goals as goal
 
 pub returns-in-Good : goal.returns-in-Good

@@ -1,7 +1,6 @@
 use mathlib.Core.Path.{ap, ◌∙◌}
 use borrow.Author.Tests.{eq-eqb, ne_eqb}
 use Rattle.entry_lent.specs.Found.{in_image, lent_node}
-use borrow.Author.Rules.{rules}
 use Rattle.entry_lent.proofs.lent_node.Goals as goal
 
 pub returns-then-wrong : goal.returns-then-wrong

@@ -2,7 +2,6 @@ use mathlib.Core.Path.{sym, ap, ◌∙◌}
 use mathlib.Core.Bool.{Bool}
 use Rattle.state.specs.Image.{decoded}
 use Rattle.entry_lent.specs.Found.{in_image, lent_state}
-use borrow.Author.Rules.{rules}
 use Rattle.entry_lent.proofs.lent_state.Goals as goal
 
 pub returns-then-wrong_mode : goal.returns-then-wrong_mode

@@ -5,7 +5,6 @@ use Prim.Native.Nat.{ℕ, ◌+◌, ◌*◌}
 use native.Mathlib.Nat.{zero-add}
 use native.Mathlib.Omega.{arith}
 use lib.ListN.{get_or}
-use borrow.Author.Rules.{rules}
 use Rattle.bigendian.specs.BigEndian.{number_at}
 use Rattle.bigendian.proofs.Laws.{number_join}
 use Rattle.frame_checks.proofs.header_of.Goals as goal

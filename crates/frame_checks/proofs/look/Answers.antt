@@ -6,7 +6,6 @@ use Prim.Native.Nat.{ℕ, ◌+◌, ◌*◌, ◌/◌, ◌%◌, ◌≤◌}
 use native.Mathlib.Omega.{arith}
 use lib.ListN.{length}
 use borrow.Author.Tests.{eq-eqb, ne_eqb, lt-ltb, le-ltb}
-use borrow.Author.Rules.{rules}
 use Rattle.bigendian.specs.BigEndian.{number_at}
 use Rattle.frames.specs.Read.{wrong_length, wrong_header, wrong_frame}
 use Rattle.frames.specs.Looked.{looked}

@@ -6,7 +6,6 @@ use native.Mathlib.Omega.{arith}
 use lib.Arith.{digits_mod}
 use lib.ListN.{length}
 use lib.Seq.{length-take-le}
-use borrow.Author.Rules.{rules}
 use Rattle.bigendian.specs.BigEndian.{number_at}
 use Rattle.bigendian.proofs.Laws.{Bytes, number_join, number_lt}
 use Rattle.frames.specs.Read.{wrong_frame}

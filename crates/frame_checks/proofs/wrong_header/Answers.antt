@@ -1,6 +1,5 @@
 -- `frame_checks::wrong_header` meets its contract. Assumes nothing.
 use native.Mathlib.Omega.{arith}
-use borrow.Author.Rules.{rules}
 use Rattle.frames.specs.Read.{wrong_header}
 use Rattle.frame_checks.proofs.wrong_header.Goals as goal
 

@@ -1,8 +1,7 @@
 -- `frame_due::is_due` meets its contract: each test is one of `is_due`. Assumes nothing.
 use mathlib.Core.Path.{sym, ◌∙◌}
 use native.Mathlib.Nat.{div-one}
-use borrow.Author.Tests.{eq-eqb, ne_eqb, not-true, not-false}
-use borrow.Author.Rules.{rules}
+use borrow.Author.Tests.{eq-eqb, ne_eqb}
 use Rattle.frames.specs.Read.{is_due}
 use Rattle.frame_due.proofs.is_due.Goals as goal
 

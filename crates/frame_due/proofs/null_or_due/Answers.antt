@@ -1,10 +1,6 @@
 -- `frame_due::null_or_due` meets its contract. Assumes nothing.
-use mathlib.Core.Path.{◌≡◌, sym, ◌∙◌}
-use mathlib.Core.Bool.{Bool, true, false, not}
-use Prim.Native.Nat.{◌/◌, ◌%◌}
-use lib.Dec.{eqb}
+use mathlib.Core.Path.{sym, ◌∙◌}
 use borrow.Author.Tests.{eq-eqb, ne_eqb}
-use borrow.Author.Rules.{rules}
 use Rattle.frames.specs.Read.{is_null}
 use Rattle.frames.specs.Looked.{due_fault}
 use Rattle.frame_due.proofs.null_or_due.Goals as goal

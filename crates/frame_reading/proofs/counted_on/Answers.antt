@@ -1,7 +1,6 @@
 -- `frame_reading::counted_on` meets its contract. Assumes nothing.
 use mathlib.Core.Path.{sym, ap}
 use Rattle.frames.specs.Read.{counted_on}
-use borrow.Author.Rules.{rules}
 use Rattle.frame_reading.proofs.counted_on.Goals as goal
 
 pub returns-in-Alive : goal.returns-in-Alive

@@ -3,7 +3,6 @@ use mathlib.Core.Path.{ap, ◌∙◌}
 use lib.ListN.{length}
 use Rattle.parts.proofs.Copies.{at_front_lem}
 use Rattle.frames.proofs.Payloads.{drive_part}
-use borrow.Author.Rules.{rules}
 use Rattle.frame_reading.proofs.put_drive.Goals as goal
 
 -- above what the call asks: bytes from another place are wrong here too

@@ -6,7 +6,6 @@ use mathlib.Core.Option.{none}
 use Prim.Native.Nat.{ℕ, ◌+◌}
 use native.Mathlib.Omega.{arith}
 use lib.ListN.{length}
-use borrow.Author.Rules.{rules}
 use Rattle.frames.specs.declared.VoteRead.TheVariants as vote
 use Rattle.frames.specs.declared.Fault.{Fault}
 use Rattle.frames.specs.declared.Looked.{Looked}

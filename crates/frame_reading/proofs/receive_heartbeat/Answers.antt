@@ -4,13 +4,11 @@ use mathlib.Core.Bool.{Bool, true, false, cond}
 use mathlib.Core.List.{List}
 use Prim.Native.Nat.{ℕ}
 use native.Mathlib.Omega.{arith}
-use borrow.Author.Tests.{not-true, not-false}
 use Rattle.frames.specs.declared.HeartbeatRead.{HeartbeatRead}
 use Rattle.frames.specs.declared.HeartbeatCounted.{HeartbeatCounted}
 use Rattle.frames.specs.declared.Copy.TheVariants.{OnA, OnB}
 use Rattle.frames.specs.Read.{read_heartbeat, is_good, counted_on, counted_of, same_payload, receive_heartbeat}
 use Rattle.frames.proofs.TwoChannels.{missed, counted-a, counted-b, counted-both, good_length}
-use borrow.Author.Rules.{rules}
 use Rattle.frame_reading.proofs.receive_heartbeat.Goals as goal
 
 -- what two copies give, by what was read in them

@@ -1,6 +1,5 @@
 -- `frame_reading::receive_vote` meets its contract. Assumes nothing.
 use mathlib.Core.Path.{sym, ◌∙◌}
-use borrow.Author.Rules.{rules}
 use Rattle.frame_reading.proofs.receive_vote.Goals as goal
 
 pub returns-then-same_vote : goal.returns-then-same_vote

@@ -3,7 +3,6 @@ use mathlib.Core.Path.{ap₂, ◌∙◌}
 use Rattle.parts.specs.Compared.{same_bytes}
 use Rattle.frames.specs.Read.{same_payload}
 use Rattle.frames.proofs.Payloads.{payload_part}
-use borrow.Author.Rules.{rules}
 use Rattle.frame_reading.proofs.same_payload.Goals as goal
 
 pub returns : goal.returns

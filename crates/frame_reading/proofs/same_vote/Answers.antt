@@ -1,7 +1,6 @@
 -- `frame_reading::same_vote` meets its contract: `same_vote` by its two tests. Assumes nothing.
 use mathlib.Core.Path.{sym, ◌∙◌}
 use Rattle.rules.specs.OneCycle.{same_vote}
-use borrow.Author.Rules.{rules}
 use Rattle.frame_reading.proofs.same_vote.Goals as goal
 
 pub returns-then-same_group : goal.returns-then-same_group

@@ -3,7 +3,6 @@ use mathlib.Core.Path.{◌≡◌, sym, ◌∙◌}
 use mathlib.Core.Bool.{Bool, true, false, cond}
 use mathlib.Core.List.{List}
 use Prim.Native.Nat.{ℕ}
-use borrow.Author.Rules.{rules}
 use Rattle.bigendian.specs.BigEndian.{number_at}
 use Rattle.rules.specs.declared.Vote.{Vote}
 use Rattle.frames.specs.declared.VoteRead.TheVariants.{Whole, Refused}

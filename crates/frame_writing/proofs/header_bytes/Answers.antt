@@ -1,7 +1,6 @@
 -- `frame_writing::header_bytes` meets its contract: the number fits 40 bits, and its bytes are those of `header`. Assumes nothing.
 use native.Mathlib.Nat.{div-one}
 use native.Mathlib.Omega.{arith}
-use borrow.Author.Rules.{rules}
 use Rattle.bigendian.specs.BigEndian.{bytes_of}
 use Rattle.frames.specs.Written.{header}
 use Rattle.frame_writing.proofs.header_bytes.Goals as goal

@@ -10,7 +10,6 @@ use Rattle.parts.specs.Parts.{with_part}
 use Rattle.parts.proofs.Laws.{four_parts}
 use Rattle.rules.specs.declared.Vote.{Vote}
 use Rattle.frames.specs.Written.{vote_payload}
-use borrow.Author.Rules.{rules}
 use Rattle.frame_writing.proofs.vote_payload.Goals as goal
 
 whole : (v : Vote) (g m b w f₀ f₁ f₂ f₃ f₄ : List ℕ) → length f₀ ≡ 28 → g ≡ bytes_of 4 v.group.number → m ≡ bytes_of 8 v.group.set

@@ -14,7 +14,6 @@ use Rattle.frames.specs.Written.{header, frame, first_byte, heartbeat_frame}
 use Rattle.frames.proofs.Lengths.{length-header}
 use Rattle.frames.proofs.Payloads.{drive_bounds}
 use Rattle.frame_writing.proofs.Framed.{framed}
-use borrow.Author.Rules.{rules}
 use Rattle.frame_writing.proofs.write_heartbeat.Goals as goal
 
 whole : (q join request sync startup cycle channel : ℕ) (drive h c f₀ f₁ f₂ f₃ f₄ : List ℕ) (start check : ℕ) → length f₀ ≡ 10 + length drive

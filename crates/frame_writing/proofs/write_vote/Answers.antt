@@ -12,7 +12,6 @@ use Rattle.rules.specs.declared.Vote.{Vote}
 use Rattle.frames.specs.Written.{header, frame, vote_payload, vote_frame}
 use Rattle.frames.proofs.Lengths.{length-header, length_payload}
 use Rattle.frame_writing.proofs.Framed.{framed}
-use borrow.Author.Rules.{rules}
 use Rattle.frame_writing.proofs.write_vote.Goals as goal
 
 whole : (q : ℕ) (v : Vote) (cycle channel : ℕ) (h p c f₀ f₁ f₂ f₃ : List ℕ) (start check : ℕ) → length f₀ ≡ 36 → h ≡ header 0 0 (q + 65) 14 cycle
