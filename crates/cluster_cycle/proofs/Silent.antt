@@ -1,5 +1,5 @@
 -- A cycle in which nobody votes: the masks at rest, with the views as bases, which are the sets, hold what every node decides. Assumes nothing.
-use mathlib.Core.Path.{◌≡◌, refl, sym, ap, ap₂, ◌∙◌}
+use mathlib.Core.Path.{◌≡◌, refl, sym, ap, ◌∙◌}
 use mathlib.Core.Bool.{Bool, true, false, not, ◌&&◌, ◌||◌, cond}
 use mathlib.Core.List.{List}
 use mathlib.Core.Option.{none}
@@ -10,7 +10,6 @@ use Rattle.sets.specs.Sets.{has, ◌∖◌}
 use Rattle.sets.proofs.Booleans.{eqb-true, not_f, or_f_l, or_f_r}
 use Rattle.sets.proofs.Membership.{has_diff, has-none, set_ext}
 use Rattle.sets.proofs.Nodes.{those_in}
-use Rattle.state.specs.declared.State.{State}
 use Rattle.state.specs.declared.State.TheVariants.{Joining, Member}
 use Rattle.rules.specs.declared.Config.{Config}
 use Rattle.rules.specs.OneCycle.{Ballots, called, will_vote, member_decides, silent_decides, joiner_decides}

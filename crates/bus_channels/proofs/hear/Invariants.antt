@@ -1,11 +1,8 @@
-use mathlib.Core.Path.{◌≡◌, ap, ◌∙◌}
+use mathlib.Core.Path.{◌≡◌}
 use Prim.Native.Nat.{◌≤◌, ◌-◌}
-use native.Mathlib.Omega.{arith}
-use borrow.Author.Rules.{rules}
 use Rattle.sets.specs.Sets.{those}
-use Rattle.sets.proofs.Nodes.{those-none, those-next, those_end}
 use Rattle.bus_units.specs.Units.{is_alive, is_join, is_request}
-use Rattle.bus_channels.specs.Channels.{heartbeat_read, heard_read}
+use Rattle.bus_channels.specs.Channels.{heartbeat_read}
 use Rattle.bus_channels.proofs.hear.Given as goal
 
 abbrev pub invariant-loop-p : goal.invariant-loop-p

@@ -1,4 +1,3 @@
-use borrow.Author.Rules.{rules}
 use Rattle.parts.proofs.Laws.{two_put}
 use Rattle.bus_channels.proofs.Hearing.{views-read, voting-read}
 use Rattle.bus_channels.proofs.heartbeat_phase.Goals as goal

@@ -1,7 +1,6 @@
 use mathlib.Core.Path.{◌≡◌}
-use Prim.Native.Nat.{◌≤◌, ◌-◌}
 use native.Mathlib.Omega.{arith}
-use Rattle.bus_channels.specs.Channels.{channel_of, heartbeat_put}
+use Rattle.bus_channels.specs.Channels.{heartbeat_put}
 use Rattle.bus_channels.proofs.Carried.{channel_none, channel_next, channel_end}
 use Rattle.bus_channels.proofs.heartbeats.Goals as goal
 

@@ -2,7 +2,6 @@ use mathlib.Core.Path.{sym, ap, ◌∙◌}
 use mathlib.Core.Bool.{Bool, cond}
 use mathlib.Core.List.{List}
 use Prim.Native.Nat.{ℕ}
-use borrow.Author.Rules.{rules}
 use Rattle.frames.specs.Written.{heartbeat_frame, run_drive}
 use Rattle.bus_channels.specs.Channels.{with_frame}
 use Rattle.bus_channels.proofs.put_heartbeat.Goals as goal

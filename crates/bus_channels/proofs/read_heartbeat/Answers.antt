@@ -8,7 +8,6 @@ use Rattle.sets.specs.Sets.{has}
 use Rattle.frames.specs.declared.HeartbeatCounted.{HeartbeatCounted}
 use Rattle.frames.specs.Read.{receive_heartbeat}
 use Rattle.bus_channels.specs.Channels.{heartbeat_read}
-use borrow.Author.Rules.{rules}
 use Rattle.bus_channels.proofs.read_heartbeat.Goals as goal
 
 -- what is found in the two copies is what is read there

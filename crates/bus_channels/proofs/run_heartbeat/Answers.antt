@@ -1,7 +1,6 @@
 use mathlib.Core.Path.{refl}
 use native.Mathlib.Omega.{arith}
 use Rattle.frames.proofs.Payloads.{none_wrong}
-use borrow.Author.Rules.{rules}
 use Rattle.bus_channels.proofs.run_heartbeat.Goals as goal
 
 pub write_heartbeat-requires : goal.write_heartbeat-requires

@@ -1,18 +1,9 @@
-use mathlib.Core.Path.{◌≡◌, refl, ap, ap₂, ◌∙◌}
-use mathlib.Core.Bool.{Bool, ◌&&◌}
-use mathlib.Core.List.{List}
+use mathlib.Core.Path.{◌≡◌}
+use mathlib.Core.Bool.{◌&&◌}
 use Prim.Native.Nat.{ℕ, ◌≤◌, ◌<◌, ◌-◌}
-use native.Mathlib.Omega.{arith}
-use lib.ListN.{length, get_or, length-set}
-use borrow.Author.Rules.{rules}
-use borrow.Author.Count.{below_none}
+use lib.ListN.{length, get_or}
 use Rattle.sets.specs.Sets.{has, ◌∖◌, those}
-use Rattle.sets.proofs.Nodes.{those-none, those-next, those_end}
-use Rattle.rules.specs.declared.Config.{Config}
-use Rattle.rules.specs.OneCycle.{view_of, called, will_vote}
-use Rattle.rules.proofs.Arrays.{stored}
-use Rattle.bus_units.specs.Units.{is_alive, is_join, is_request}
-use Rattle.bus_channels.specs.Channels.{heard_read, view_read, votes_read, voting_read}
+use Rattle.bus_channels.specs.Channels.{view_read, votes_read}
 use Rattle.bus_channels.proofs.views_of.Given as goal
 
 abbrev pub invariant-loop-q : goal.invariant-loop-q

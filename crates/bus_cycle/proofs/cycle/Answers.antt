@@ -1,5 +1,4 @@
 use mathlib.Core.Path.{refl}
-use borrow.Author.Rules.{rules}
 use Rattle.cluster_states.proofs.Whole.{run_cycle}
 use Rattle.bus_cycle.proofs.Formed.{apart, requests-allowed, votes-formed}
 use Rattle.bus_cycle.proofs.Shown.{cycle-shown, still-sized}

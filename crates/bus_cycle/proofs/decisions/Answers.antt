@@ -1,10 +1,9 @@
 use mathlib.Core.Path.{◌≡◌, refl, ap, ◌∙◌}
-use Prim.Native.Nat.{ℕ, ◌≤◌, ◌-◌}
+use Prim.Native.Nat.{ℕ}
 use native.Mathlib.Omega.{arith}
 use lib.ListN.{get_or}
-use borrow.Author.Rules.{rules}
 use Rattle.sets.specs.Sets.{◌∖◌}
-use Rattle.cluster_states.proofs.Deciding.{Holds, holds_none, holds_next, holds_state}
+use Rattle.cluster_states.proofs.Deciding.{holds_none, holds_next, holds_state}
 use Rattle.bus_channels.specs.Channels.{decided_read}
 use Rattle.bus_cycle.proofs.decisions.Goals as goal
 

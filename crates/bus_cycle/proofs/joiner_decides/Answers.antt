@@ -1,5 +1,4 @@
 use mathlib.Core.Path.{ap, ◌∙◌}
-use borrow.Author.Rules.{rules}
 use Rattle.rules.specs.OneCycle.{Ballots, joiner_decides}
 use Rattle.bus_cycle.proofs.joiner_decides.Goals as goal
 

@@ -1,5 +1,4 @@
 use mathlib.Core.Path.{ap, ◌∙◌}
-use borrow.Author.Rules.{rules}
 use Rattle.rules.specs.OneCycle.{Ballots, member_decides}
 use Rattle.bus_cycle.proofs.member_decides.Goals as goal
 

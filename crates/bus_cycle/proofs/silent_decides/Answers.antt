@@ -1,6 +1,5 @@
 use mathlib.Core.Path.{ap, ◌∙◌}
 use native.Mathlib.Omega.{arith}
-use borrow.Author.Rules.{rules}
 use Rattle.rules.specs.OneCycle.{Ballots, silent_decides}
 use Rattle.rules.proofs.Slots.{one_none}
 use Rattle.bus_cycle.proofs.silent_decides.Goals as goal

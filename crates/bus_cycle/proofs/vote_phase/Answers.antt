@@ -1,4 +1,3 @@
-use borrow.Author.Rules.{rules}
 use Rattle.parts.proofs.Laws.{two_put}
 use Rattle.bus_cycle.proofs.Counted.{states_read}
 use Rattle.bus_cycle.proofs.vote_phase.Goals as goal

@@ -1,9 +1,6 @@
-use mathlib.Core.Path.{◌≡◌, refl}
 use Prim.Native.Nat.{◌≤◌, ◌-◌}
-use native.Mathlib.Omega.{arith}
-use borrow.Author.Rules.{rules}
 use Rattle.bus_channels.specs.Channels.{vote_read}
-use Rattle.bus_votes.proofs.Filled.{Filled, filled_none, filled_next, filled_ballots}
+use Rattle.bus_votes.proofs.Filled.{Filled}
 use Rattle.bus_votes.proofs.arrive.Given as goal
 
 abbrev pub invariant-loop-p : goal.invariant-loop-p

@@ -1,4 +1,3 @@
-use borrow.Author.Rules.{rules}
 use Rattle.bus_votes.proofs.vote_in.Goals as goal
 
 pub returns-in-Missed : goal.returns-in-Missed

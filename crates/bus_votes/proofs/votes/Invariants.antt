@@ -1,8 +1,6 @@
 use mathlib.Core.Path.{◌≡◌}
 use Prim.Native.Nat.{◌≤◌, ◌-◌}
-use native.Mathlib.Omega.{arith}
 use Rattle.bus_channels.specs.Channels.{channel_of, vote_put}
-use Rattle.bus_channels.proofs.Carried.{channel_none, channel_next, channel_end}
 use Rattle.bus_votes.proofs.votes.Given as goal
 
 abbrev pub invariant-loop-q : goal.invariant-loop-q

@@ -1,6 +1,5 @@
 use mathlib.Core.Path.{sym, ◌∙◌}
 use Rattle.cluster_states.specs.Decided.{decided_at}
-use borrow.Author.Rules.{rules}
 use Rattle.cluster_cycle.proofs.decide_silent.Goals as goal
 
 pub returns-then-contains : goal.returns-then-contains

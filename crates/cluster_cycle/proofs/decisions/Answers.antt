@@ -1,9 +1,7 @@
-use mathlib.Core.Logic.{⊎_elim}
 use mathlib.Core.Path.{◌≡◌, sym, ap, subst, ◌∙◌}
-use Prim.Native.Nat.{ℕ, ◌<◌, ◌≤◌, ◌-◌}
+use Prim.Native.Nat.{ℕ, ◌<◌}
 use native.Mathlib.Omega.{arith}
 use lib.ListN.{get_or}
-use borrow.Author.Rules.{rules}
 use Rattle.sets.specs.Sets.{◌∖◌}
 use Rattle.state.specs.declared.State.{State}
 use Rattle.state.specs.declared.State.TheVariants.{Member}
@@ -12,7 +10,7 @@ use Rattle.cluster_states.specs.Decided.{decided_at}
 use Rattle.cluster_cycle.specs.Follows.{Worth}
 use Rattle.cluster_tallies.proofs.Tallies.{inside_less}
 use Rattle.cluster_cycle.proofs.Keeping.{worth-none, kept-worth}
-use Rattle.cluster_states.proofs.Deciding.{Holds, holds_none, holds_next, holds_state}
+use Rattle.cluster_states.proofs.Deciding.{holds_none, holds_next, holds_state}
 use Rattle.cluster_cycle.proofs.decisions.Goals as goal
 use Rattle.cluster_cycle.proofs.decisions.Goals.{then-follows, else-follows}
 

@@ -1,18 +1,9 @@
-use mathlib.Core.Logic.{⊎_elim}
-use mathlib.Core.Path.{◌≡◌, sym, ap, subst, ◌∙◌}
-use Prim.Native.Nat.{ℕ, ◌<◌, ◌≤◌, ◌-◌}
-use native.Mathlib.Omega.{arith}
+use Prim.Native.Nat.{◌≤◌, ◌-◌}
 use lib.ListN.{get_or}
-use borrow.Author.Rules.{rules}
 use Rattle.sets.specs.Sets.{◌∖◌}
-use Rattle.state.specs.declared.State.{State}
-use Rattle.state.specs.declared.State.TheVariants.{Member}
-use Rattle.cluster_tallies.specs.Grouped.{Within}
 use Rattle.cluster_states.specs.Decided.{decided_at}
 use Rattle.cluster_cycle.specs.Follows.{Worth}
-use Rattle.cluster_tallies.proofs.Tallies.{inside_less}
-use Rattle.cluster_cycle.proofs.Keeping.{worth-none, kept-worth}
-use Rattle.cluster_states.proofs.Deciding.{Holds, holds_none, holds_next, holds_state}
+use Rattle.cluster_states.proofs.Deciding.{Holds}
 use Rattle.cluster_cycle.proofs.decisions.Given as goal
 
 abbrev pub invariant-loop-q : goal.invariant-loop-q

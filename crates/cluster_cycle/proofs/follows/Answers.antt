@@ -2,7 +2,6 @@ use mathlib.Core.Path.{sym, ap, ◌∙◌}
 use Prim.Native.Nat.{ℕ}
 use lib.Dec.{eqb}
 use Rattle.rules.proofs.Counting.{and_taken, and_left}
-use borrow.Author.Rules.{rules}
 use Rattle.cluster_cycle.proofs.follows.Goals as goal
 
 pub returns-then-contains : goal.returns-then-contains

@@ -1,9 +1,7 @@
 use mathlib.Core.Path.{sym, ap, ◌∙◌}
 use Prim.Native.Nat.{ℕ}
 use lib.ListN.{get_or}
-use Rattle.sets.proofs.Booleans.{not-e, not_f}
 use Rattle.cluster_tallies.specs.Grouped.{own_tally}
-use borrow.Author.Rules.{rules}
 use Rattle.cluster_cycle.proofs.keep.Goals as goal
 
 pub returns-then-not-contains : goal.returns-then-not-contains

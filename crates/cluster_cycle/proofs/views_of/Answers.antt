@@ -1,8 +1,6 @@
 use mathlib.Core.Path.{◌≡◌, ap₂, ◌∙◌}
-use Prim.Native.Nat.{ℕ, ◌≤◌, ◌<◌, ◌-◌}
 use native.Mathlib.Omega.{arith}
-use lib.ListN.{length, get_or, length-set}
-use borrow.Author.Rules.{rules}
+use lib.ListN.{get_or, length-set}
 use borrow.Author.Count.{below_none}
 use Rattle.rules.specs.OneCycle.{view_of}
 use Rattle.cluster_states.specs.Decided.{view_at}

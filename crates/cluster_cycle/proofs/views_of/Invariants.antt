@@ -1,12 +1,7 @@
-use mathlib.Core.Path.{◌≡◌, ap₂, ◌∙◌}
+use mathlib.Core.Path.{◌≡◌}
 use Prim.Native.Nat.{ℕ, ◌≤◌, ◌<◌, ◌-◌}
-use native.Mathlib.Omega.{arith}
-use lib.ListN.{length, get_or, length-set}
-use borrow.Author.Rules.{rules}
-use borrow.Author.Count.{below_none}
-use Rattle.rules.specs.OneCycle.{view_of}
+use lib.ListN.{length, get_or}
 use Rattle.cluster_states.specs.Decided.{view_at}
-use Rattle.rules.proofs.Arrays.{stored}
 use Rattle.cluster_cycle.proofs.views_of.Given as goal
 
 abbrev pub invariant-loop-p : goal.invariant-loop-p

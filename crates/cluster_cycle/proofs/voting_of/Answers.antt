@@ -1,11 +1,10 @@
-use mathlib.Core.Path.{◌≡◌, ap₂, ◌∙◌}
+use mathlib.Core.Path.{ap₂, ◌∙◌}
 use mathlib.Core.Bool.{Bool, ◌&&◌}
-use Prim.Native.Nat.{ℕ, ◌≤◌, ◌-◌}
+use Prim.Native.Nat.{ℕ}
 use native.Mathlib.Omega.{arith}
 use lib.ListN.{get_or}
-use borrow.Author.Rules.{rules}
 use borrow.Author.Tests.{not-true}
-use Rattle.sets.specs.Sets.{has, those}
+use Rattle.sets.specs.Sets.{has}
 use Rattle.sets.proofs.Nodes.{those-none, those-next, those_end}
 use Rattle.rules.specs.OneCycle.{called, will_vote}
 use Rattle.cluster_states.specs.Decided.{votes_at, voting_of}

@@ -1,15 +1,8 @@
-use mathlib.Core.Path.{◌≡◌, ap₂, ◌∙◌}
-use mathlib.Core.Bool.{Bool, ◌&&◌}
-use Prim.Native.Nat.{ℕ, ◌≤◌, ◌-◌}
-use native.Mathlib.Omega.{arith}
-use lib.ListN.{get_or}
-use borrow.Author.Rules.{rules}
-use borrow.Author.Tests.{not-true}
+use mathlib.Core.Path.{◌≡◌}
+use mathlib.Core.Bool.{◌&&◌}
+use Prim.Native.Nat.{◌≤◌, ◌-◌}
 use Rattle.sets.specs.Sets.{has, those}
-use Rattle.sets.proofs.Nodes.{those-none, those-next, those_end}
-use Rattle.rules.specs.OneCycle.{called, will_vote}
-use Rattle.cluster_states.specs.Decided.{votes_at, voting_of}
-use Rattle.cluster_states.proofs.Whole.{all-vote}
+use Rattle.cluster_states.specs.Decided.{votes_at}
 use Rattle.cluster_cycle.proofs.voting_of.Given as goal
 
 abbrev pub invariant-loop-p : goal.invariant-loop-p

@@ -1,7 +1,6 @@
 use mathlib.Core.Path.{ap, ap₂, ◌∙◌}
 use Prim.Native.Nat.{ℕ}
 use Rattle.sets.specs.Sets.{◌∪◌}
-use borrow.Author.Rules.{rules}
 use Rattle.cluster_cycle.proofs.with_member.Goals as goal
 
 pub returns : goal.returns

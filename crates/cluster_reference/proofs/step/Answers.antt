@@ -9,7 +9,6 @@ use Rattle.cluster_states.specs.declared.States.{States}
 use Rattle.cluster_states.specs.States.{states_of, faults_of}
 use Rattle.cluster_watched.specs.Watched.{cluster_of}
 use Rattle.cluster_reference.proofs.Watching.{disturbed_are, steady-are, kept-is, first_in, stepped, halted-are, entered-are}
-use borrow.Author.Rules.{rules}
 use Rattle.cluster_reference.proofs.step.Goals as goal
 
 pub returns : goal.returns

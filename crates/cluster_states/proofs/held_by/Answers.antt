@@ -1,4 +1,3 @@
-use borrow.Author.Rules.{rules}
 use Rattle.cluster_states.proofs.held_by.Goals as goal
 
 pub returns-in-Out : goal.returns-in-Out

@@ -1,5 +1,4 @@
 use mathlib.Core.Path.{sym, ◌∙◌}
-use borrow.Author.Rules.{rules}
 use Rattle.cluster_states.proofs.out_at.Goals as goal
 
 pub returns-then-contains : goal.returns-then-contains

@@ -1,5 +1,4 @@
 use Rattle.cluster_states.specs.Decided.{roles_after}
-use borrow.Author.Rules.{rules}
 use Rattle.cluster_states.proofs.rule_one.Goals as goal
 
 pub returns : goal.returns

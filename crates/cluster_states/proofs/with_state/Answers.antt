@@ -1,4 +1,3 @@
-use borrow.Author.Rules.{rules}
 use Rattle.cluster_states.proofs.with_state.Goals as goal
 
 pub returns : goal.returns

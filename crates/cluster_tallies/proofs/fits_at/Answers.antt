@@ -1,14 +1,12 @@
 use mathlib.Core.Bool.{◌&&◌}
 use mathlib.Core.Option.{some}
 use mathlib.Core.Path.{◌≡◌, sym, ap, ◌∙◌}
-use Rattle.sets.proofs.Booleans.{not-e, not_f}
 use Rattle.rules.specs.OneCycle.{Ballots, wins, fits}
 use Rattle.rules.specs.Ballots.{ballots_of, fits_at}
 use Rattle.rules.proofs.Counting.{and_taken, and_left}
 use Rattle.rules.proofs.Slots.{slot-full, slot-empty}
 use Rattle.rules.proofs.Entering.{fits_test}
 use Rattle.cluster_tallies.proofs.Tallies.{slot-wins}
-use borrow.Author.Rules.{rules}
 use Rattle.cluster_tallies.proofs.fits_at.Goals as goal
 
 pub returns-then-not-contains : goal.returns-then-not-contains

@@ -6,8 +6,7 @@ use Rattle.sets.specs.Sets.{has, ◌∪◌}
 use Rattle.rules.specs.OneCycle.{fits}
 use Rattle.rules.specs.Ballots.{ballots_of}
 use Rattle.sets.proofs.Dropping.{lowest_node}
-use Rattle.cluster_tallies.proofs.Looking.{Looked, looked-none, looked-less, looked-next, looked-end}
-use borrow.Author.Rules.{rules}
+use Rattle.cluster_tallies.proofs.Looking.{looked-none, looked-less, looked-next, looked-end}
 use Rattle.cluster_tallies.proofs.fitting.Goals as goal
 
 pub loop-left-init : goal.loop-left-init

@@ -3,11 +3,9 @@ use mathlib.Core.Path.{◌≡◌}
 use Prim.Native.Nat.{◌<◌}
 use native.Mathlib.Omega.{arith}
 use lib.Dec.{ltb}
-use lib.ListN.{length}
-use borrow.Author.Rules.{rules}
 use Rattle.sets.specs.Sets.{has}
 use Rattle.sets.proofs.Dropping.{lowest_node}
-use Rattle.cluster_tallies.proofs.Tallies.{equal-alike, left_less, Split, split-none, split-next, split-end}
+use Rattle.cluster_tallies.proofs.Tallies.{equal-alike, left_less, split-none, split-next, split-end}
 use Rattle.cluster_tallies.proofs.groups_of.Goals as goal
 
 pub leading-lead-requires : goal.leading-lead-requires

@@ -1,13 +1,6 @@
-use mathlib.Core.Bool.{true}
 use mathlib.Core.Path.{◌≡◌}
-use Prim.Native.Nat.{◌<◌}
-use native.Mathlib.Omega.{arith}
-use lib.Dec.{ltb}
 use lib.ListN.{length}
-use borrow.Author.Rules.{rules}
-use Rattle.sets.specs.Sets.{has}
-use Rattle.sets.proofs.Dropping.{lowest_node}
-use Rattle.cluster_tallies.proofs.Tallies.{equal-alike, left_less, Split, split-none, split-next, split-end}
+use Rattle.cluster_tallies.proofs.Tallies.{Split}
 use Rattle.cluster_tallies.proofs.groups_of.Given as goal
 
 abbrev pub invariant-loop-left : goal.invariant-loop-left

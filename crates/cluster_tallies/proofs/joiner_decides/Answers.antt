@@ -8,7 +8,6 @@ use Rattle.rules.specs.OneCycle.{Ballots, enters_with, joiner_decides}
 use Rattle.rules.specs.Ballots.{ballots_of}
 use Rattle.rules.proofs.Counting.{cond-taken, cond-left}
 use Rattle.cluster_tallies.proofs.Tallies.{enters-nowhere, first_fits, first-present, enters-with, entrant-with}
-use borrow.Author.Rules.{rules}
 use Rattle.cluster_tallies.proofs.joiner_decides.Goals as goal
 
 pub returns-then-fit-eq0 : goal.returns-then-fit-eq0

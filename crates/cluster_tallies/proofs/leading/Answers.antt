@@ -5,7 +5,6 @@ use native.Mathlib.Omega.{arith}
 use Rattle.sets.specs.Sets.{has}
 use Rattle.sets.proofs.Dropping.{lowest_node}
 use Rattle.cluster_tallies.proofs.Tallies.{equal-alike, none_alike}
-use borrow.Author.Rules.{rules}
 use Rattle.cluster_tallies.proofs.leading.Goals as goal
 
 pub returns-then-voting-eq0 : goal.returns-then-voting-eq0

@@ -4,7 +4,6 @@ use Rattle.rules.specs.declared.Vote.{Vote}
 use Rattle.rules.specs.OneCycle.{Ballots, wins, with_own, member_decides}
 use Rattle.rules.specs.Ballots.{ballots_of}
 use Rattle.cluster_tallies.proofs.Tallies.{lead-one, own-wins, goes_on}
-use borrow.Author.Rules.{rules}
 use Rattle.cluster_tallies.proofs.member_decides.Goals as goal
 
 pub halts-requires : goal.halts-requires

@@ -4,7 +4,6 @@ use Rattle.state.specs.declared.Group.{Group}
 use Rattle.rules.specs.OneCycle.{silent_decides}
 use Rattle.rules.specs.Ballots.{ballots_of}
 use Rattle.cluster_tallies.proofs.Tallies.{lead-one}
-use borrow.Author.Rules.{rules}
 use Rattle.cluster_tallies.proofs.silent_decides.Goals as goal
 
 pub silent_decides-requires : goal.silent_decides-requires

@@ -1,13 +1,7 @@
-use mathlib.Core.Bool.{Bool, cond}
-use mathlib.Core.Path.{◌≡◌, refl, ap₂, ◌∙◌}
+use mathlib.Core.Path.{◌≡◌}
 use Prim.Native.Nat.{ℕ, ◌≤◌, ◌<◌, ◌-◌}
-use native.Mathlib.Omega.{arith}
-use native.Mathlib.Nat.{le_refl}
-use lib.ListN.{length, get_or, length-set}
-use borrow.Author.Rules.{rules}
-use borrow.Author.Count.{below_none}
+use lib.ListN.{length, get_or}
 use Rattle.cluster_tallies.specs.Grouped.{spread_at}
-use Rattle.rules.proofs.Arrays.{stored, unstored}
 use Rattle.cluster_tallies.proofs.spread.Given as goal
 
 abbrev pub invariant-loop-j : goal.invariant-loop-j

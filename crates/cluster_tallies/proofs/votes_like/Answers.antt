@@ -1,7 +1,6 @@
 use mathlib.Core.Bool.{Bool, cond}
 use mathlib.Core.Path.{ap, ◌∙◌}
 use lib.ListN.{get_or}
-use borrow.Author.Rules.{rules}
 use Rattle.cluster_tallies.proofs.votes_like.Goals as goal
 
 pub returns : goal.returns

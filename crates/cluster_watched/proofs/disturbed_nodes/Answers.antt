@@ -1,10 +1,8 @@
 use mathlib.Core.Path.{◌≡◌, ap₂, ◌∙◌}
-use Prim.Native.Nat.{ℕ, ◌≤◌, ◌-◌}
+use Prim.Native.Nat.{ℕ}
 use native.Mathlib.Omega.{arith}
-use borrow.Author.Rules.{rules}
-use Rattle.sets.specs.Sets.{◌∪◌, those}
+use Rattle.sets.specs.Sets.{◌∪◌}
 use Rattle.sets.proofs.Nodes.{those-none, those-next, those_end}
-use Rattle.cluster_watched.specs.Watched.{misses_at}
 use Rattle.cluster_watched.proofs.disturbed_nodes.Goals as goal
 
 pub loop-q-init : goal.loop-q-init

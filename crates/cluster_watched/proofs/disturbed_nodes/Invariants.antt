@@ -1,9 +1,6 @@
-use mathlib.Core.Path.{◌≡◌, ap₂, ◌∙◌}
-use Prim.Native.Nat.{ℕ, ◌≤◌, ◌-◌}
-use native.Mathlib.Omega.{arith}
-use borrow.Author.Rules.{rules}
-use Rattle.sets.specs.Sets.{◌∪◌, those}
-use Rattle.sets.proofs.Nodes.{those-none, those-next, those_end}
+use mathlib.Core.Path.{◌≡◌}
+use Prim.Native.Nat.{◌≤◌, ◌-◌}
+use Rattle.sets.specs.Sets.{those}
 use Rattle.cluster_watched.specs.Watched.{misses_at}
 use Rattle.cluster_watched.proofs.disturbed_nodes.Given as goal
 

@@ -1,6 +1,5 @@
 use mathlib.Core.Path.{sym, ◌∙◌}
 use Rattle.rules.proofs.Counting.{and_taken, and_left}
-use borrow.Author.Rules.{rules}
 use Rattle.cluster_watched.proofs.is_defined.Goals as goal
 
 pub returns-then-kept : goal.returns-then-kept

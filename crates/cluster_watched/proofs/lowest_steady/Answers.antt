@@ -1,6 +1,5 @@
 use mathlib.Core.Path.{sym, ◌∙◌}
 use Rattle.rules.proofs.Counting.{cond-taken, cond-left}
-use borrow.Author.Rules.{rules}
 use Rattle.cluster_watched.proofs.lowest_steady.Goals as goal
 
 pub returns-then-kept : goal.returns-then-kept

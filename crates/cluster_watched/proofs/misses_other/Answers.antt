@@ -3,7 +3,6 @@ use mathlib.Core.Bool.{not}
 use Prim.Native.Nat.{ℕ}
 use lib.Dec.{eqb}
 use Rattle.sets.specs.Sets.{◌∖◌}
-use borrow.Author.Rules.{rules}
 use Rattle.cluster_watched.proofs.misses_other.Goals as goal
 
 pub returns : goal.returns

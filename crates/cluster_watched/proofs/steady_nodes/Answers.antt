@@ -1,7 +1,6 @@
 use mathlib.Core.Path.{ap, ◌∙◌}
 use Prim.Native.Nat.{ℕ}
 use Rattle.sets.specs.Sets.{◌∖◌, below}
-use borrow.Author.Rules.{rules}
 use Rattle.cluster_watched.proofs.steady_nodes.Goals as goal
 
 pub returns : goal.returns

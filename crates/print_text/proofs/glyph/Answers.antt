@@ -6,7 +6,6 @@ use native.Mathlib.Omega.{arith}
 use lib.Dec.{ltb}
 use borrow.Author.Tests.{ltb-true, ltb-false}
 use Rattle.print_text.specs.Text.{glyph}
-use borrow.Author.Rules.{rules}
 use Rattle.print_text.proofs.glyph.Goals as goal
 
 -- the code of a digit, from what it is below 10 and from 10 on

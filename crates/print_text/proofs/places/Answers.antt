@@ -1,5 +1,5 @@
 use native.Mathlib.Omega.{arith}
-use Rattle.print_text.proofs.Digits.{Counted, counted_none, counted_more, counted_all}
+use Rattle.print_text.proofs.Digits.{counted_none, counted_more, counted_all}
 use Rattle.print_text.proofs.places.Goals as goal
 
 pub loop-rest-init : goal.loop-rest-init

@@ -1,6 +1,5 @@
 -- `print_text::places` meets its contract. The loop's invariant: k - 1 digits are counted. Assumes nothing.
-use native.Mathlib.Omega.{arith}
-use Rattle.print_text.proofs.Digits.{Counted, counted_none, counted_more, counted_all}
+use Rattle.print_text.proofs.Digits.{Counted}
 use Rattle.print_text.proofs.places.Given as goal
 
 abbrev pub invariant-loop-rest : goal.invariant-loop-rest

@@ -1,7 +1,6 @@
 -- `print_text::put_byte` meets its contract. Assumes nothing.
 use native.Mathlib.Omega.{arith}
 use Rattle.print_text.proofs.Appending.{byte}
-use borrow.Author.Rules.{rules}
 use Rattle.print_text.proofs.put_byte.Goals as goal
 
 pub returns : goal.returns

@@ -1,6 +1,6 @@
 use native.Mathlib.Nat.{mod-lt}
 use native.Mathlib.Omega.{arith}
-use Rattle.print_text.proofs.Digits.{Stored, stored-none, stored_more, stored-all}
+use Rattle.print_text.proofs.Digits.{stored-none, stored_more, stored-all}
 use Rattle.print_text.proofs.put_digits.Goals as goal
 
 pub loop-i-init : goal.loop-i-init

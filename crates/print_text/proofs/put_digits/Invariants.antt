@@ -1,7 +1,5 @@
 -- `print_text::put_digits` meets its contract. The loop's invariant: the digits from place i on are stored. Assumes nothing.
-use native.Mathlib.Nat.{mod-lt}
-use native.Mathlib.Omega.{arith}
-use Rattle.print_text.proofs.Digits.{Stored, stored-none, stored_more, stored-all}
+use Rattle.print_text.proofs.Digits.{Stored}
 use Rattle.print_text.proofs.put_digits.Given as goal
 
 abbrev pub invariant-loop-i : goal.invariant-loop-i

@@ -1,6 +1,5 @@
 -- By what `state_at` gives. Assumes nothing.
 use mathlib.Core.Path.{ap}
-use borrow.Author.Rules.{rules}
 use Rattle.state.specs.declared.State.{State}
 use Rattle.row.proofs.node_of.Goals as goal
 

@@ -1,7 +1,6 @@
 -- By the masks, in their order. Assumes nothing.
 use mathlib.Core.Path.{sym, ap₂, ◌∙◌}
 use mathlib.Core.Bool.{Bool}
-use borrow.Author.Rules.{rules}
 use Rattle.state.specs.declared.Group.{Group}
 use Rattle.state.specs.declared.State.TheVariants.{Member}
 use Rattle.cluster_states.specs.States.{state_at}

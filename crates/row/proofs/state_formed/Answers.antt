@@ -2,7 +2,6 @@
 use mathlib.Core.Path.{◌≡◌, sym, ap, ◌∙◌}
 use mathlib.Core.Bool.{Bool, true, ◌&&◌}
 use Prim.Native.Nat.{ℕ, ◌<◌, ◌^◌}
-use borrow.Author.Rules.{rules}
 use Rattle.sets.proofs.Booleans.{ltb-true}
 use Rattle.state.specs.State.{formed_state, formed_sets}
 use Rattle.state.specs.declared.Group.{Group}

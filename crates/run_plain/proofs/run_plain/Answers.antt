@@ -1,13 +1,13 @@
 use mathlib.Core.Path.{refl}
 use mathlib.Core.List.{List}
-use Prim.Native.Nat.{ℕ, ◌+◌, ◌-◌, ◌≤◌}
+use Prim.Native.Nat.{ℕ, ◌+◌, ◌≤◌}
 use native.Mathlib.Omega.{arith}
 use lib.ListN.{length}
 use Rattle.rules.specs.declared.Config.{Config}
 use Rattle.rules.specs.Faults.{Row}
 use Rattle.cluster_states.specs.declared.States.{States}
 use Rattle.cluster_states.specs.States.{states_of, row_of}
-use Rattle.run_turns.proofs.Ran.{Passing, going_begun, going_done, going-there, going-past, going_next}
+use Rattle.run_turns.proofs.Ran.{going_begun, going_done, going-there, going-past, going_next}
 use Rattle.run_plain.proofs.run_plain.Goals as goal
 
 pub loop-at-init : goal.loop-at-init

@@ -1,14 +1,8 @@
 -- The invariant is that of `run_framed`; the states are roles and arrays. Assumes nothing.
-use mathlib.Core.Path.{refl}
-use mathlib.Core.List.{List}
-use Prim.Native.Nat.{ℕ, ◌+◌, ◌-◌, ◌≤◌}
-use native.Mathlib.Omega.{arith}
+use Prim.Native.Nat.{◌-◌}
 use lib.ListN.{length}
-use Rattle.rules.specs.declared.Config.{Config}
-use Rattle.rules.specs.Faults.{Row}
-use Rattle.cluster_states.specs.declared.States.{States}
 use Rattle.cluster_states.specs.States.{states_of, row_of}
-use Rattle.run_turns.proofs.Ran.{Passing, going_begun, going_done, going-there, going-past, going_next}
+use Rattle.run_turns.proofs.Ran.{Passing}
 use Rattle.run_plain.proofs.run_plain.Given as goal
 
 abbrev pub invariant-loop-at : goal.invariant-loop-at

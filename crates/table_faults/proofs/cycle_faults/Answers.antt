@@ -1,5 +1,4 @@
 -- `table_faults::cycle_faults` meets its contract. Assumes nothing.
-use borrow.Author.Rules.{rules}
 use Rattle.table.proofs.Missed.{faults_are}
 use Rattle.table_faults.proofs.cycle_faults.Goals as goal
 

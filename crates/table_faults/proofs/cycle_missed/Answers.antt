@@ -1,8 +1,6 @@
-use mathlib.Core.Path.{◌≡◌, refl, ◌∙◌}
-use Prim.Native.Nat.{◌+◌, ◌≤◌, ◌-◌}
+use mathlib.Core.Path.{refl, ◌∙◌}
+use Prim.Native.Nat.{◌+◌}
 use native.Mathlib.Omega.{arith}
-use Rattle.rules.specs.Faults.{tabulate}
-use Rattle.table.specs.Records.{missed_of}
 use Rattle.table.proofs.Missed.{row_none, heartbeat_turn, vote-turn, missed_end}
 use Rattle.table_faults.proofs.cycle_missed.Goals as goal
 

@@ -1,10 +1,8 @@
 -- The invariant: after i entries each place of the two rows holds what `missed_of` says. Assumes nothing.
-use mathlib.Core.Path.{◌≡◌, refl, ◌∙◌}
+use mathlib.Core.Path.{◌≡◌}
 use Prim.Native.Nat.{◌+◌, ◌≤◌, ◌-◌}
-use native.Mathlib.Omega.{arith}
 use Rattle.rules.specs.Faults.{tabulate}
 use Rattle.table.specs.Records.{missed_of}
-use Rattle.table.proofs.Missed.{row_none, heartbeat_turn, vote-turn, missed_end}
 use Rattle.table_faults.proofs.cycle_missed.Given as goal
 
 abbrev pub invariant-loop-i : goal.invariant-loop-i

@@ -1,4 +1,4 @@
-use borrow.Author.Tests.{not-true, not-false, eq-eqb, ne_eqb}
+use borrow.Author.Tests.{eq-eqb, ne_eqb}
 use Rattle.table_first.proofs.row_refusal.Goals as goal
 
 pub returns-then-not-lent : goal.returns-then-not-lent

@@ -1,6 +1,5 @@
 use mathlib.Core.Path.{sym, ◌∙◌}
 use native.Mathlib.Omega.{arith}
-use borrow.Author.Tests.{not-true, not-false}
 use Rattle.table.proofs.Refusals.{start-short, start-unmarked, start-unknown, is_kind_lem, no_kind}
 use Rattle.table_first.proofs.start_refusal.Goals as goal
 

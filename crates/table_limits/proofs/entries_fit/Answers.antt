@@ -1,10 +1,5 @@
-use mathlib.Core.Bool.{true}
-use mathlib.Core.Path.{◌≡◌, sym, ◌∙◌}
-use Prim.Native.Nat.{◌≤◌, ◌-◌}
+use mathlib.Core.Path.{sym, ◌∙◌}
 use native.Mathlib.Omega.{arith}
-use borrow.Author.Tests.{not-true, not-false}
-use Rattle.sets.specs.Sets.{every}
-use Rattle.table.specs.Records.{good_entry}
 use Rattle.table.proofs.Refusals.{every-none, every-next, every_fails, every_end}
 use Rattle.table_limits.proofs.entries_fit.Goals as goal
 

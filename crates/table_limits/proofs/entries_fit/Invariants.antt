@@ -1,12 +1,9 @@
 -- The invariant: the first i entries are good. Assumes nothing.
 use mathlib.Core.Bool.{true}
-use mathlib.Core.Path.{◌≡◌, sym, ◌∙◌}
+use mathlib.Core.Path.{◌≡◌}
 use Prim.Native.Nat.{◌≤◌, ◌-◌}
-use native.Mathlib.Omega.{arith}
-use borrow.Author.Tests.{not-true, not-false}
 use Rattle.sets.specs.Sets.{every}
 use Rattle.table.specs.Records.{good_entry}
-use Rattle.table.proofs.Refusals.{every-none, every-next, every_fails, every_end}
 use Rattle.table_limits.proofs.entries_fit.Given as goal
 
 abbrev pub invariant-loop-i : goal.invariant-loop-i

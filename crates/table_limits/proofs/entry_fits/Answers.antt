@@ -1,6 +1,5 @@
 -- Each way through is one of the laws of Refusals. Assumes nothing.
 use native.Mathlib.Omega.{arith}
-use borrow.Author.Tests.{not-true, not-false}
 use Rattle.table.proofs.Refusals.{entry-misplaced, entry-mask, entry-order}
 use Rattle.table_limits.proofs.entry_fits.Goals as goal
 

@@ -1,6 +1,5 @@
 use mathlib.Core.Path.{sym, ◌∙◌}
 use native.Mathlib.Omega.{arith}
-use borrow.Author.Tests.{not-true, not-false}
 use Rattle.table.proofs.Refusals.{cycle-short, cycle-unmarked, cycle-unknown, is_kind_lem, no_kind}
 use Rattle.table_records.proofs.cycle_refusal.Goals as goal
 

@@ -1,10 +1,10 @@
 use mathlib.Core.List.{List}
-use mathlib.Core.Path.{◌≡◌, refl, sym, ap, ◌∙◌}
-use Prim.Native.Nat.{ℕ, ◌+◌, ◌-◌, ◌≤◌}
+use mathlib.Core.Path.{refl, sym, ap, ◌∙◌}
+use Prim.Native.Nat.{ℕ, ◌+◌, ◌≤◌}
 use native.Mathlib.Omega.{arith}
 use lib.ListN.{length}
 use Rattle.table.specs.Table.{Cycles}
-use Rattle.table.proofs.Cursor.{from, from_end, from-refused, from-head, from-there, from_next}
+use Rattle.table.proofs.Cursor.{from_end, from-refused, from-head, from-there, from_next}
 use Rattle.table_records.proofs.cycles_refusal.Goals as goal
 
 pub loop-at-init : goal.loop-at-init

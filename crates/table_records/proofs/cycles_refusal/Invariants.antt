@@ -1,12 +1,9 @@
 -- The invariant: what is refused from the cursor on is what is refused in all, and the cycle number is at most one more than the bytes passed.
 -- Assumes nothing.
-use mathlib.Core.List.{List}
-use mathlib.Core.Path.{◌≡◌, refl, sym, ap, ◌∙◌}
-use Prim.Native.Nat.{ℕ, ◌+◌, ◌-◌, ◌≤◌}
-use native.Mathlib.Omega.{arith}
+use mathlib.Core.Path.{◌≡◌}
+use Prim.Native.Nat.{◌+◌, ◌-◌, ◌≤◌}
 use lib.ListN.{length}
-use Rattle.table.specs.Table.{Cycles}
-use Rattle.table.proofs.Cursor.{from, from_end, from-refused, from-head, from-there, from_next}
+use Rattle.table.proofs.Cursor.{from}
 use Rattle.table_records.proofs.cycles_refusal.Given as goal
 
 abbrev pub invariant-loop-at : goal.invariant-loop-at
