@@ -1,9 +1,9 @@
 -- What the entry begin answers and leaves. Assumes nothing.
 use Rattle.parts.specs.Parts.{at_front}
 use mathlib.Core.Path.{◌≡◌, refl, sym, ap, ◌∙◌}
-use mathlib.Core.List.{List, ◌++◌}
+use mathlib.Core.List.{List}
 use Prim.Native.Nat.{ℕ, ◌≤◌, ◌<◌}
-use lib.ListN.{length, take, drop}
+use lib.ListN.{length}
 use borrow.Author.Tests.{leb-false}
 use Rattle.state.specs.declared.State.{State}
 use Rattle.state.specs.State.{initial}

@@ -2,9 +2,9 @@
 use Rattle.parts.specs.Parts.{at_front}
 use mathlib.Core.Path.{◌≡◌, refl, sym, ap, ◌∙◌}
 use mathlib.Core.Bool.{Bool, true, false}
-use mathlib.Core.List.{List, ◌++◌}
+use mathlib.Core.List.{List}
 use Prim.Native.Nat.{ℕ}
-use lib.ListN.{length, take, drop}
+use lib.ListN.{length}
 use Rattle.state.specs.declared.Node.{Node}
 use Rattle.state.specs.Image.{image_of}
 use Rattle.state.proofs.RoundTrip.{image_length}

@@ -6,18 +6,17 @@ use mathlib.Core.Option.{none, some}
 use Prim.Native.Nat.{ℕ, zero, suc, ◌<◌}
 use lib.Dec.{eqb, ltb}
 use lib.ListN.{get_or}
-use Rattle.sets.specs.Sets.{has, ◌∩◌, below, any}
+use Rattle.sets.specs.Sets.{has, ◌∩◌, below}
 use Rattle.sets.proofs.Booleans.{and_l, and_r, not-e, eqb_self, eqb-true, ltb-lt}
 use Rattle.sets.proofs.Membership.{has_inter, has-none, set_ext}
-use Rattle.sets.proofs.Nodes.{has-below, has-those, those_in, any-e, every-e}
-use Rattle.state.specs.declared.Reason.TheVariants.{Stopped, Outvoted}
-use Rattle.state.specs.declared.Group.{Group}
+use Rattle.sets.proofs.Nodes.{has-below, has-those, those_in, every-e}
+use Rattle.state.specs.declared.Reason.TheVariants.{Stopped}
 use Rattle.state.specs.declared.State.{State}
 use Rattle.state.specs.declared.State.TheVariants.{Out, Member}
 use Rattle.state.specs.State.{founding_group, initial}
 use Rattle.rules.specs.declared.Faults.{Faults}
 use Rattle.rules.specs.declared.Config.{Config}
-use Rattle.rules.specs.OneCycle.{Ballots, quietly, stopped, stop_and_start, sends_member, sends_join, asks, view_of, called, will_vote, without, rival, member_decides, rests, silent_decides}
+use Rattle.rules.specs.OneCycle.{quietly, stopped, stop_and_start, sends_member, sends_join, asks, view_of, called, will_vote, member_decides, silent_decides}
 use Rattle.rules.specs.Faults.{Row, at, tabulate, founding, heartbeat_reaches, disturbed, rule_one, heard, own_vote, votes_now, vote_of, votes, vote_reaches, arrive_if, arrived_at, decides, decisions, cycle}
 use Rattle.rules.specs.Reference.{Cluster, beginning, step, after}
 use Rattle.rules.proofs.Rows.{get-tabulate, tabulate-ext}

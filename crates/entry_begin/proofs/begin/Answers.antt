@@ -6,7 +6,6 @@ use native.Mathlib.Omega.{arith}
 use Rattle.refusal.proofs.Laws.{unless-refused}
 use Rattle.entry_begin.specs.Begin.{begin_status, begin_left}
 use Rattle.entry_begin.proofs.Begun.{begin_bounds, begun}
-use borrow.Author.Rules.{rules}
 use Rattle.entry_begin.proofs.begin.Goals as goal
 
 pub returns-then-status-ne0 : goal.returns-then-status-ne0

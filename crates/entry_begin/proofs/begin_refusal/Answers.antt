@@ -5,7 +5,6 @@ use Rattle.refusal.specs.Refusal.{first}
 use Rattle.entry_lent.specs.Refusals.{wrong_count}
 use Rattle.entry_begin.specs.Begin.{begin_status}
 use Rattle.entry_lent.proofs.Bounds.{count_bounds}
-use borrow.Author.Rules.{rules}
 use Rattle.entry_begin.proofs.begin_refusal.Goals as goal
 
 pub returns-then-wrong_count : goal.returns-then-wrong_count

@@ -1,5 +1,4 @@
 use mathlib.Core.Path.{sym, ◌∙◌}
-use borrow.Author.Rules.{rules}
 use Rattle.entry_begin.proofs.initial.Goals as goal
 
 pub returns-then-contains : goal.returns-then-contains

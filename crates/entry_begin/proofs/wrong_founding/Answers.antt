@@ -1,4 +1,3 @@
-use borrow.Author.Rules.{rules}
 use borrow.Author.Tests.{eq-eqb, ne_eqb}
 use Rattle.entry_lent.specs.Refusals.{wrong_founding}
 use Rattle.entry_begin.proofs.wrong_founding.Goals as goal

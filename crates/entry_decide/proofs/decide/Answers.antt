@@ -21,7 +21,6 @@ use Rattle.entry_lent.proofs.Images.{good_length, good_node, good_place}
 use Rattle.entry_lent.proofs.Sending.{status-found, numbered, seen, found}
 use Rattle.entry_decide.specs.declared.Going.{Going}
 use Rattle.entry_decide.specs.Decide.{decide_status, decision, Tells, decided_from, decide_left}
-use borrow.Author.Rules.{rules}
 use Rattle.entry_decide.proofs.decide.Goals as goal
 
 module _ (mode : ℕ) (s votes : List ℕ) where

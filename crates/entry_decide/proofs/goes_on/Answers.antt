@@ -3,7 +3,6 @@ use native.Mathlib.Omega.{arith}
 use Rattle.state.specs.declared.Node.{Node}
 use Rattle.entry_decide.specs.Decide.{decision}
 use Rattle.entry_decide.proofs.Deciding.{by_state, tells_nothing, tells_same}
-use borrow.Author.Rules.{rules}
 use Rattle.entry_decide.proofs.goes_on.Goals as goal
 
 pub going_member-requires : goal.going_member-requires

@@ -9,7 +9,6 @@ use Rattle.entry_send_vote.specs.Voting.{press_of}
 use Rattle.entry_slots.specs.Slots.{buffer_ballots}
 use Rattle.entry_slots.proofs.Buffers.{slot-came}
 use Rattle.entry_decide.proofs.Deciding.{by_test, tells_nothing, tells_same}
-use borrow.Author.Rules.{rules}
 use Rattle.entry_decide.proofs.going_member.Goals as goal
 
 pub returns-then-votes_with : goal.returns-then-votes_with

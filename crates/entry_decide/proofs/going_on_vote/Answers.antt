@@ -5,7 +5,6 @@ use Rattle.rules.proofs.Own.{own-count, wins_by, decides-on}
 use Rattle.entry_slots.specs.Slots.{buffer_ballots}
 use Rattle.entry_slots.proofs.Buffers.{own-empty}
 use Rattle.entry_decide.proofs.Deciding.{tells_nothing, tells_same}
-use borrow.Author.Rules.{rules}
 use Rattle.entry_decide.proofs.going_on_vote.Goals as goal
 
 pub returns-then-is_quorum : goal.returns-then-is_quorum

@@ -4,7 +4,6 @@ use mathlib.Core.Bool.{true, false}
 use native.Mathlib.Omega.{arith}
 use Rattle.rules.proofs.Slots.{one_none}
 use Rattle.entry_decide.proofs.Deciding.{by_test}
-use borrow.Author.Rules.{rules}
 use Rattle.entry_decide.proofs.member_decides.Goals as goal
 
 pub silent_decides-requires : goal.silent_decides-requires

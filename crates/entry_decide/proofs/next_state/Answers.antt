@@ -14,7 +14,6 @@ use Rattle.entry_decide.specs.Decide.{member_decision, decision}
 use Rattle.entry_slots.specs.Slots.{buffer_ballots}
 use Rattle.entry_slots.proofs.Buffers.{same-ballots}
 use Rattle.entry_decide.proofs.Deciding.{by_state}
-use borrow.Author.Rules.{rules}
 use Rattle.entry_decide.proofs.next_state.Goals as goal
 
 module _ (quiet : Bool) (n : Node) (heard0 heard1 requests : ℕ) (votes : List ℕ) (arrived : ℕ) where

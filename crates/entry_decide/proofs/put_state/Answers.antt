@@ -2,7 +2,6 @@ use mathlib.Core.Path.{sym, ap, ◌∙◌}
 use lib.ListN.{length}
 use Rattle.state.proofs.RoundTrip.{image_length}
 use Rattle.parts.proofs.Copies.{copied}
-use borrow.Author.Rules.{rules}
 use Rattle.entry_decide.proofs.put_state.Goals as goal
 
 pub returns : goal.returns

@@ -1,5 +1,4 @@
 use Rattle.entry_decide.proofs.Deciding.{tells_nothing}
-use borrow.Author.Rules.{rules}
 use Rattle.entry_decide.proofs.told_of.Goals as goal
 
 pub returns-in-Out : goal.returns-in-Out

@@ -1,7 +1,6 @@
 use mathlib.Core.Path.{◌≡◌, sym, ◌∙◌}
 use Rattle.entry_receive_heartbeat.specs.Hearing.{read_status}
 use Rattle.entry_receive_heartbeat.proofs.Heard.{read-bounds, room, read-refused, read-faulty, read-good}
-use borrow.Author.Rules.{rules}
 use Rattle.entry_receive_heartbeat.proofs.read.Goals as goal
 
 pub returns-then-status-ne0 : goal.returns-then-status-ne0

@@ -2,7 +2,6 @@ use mathlib.Core.Path.{sym, ◌∙◌}
 use borrow.Author.Tests.{eq-eqb, ne_eqb}
 use Rattle.refusal.specs.Refusal.{first}
 use Rattle.entry_receive_heartbeat.specs.Hearing.{read_status}
-use borrow.Author.Rules.{rules}
 use Rattle.entry_receive_heartbeat.proofs.read_refusal.Goals as goal
 
 -- above the tests that hold: a number that is taken though it is wrong is so here

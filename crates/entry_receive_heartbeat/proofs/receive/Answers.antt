@@ -2,7 +2,6 @@ use mathlib.Core.Path.{◌≡◌, refl, sym, ◌∙◌}
 use Rattle.frames.specs.declared.Copy.TheVariants.{Neither, OnA, OnB}
 use Rattle.entry_receive_heartbeat.specs.Hearing.{read_status}
 use Rattle.entry_receive_heartbeat.proofs.Heard.{read-bounds, room-of-a, room-of-b, receive-refused, receive-copies}
-use borrow.Author.Rules.{rules}
 use Rattle.entry_receive_heartbeat.proofs.receive.Goals as goal
 
 pub returns-then-status-ne0 : goal.returns-then-status-ne0

@@ -1,8 +1,8 @@
 use mathlib.Core.Path.{◌≡◌, sym, ap, ◌∙◌}
 use Rattle.parts.specs.Parts.{at_front}
-use mathlib.Core.List.{List, [], ◌++◌}
+use mathlib.Core.List.{List, []}
 use Prim.Native.Nat.{ℕ}
-use lib.ListN.{length, take, drop}
+use lib.ListN.{length}
 use Rattle.rules.specs.declared.Vote.{Vote}
 use Rattle.frames.specs.declared.Fault.{Fault}
 use Rattle.frames.specs.declared.VoteRead.{VoteRead}
@@ -16,7 +16,6 @@ use Rattle.refusal.proofs.Laws.{unless-done, unless-refused}
 use Rattle.entry_write_vote.proofs.Accepted.{slot_status, accepted}
 use Rattle.parts.proofs.Copies.{copied}
 use native.Mathlib.Omega.{arith}
-use borrow.Author.Rules.{rules}
 use Rattle.entry_receive_vote.proofs.read.Goals as goal
 
 module _ (n q cycle channel : ℕ) (f out : List ℕ) where

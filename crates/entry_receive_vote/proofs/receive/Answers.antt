@@ -19,7 +19,6 @@ use Rattle.entry_slots.specs.Slots.{with_slot}
 use Rattle.refusal.proofs.Laws.{unless-done, unless-refused}
 use Rattle.frames.proofs.Lengths.{length_payload}
 use Rattle.entry_write_vote.proofs.Accepted.{slot_status, Accepted, accepted, small}
-use borrow.Author.Rules.{rules}
 use Rattle.entry_receive_vote.proofs.receive.Goals as goal
 
 got : (n q cycle : ℕ) (a b : List ℕ) {x y : VoteRead} {d : VoteReceived} → x ≡ read_vote n q cycle 0 a → y ≡ read_vote n q cycle 1 b → d ≡ receive_vote x y

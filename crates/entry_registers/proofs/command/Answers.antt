@@ -1,5 +1,4 @@
 use Rattle.entry_registers.proofs.InPlace.{stop_left_lem, start_left_lem, no_command}
-use borrow.Author.Rules.{rules}
 use Rattle.entry_registers.proofs.command.Goals as goal
 
 pub returns-in-1 : goal.returns-in-1

@@ -1,6 +1,5 @@
 use mathlib.Core.Path.{◌∙◌}
 use borrow.Author.Tests.{eq-eqb, ne_eqb}
-use borrow.Author.Rules.{rules}
 use Rattle.entry_registers.proofs.command_first.Goals as goal
 
 pub returns-then-address-eq27 : goal.returns-then-address-eq27

@@ -1,6 +1,5 @@
 use mathlib.Core.Path.{◌∙◌}
 use Rattle.registers.proofs.Found.{cycle_as_write}
-use borrow.Author.Rules.{rules}
 use Rattle.entry_registers.proofs.cycle.Goals as goal
 
 pub returns : goal.returns

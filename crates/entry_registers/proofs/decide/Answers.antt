@@ -4,7 +4,6 @@ use lib.Seq.{length-take-le}
 use Rattle.state.specs.declared.Node.{Node}
 use Rattle.entry_decide.specs.Decide.{decision}
 use Rattle.entry_registers.proofs.InPlace.{cycle-left}
-use borrow.Author.Rules.{rules}
 use Rattle.entry_registers.proofs.decide.Goals as goal
 
 pub goes_on-on-requires : goal.goes_on-on-requires

@@ -1,6 +1,5 @@
 use Rattle.sets.specs.Sets.{◌∪◌}
 use Rattle.entry_registers.proofs.InPlace.{cycled-left}
-use borrow.Author.Rules.{rules}
 use Rattle.entry_registers.proofs.put_cycled.Goals as goal
 
 pub returns : goal.returns

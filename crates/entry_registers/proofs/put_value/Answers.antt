@@ -1,5 +1,4 @@
 use Rattle.entry_registers.proofs.InPlace.{with-command, without-command}
-use borrow.Author.Rules.{rules}
 use Rattle.entry_registers.proofs.put_value.Goals as goal
 
 pub returns-then-address-eq27 : goal.returns-then-address-eq27

@@ -5,7 +5,6 @@ use Rattle.rules.specs.OneCycle.{quiet_in}
 use Rattle.registers.specs.Steps.{Read}
 use Rattle.registers.proofs.Found.{holds_length}
 use Rattle.entry_registers.proofs.Stepping.{holds, block_refused, past_the_end, passed, value-kept, byte_read}
-use borrow.Author.Rules.{rules}
 use Rattle.entry_registers.proofs.read.Goals as goal
 
 pub returns-then-status-ne0 : goal.returns-then-status-ne0

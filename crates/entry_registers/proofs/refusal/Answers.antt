@@ -6,7 +6,6 @@ use Rattle.rules.specs.OneCycle.{wrong_mode, quiet_in}
 use Rattle.registers.specs.Block.{machine_in}
 use Rattle.entry_registers.specs.InPlace.{block_status, refusal_of}
 use Rattle.entry_registers.proofs.Stepping.{rest_refused, rest_passed, by_state, in_mode_lem}
-use borrow.Author.Rules.{rules}
 use Rattle.entry_registers.proofs.refusal.Goals as goal
 
 pub returns-then-wrong_mode : goal.returns-then-wrong_mode

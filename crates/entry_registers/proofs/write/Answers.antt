@@ -7,7 +7,6 @@ use Rattle.registers.proofs.Blocks.{held_block}
 use Rattle.registers.proofs.Found.{holds_length}
 use Rattle.entry_registers.proofs.InPlace.{write_is}
 use Rattle.entry_registers.proofs.Stepping.{holds, block_refused, past_the_end, passed, kept, done}
-use borrow.Author.Rules.{rules}
 use Rattle.entry_registers.proofs.write.Goals as goal
 
 pub returns-then-status-ne0 : goal.returns-then-status-ne0

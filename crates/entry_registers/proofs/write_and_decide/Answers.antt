@@ -13,7 +13,6 @@ use Rattle.registers.proofs.Blocks.{held_block}
 use Rattle.entry_registers.specs.InPlace.{block_status}
 use Rattle.entry_registers.proofs.InPlace.{cycle-is}
 use Rattle.entry_registers.proofs.Stepping.{rest_refused, rest_passed, by_state, in_mode_lem, placed, block_refused, past_the_end, passed, kept, done}
-use borrow.Author.Rules.{rules}
 use Rattle.entry_registers.proofs.write_and_decide.Goals as goal
 
 pub returns-then-status-ne0 : goal.returns-then-status-ne0

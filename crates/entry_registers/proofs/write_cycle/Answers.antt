@@ -7,7 +7,6 @@ use borrow.Author.Tests.{eq-eqb, ne_eqb}
 use Rattle.rules.specs.OneCycle.{wrong_mode}
 use Rattle.registers.specs.Steps.{WriteCycle}
 use Rattle.entry_registers.proofs.Stepping.{wrong-mode, other-votes, kept, left_address, command-refused, command-done}
-use borrow.Author.Rules.{rules}
 use Rattle.entry_registers.proofs.write_cycle.Goals as goal
 
 pub returns-then-wrong_mode : goal.returns-then-wrong_mode

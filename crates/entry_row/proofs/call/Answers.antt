@@ -1,4 +1,3 @@
-use borrow.Author.Rules.{rules}
 use Rattle.entry_row.specs.OnImages.{images_status, images_left}
 use Rattle.entry_row.proofs.call.Goals as goal
 

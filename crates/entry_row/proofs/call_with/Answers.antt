@@ -1,6 +1,5 @@
 use mathlib.Core.Path.{◌≡◌, sym, ◌∙◌}
 use lib.ListN.{length}
-use borrow.Author.Rules.{rules}
 use Rattle.run_answer.specs.Answered.{GatheredFrom}
 use Rattle.row_images.specs.Images.{nodes_in}
 use Rattle.entry_row.specs.OnImages.{lent_status}

@@ -6,7 +6,6 @@ use Rattle.frames.specs.Written.{wrong_drive}
 use Rattle.frames.proofs.Payloads.{drive_bounds}
 use Rattle.entry_send_heartbeat.specs.Beating.{wrong_sending}
 use Rattle.entry_send_heartbeat.proofs.Sent.{wrong-numbers, drive-refused, state-found, state-refused, send-bounds}
-use borrow.Author.Rules.{rules}
 use Rattle.entry_send_heartbeat.proofs.send.Goals as goal
 
 pub returns-then-wrong_sending : goal.returns-then-wrong_sending

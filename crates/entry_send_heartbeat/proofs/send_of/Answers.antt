@@ -1,6 +1,5 @@
 use native.Mathlib.Omega.{arith}
 use Rattle.entry_send_heartbeat.proofs.Sent.{send_frame, send_nothing}
-use borrow.Author.Rules.{rules}
 use Rattle.entry_send_heartbeat.proofs.send_of.Goals as goal
 
 pub write_heartbeat-requires : goal.write_heartbeat-requires

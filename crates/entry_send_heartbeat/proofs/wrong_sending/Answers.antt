@@ -1,5 +1,4 @@
 use mathlib.Core.Path.{sym, ◌∙◌}
-use borrow.Author.Rules.{rules}
 use Rattle.entry_send_heartbeat.proofs.wrong_sending.Goals as goal
 
 -- above the tests that hold: a number that is taken though it is wrong is so here

@@ -19,7 +19,6 @@ use Rattle.entry_lent.specs.Found.{lent_node}
 use Rattle.entry_lent.proofs.Images.{good_place}
 use Rattle.entry_lent.proofs.Sending.{seen, found, sends, sends_none}
 use Rattle.entry_send_vote.specs.Voting.{voted_of, vote_from, send_vote_status, send_vote_left, send_vote_sent}
-use borrow.Author.Rules.{rules}
 use Rattle.entry_send_vote.proofs.send.Goals as goal
 
 -- the numbers that are wrong

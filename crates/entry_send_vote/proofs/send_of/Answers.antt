@@ -2,9 +2,9 @@
 use Rattle.parts.specs.Parts.{at_front}
 use mathlib.Core.Path.{◌≡◌, sym, ap, ◌∙◌}
 use mathlib.Core.Bool.{Bool, true, false, cond}
-use mathlib.Core.List.{List, ◌++◌}
+use mathlib.Core.List.{List}
 use Prim.Native.Nat.{ℕ}
-use lib.ListN.{length, take, drop}
+use lib.ListN.{length}
 use Rattle.state.specs.declared.Group.{Group}
 use Rattle.state.specs.declared.State.{State}
 use Rattle.state.specs.declared.State.TheVariants.{Member}
@@ -14,7 +14,6 @@ use Rattle.frames.specs.Written.{vote_frame}
 use Rattle.frames.proofs.Lengths.{length-vote}
 use Rattle.parts.proofs.Copies.{copied}
 use Rattle.entry_send_vote.specs.Voting.{own_view, votes_with, votes_on, votes_byte, vote_in}
-use borrow.Author.Rules.{rules}
 use Rattle.entry_send_vote.proofs.send_of.Goals as goal
 
 module _ (quiet : Bool) (n : Node) (heard0 heard1 requests cycle channel : ℕ) (f : List ℕ) (g : Group) (a : Bool) (v : Vote) (k : n.state ≡ Member g a)

@@ -6,7 +6,6 @@ use Rattle.entry_lent.specs.declared.Lent.TheVariants.{Holds, Refused}
 use Rattle.entry_lent.specs.Found.{lent_state, image_status}
 use Rattle.entry_send_vote.specs.Voting.{view_in, view_from}
 use Rattle.entry_lent.proofs.Images.{good_place, found_state}
-use borrow.Author.Rules.{rules}
 use Rattle.entry_send_vote.proofs.view.Goals as goal
 
 seen : (mode : ℕ) (s : List ℕ) (n : Node) (heard0 heard1 view r : ℕ) → lent_state mode s ≡ Holds n → r ≡ view_in n n.state heard0 heard1

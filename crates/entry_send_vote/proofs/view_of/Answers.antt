@@ -7,7 +7,6 @@ use Rattle.state.specs.declared.State.TheVariants.{Member}
 use Rattle.state.specs.declared.Node.{Node}
 use Rattle.rules.specs.declared.Vote.{Vote}
 use Rattle.entry_send_vote.specs.Voting.{own_view, view_in}
-use borrow.Author.Rules.{rules}
 use Rattle.entry_send_vote.proofs.view_of.Goals as goal
 
 member-view : (n : Node) (g : Group) (a : Bool) (v : Vote) (heard0 heard1 : ℕ) → n.state ≡ Member g a → v ≡ record { group = g; view = own_view n heard0 heard1 g }

@@ -3,7 +3,6 @@ use Prim.Native.Nat.{ℕ}
 use Rattle.sets.specs.Sets.{◌∖◌}
 use Rattle.rules.specs.OneCycle.{called, will_vote}
 use Rattle.entry_send_vote.specs.Voting.{press_of}
-use borrow.Author.Rules.{rules}
 use Rattle.entry_send_vote.proofs.votes_with.Goals as goal
 
 pub returns : goal.returns

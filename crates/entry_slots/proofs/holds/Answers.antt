@@ -1,8 +1,6 @@
 use mathlib.Core.Path.{refl, sym, ◌∙◌}
-use borrow.Author.Tests.{not-true}
 use Rattle.rules.proofs.Counting.{and_taken, and_left}
 use Rattle.entry_slots.proofs.Buffers.{slot_is, slot-unset}
-use borrow.Author.Rules.{rules}
 use Rattle.entry_slots.proofs.holds.Goals as goal
 
 -- first: that what is left in a slot counts for nothing matters here and below

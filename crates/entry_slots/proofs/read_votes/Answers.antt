@@ -1,15 +1,12 @@
 use mathlib.Core.Path.{◌≡◌, ap, ◌∙◌}
 use mathlib.Core.Bool.{Bool}
-use Prim.Native.Nat.{ℕ, ◌-◌, ◌≤◌, ◌<◌}
-use lib.ListN.{length, length-set}
-use Rattle.sets.specs.Sets.{those}
+use Prim.Native.Nat.{ℕ, ◌<◌}
+use lib.ListN.{length-set}
 use Rattle.sets.proofs.Nodes.{those-none, those-next, those_end}
 use Rattle.rules.specs.declared.Vote.{Vote}
-use Rattle.rules.specs.Ballots.{vote_at}
 use Rattle.entry_slots.specs.Slots.{slot_vote, counted_vote, arrived_in}
 use Rattle.entry_slots.proofs.Buffers.{counts, filled, counted-vote}
 use native.Mathlib.Omega.{arith}
-use borrow.Author.Rules.{rules}
 use Rattle.entry_slots.proofs.read_votes.Goals as goal
 
 counted : (n q arrived p : ℕ) {b : Bool} (v w : Vote) → b ≡ counts n q arrived p v → v ≡ w → b ≡ counts n q arrived p w

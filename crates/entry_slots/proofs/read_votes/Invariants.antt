@@ -1,15 +1,10 @@
-use mathlib.Core.Path.{◌≡◌, ap, ◌∙◌}
-use mathlib.Core.Bool.{Bool}
+use mathlib.Core.Path.{◌≡◌}
 use Prim.Native.Nat.{ℕ, ◌-◌, ◌≤◌, ◌<◌}
-use lib.ListN.{length, length-set}
+use lib.ListN.{length}
 use Rattle.sets.specs.Sets.{those}
-use Rattle.sets.proofs.Nodes.{those-none, those-next, those_end}
-use Rattle.rules.specs.declared.Vote.{Vote}
 use Rattle.rules.specs.Ballots.{vote_at}
-use Rattle.entry_slots.specs.Slots.{slot_vote, counted_vote, arrived_in}
-use Rattle.entry_slots.proofs.Buffers.{counts, filled, counted-vote}
-use native.Mathlib.Omega.{arith}
-use borrow.Author.Rules.{rules}
+use Rattle.entry_slots.specs.Slots.{slot_vote, counted_vote}
+use Rattle.entry_slots.proofs.Buffers.{counts}
 use Rattle.entry_slots.proofs.read_votes.Given as goal
 
 abbrev pub invariant-loop-p : goal.invariant-loop-p

@@ -1,4 +1,3 @@
-use borrow.Author.Rules.{rules}
 use Rattle.entry_state.proofs.numbers_of.Goals as goal
 
 pub returns-in-Out : goal.returns-in-Out

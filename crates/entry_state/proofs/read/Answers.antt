@@ -8,7 +8,6 @@ use Rattle.entry_lent.specs.declared.Lent.TheVariants.{Holds, Refused}
 use Rattle.entry_lent.specs.Found.{lent_state, status_of, image_status}
 use Rattle.entry_state.specs.declared.Numbers.{Numbers}
 use Rattle.entry_state.specs.Apart.{of_node, kind_left, reason_left, node_left, count_left, number_left, set_left, base_left}
-use borrow.Author.Rules.{rules}
 use Rattle.entry_state.proofs.read.Goals as goal
 
 module _ (mode : ℕ) (s : List ℕ) (kind reason node n number set base : ℕ) where

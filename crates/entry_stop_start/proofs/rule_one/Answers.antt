@@ -2,7 +2,6 @@ use mathlib.Core.Path.{sym, ◌∙◌}
 use native.Mathlib.Omega.{arith}
 use Rattle.entry_lent.proofs.Images.{good_length, found_state}
 use Rattle.entry_stop_start.proofs.Answers.{ruled, kept}
-use borrow.Author.Rules.{rules}
 use Rattle.entry_stop_start.proofs.rule_one.Goals as goal
 
 pub copy-requires : goal.copy-requires

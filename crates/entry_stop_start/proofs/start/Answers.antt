@@ -1,5 +1,4 @@
 use Rattle.entry_stop_start.specs.StopStart.{start_left}
-use borrow.Author.Rules.{rules}
 use Rattle.entry_stop_start.proofs.start.Goals as goal
 
 pub returns : goal.returns

@@ -1,6 +1,5 @@
 use mathlib.Core.Path.{ap}
 use Rattle.state.specs.declared.State.{State}
-use borrow.Author.Rules.{rules}
 use Rattle.entry_stop_start.proofs.stopped_and_started.Goals as goal
 
 pub returns : goal.returns

@@ -2,7 +2,6 @@ use mathlib.Core.Path.{◌≡◌, sym, ◌∙◌}
 use Rattle.refusal.proofs.Laws.{unless-refused}
 use Rattle.entry_write_heartbeat.specs.Heartbeats.{write_heartbeat_status, write_heartbeat_left}
 use Rattle.entry_write_heartbeat.proofs.Beats.{write-bounds, written}
-use borrow.Author.Rules.{rules}
 use Rattle.entry_write_heartbeat.proofs.write.Goals as goal
 
 pub returns-then-status-ne0 : goal.returns-then-status-ne0

@@ -7,7 +7,6 @@ use Rattle.frames.proofs.Payloads.{drive_bounds}
 use Rattle.refusal.specs.Refusal.{first}
 use Rattle.entry_lent.specs.Refusals.{wrong_count}
 use Rattle.entry_write_heartbeat.specs.Heartbeats.{wrong_numbers, write_heartbeat_status}
-use borrow.Author.Rules.{rules}
 use Rattle.entry_write_heartbeat.proofs.write_refusal.Goals as goal
 
 pub returns-then-wrong_count : goal.returns-then-wrong_count

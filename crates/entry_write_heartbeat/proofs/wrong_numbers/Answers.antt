@@ -1,6 +1,5 @@
 use mathlib.Core.Path.{sym, ◌∙◌}
 use borrow.Author.Tests.{lt-ltb, le-ltb}
-use borrow.Author.Rules.{rules}
 use Rattle.entry_write_heartbeat.proofs.wrong_numbers.Goals as goal
 
 -- above the tests that hold: a number that is taken though it is wrong is so here

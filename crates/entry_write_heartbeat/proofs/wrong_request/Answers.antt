@@ -2,7 +2,6 @@ use mathlib.Core.Path.{ap}
 use mathlib.Core.Bool.{not}
 use borrow.Author.Tests.{eq-eqb, ne_eqb}
 use Rattle.frames.specs.Written.{wrong_request}
-use borrow.Author.Rules.{rules}
 use Rattle.entry_write_heartbeat.proofs.wrong_request.Goals as goal
 
 pub returns-then-request-ne1 : goal.returns-then-request-ne1

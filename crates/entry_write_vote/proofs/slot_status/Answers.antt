@@ -1,7 +1,6 @@
 use mathlib.Core.Path.{sym, ◌∙◌}
 use borrow.Author.Tests.{eq-eqb, ne_eqb}
 use Rattle.refusal.specs.Refusal.{first}
-use borrow.Author.Rules.{rules}
 use Rattle.entry_write_vote.proofs.slot_status.Goals as goal
 
 pub returns-then-wrong_count : goal.returns-then-wrong_count

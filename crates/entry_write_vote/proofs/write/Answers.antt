@@ -1,9 +1,9 @@
 use mathlib.Core.Path.{◌≡◌, refl, sym, ap, ◌∙◌}
 use Rattle.parts.specs.Parts.{at_front}
 use mathlib.Core.Bool.{not}
-use mathlib.Core.List.{List, [], ◌∷◌, ◌++◌}
+use mathlib.Core.List.{List, [], ◌∷◌}
 use Prim.Native.Nat.{ℕ}
-use lib.ListN.{length, take, drop}
+use lib.ListN.{length}
 use Rattle.rules.specs.declared.Vote.{Vote}
 use Rattle.frames.specs.Written.{vote_frame, formed_vote}
 use Rattle.frames.proofs.Lengths.{length-vote}
@@ -13,7 +13,6 @@ use Rattle.refusal.proofs.Laws.{unless-done, unless-refused}
 use Rattle.entry_write_vote.proofs.Accepted.{Accepted, accepted, small}
 use Rattle.parts.proofs.Copies.{copied}
 use native.Mathlib.Omega.{arith}
-use borrow.Author.Rules.{rules}
 use Rattle.entry_write_vote.proofs.write.Goals as goal
 
 taken : (n q cycle channel : ℕ) (v : Vote) (f : List ℕ) → write_vote_status n q v cycle channel f ≡ 0 → Accepted n q cycle (length f) 36

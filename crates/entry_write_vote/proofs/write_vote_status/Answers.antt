@@ -9,7 +9,6 @@ use Rattle.refusal.specs.Refusal.{when, first}
 use Rattle.entry_write_vote.specs.Votes.{write_vote_status}
 use Rattle.refusal.proofs.Laws.{refused_before, passed_before}
 use Rattle.entry_write_vote.proofs.Accepted.{slot_conditions, slot_status, accepted, small}
-use borrow.Author.Rules.{rules}
 use Rattle.entry_write_vote.proofs.write_vote_status.Goals as goal
 
 module _ (n q cycle channel : ℕ) where

@@ -1,5 +1,4 @@
 -- `gm::gm_state` meets its contract: it is that of `entry_state::read`. By hand, since a search over eight facts runs to its step limit where one is false. Assumes nothing.
-use borrow.Author.Rules.{rules}
 use Rattle.gm.proofs.gm_state.Goals as goal
 
 pub returns : goal.returns

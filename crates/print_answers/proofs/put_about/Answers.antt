@@ -1,5 +1,4 @@
 -- `print_answers::put_about` meets its contract. Assumes nothing.
-use borrow.Author.Rules.{rules}
 use Rattle.print_text.specs.Text.{ascii}
 use Rattle.print_text.proofs.Appending.{then}
 use Rattle.print_answers.specs.Answers.{about_text}

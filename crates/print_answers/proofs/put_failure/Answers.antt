@@ -1,6 +1,5 @@
 -- `print_answers::put_failure` meets its contract. Assumes nothing.
 use mathlib.Core.Path.{sym, ap}
-use borrow.Author.Rules.{rules}
 use Rattle.print_text.specs.Text.{ascii}
 use Rattle.print_text.proofs.Appending.{same}
 use Rattle.print_answers.specs.Answers.{failure_line}

@@ -1,6 +1,5 @@
 -- `print_answers::put_help` meets its contract. Assumes nothing.
 use native.Mathlib.Omega.{arith}
-use borrow.Author.Rules.{rules}
 use Rattle.print_text.proofs.Appending.{then, leaves}
 use Rattle.print_answers.proofs.Lengths.{usage_length, about_length, options_length}
 use Rattle.print_answers.specs.Answers.{help_text}

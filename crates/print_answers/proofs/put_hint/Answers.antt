@@ -1,6 +1,5 @@
 -- `print_answers::put_hint` meets its contract: the name, and then the rest at once. Assumes nothing.
 use native.Mathlib.Omega.{arith}
-use borrow.Author.Rules.{rules}
 use Rattle.print_text.specs.Text.{ascii}
 use Rattle.print_text.proofs.Appending.{then, leaves}
 use Rattle.print_answers.proofs.Lengths.{name_length}

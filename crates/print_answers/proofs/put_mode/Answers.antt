@@ -1,7 +1,6 @@
 -- `print_answers::put_mode` meets its contract. Assumes nothing.
 use mathlib.Core.Path.{refl, sym, ap}
 use native.Mathlib.Omega.{arith}
-use borrow.Author.Rules.{rules}
 use Rattle.print_text.specs.Text.{ascii}
 use Rattle.print_text.proofs.Appending.{none, same}
 use Rattle.print_answers.specs.Answers.{mode_text}

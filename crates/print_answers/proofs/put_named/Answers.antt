@@ -1,6 +1,5 @@
 -- `print_answers::put_named` meets its contract. Assumes nothing.
 use native.Mathlib.Omega.{arith}
-use borrow.Author.Rules.{rules}
 use Rattle.print_text.proofs.Appending.{then, room}
 use Rattle.print_answers.proofs.Lengths.{name_length}
 use Rattle.print_answers.proofs.put_named.Goals as goal

@@ -1,5 +1,4 @@
 -- `print_answers::put_options` meets its contract. Assumes nothing.
-use borrow.Author.Rules.{rules}
 use Rattle.print_text.specs.Text.{ascii}
 use Rattle.print_answers.specs.Answers.{options_text}
 use Rattle.print_answers.proofs.put_options.Goals as goal

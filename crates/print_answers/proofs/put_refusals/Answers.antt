@@ -1,5 +1,4 @@
 -- `print_answers::put_refusals` meets its contract. Assumes nothing.
-use borrow.Author.Rules.{rules}
 use Rattle.print_text.specs.Text.{ascii}
 use Rattle.print_answers.specs.Answers.{refusals_text}
 use Rattle.print_answers.proofs.put_refusals.Goals as goal

@@ -1,5 +1,4 @@
 -- `print_answers::put_usage` meets its contract. Assumes nothing.
-use borrow.Author.Rules.{rules}
 use Rattle.print_text.specs.Text.{ascii}
 use Rattle.print_answers.specs.Answers.{usage_line}
 use Rattle.print_answers.proofs.put_usage.Goals as goal

@@ -1,7 +1,6 @@
 -- `print_options::asked_by` meets its contract. Assumes nothing.
 use mathlib.Core.Path.{sym, ◌∙◌}
 use native.Mathlib.Omega.{arith}
-use borrow.Author.Rules.{rules}
 use Rattle.print_text.specs.Text.{ascii}
 use Rattle.print_options.proofs.Asking.{none-given, several_given, one_given, help-given, version-given, other-given}
 use Rattle.print_options.proofs.asked_by.Goals as goal

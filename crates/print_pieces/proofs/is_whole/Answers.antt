@@ -6,7 +6,6 @@ use lib.Dec.{leb}
 use lib.ListN.{length}
 use native.Mathlib.Omega.{arith}
 use borrow.Author.Tests.{le-leb, lt-leb}
-use Rattle.sets.proofs.Booleans.{not-e, not_f}
 use Rattle.table.specs.Records.{cycle_length}
 use Rattle.print_pieces.specs.Pieces.{whole_in}
 use Rattle.print_pieces.proofs.is_whole.Goals as goal

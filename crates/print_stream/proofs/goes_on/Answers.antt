@@ -1,7 +1,6 @@
 -- `print_stream::goes_on` meets its contract. Assumes nothing.
 use mathlib.Core.Path.{sym, ap₂, ◌∙◌}
 use mathlib.Core.Bool.{Bool, not, ◌&&◌, ◌||◌}
-use borrow.Author.Rules.{rules}
 use Rattle.print_pieces.specs.Pieces.{whole_in}
 use Rattle.print_stream.proofs.goes_on.Goals as goal
 

@@ -1,10 +1,9 @@
 use mathlib.Core.Path.{sym}
-use Prim.Native.Nat.{◌+◌, ◌-◌}
 use native.Mathlib.Omega.{arith}
 use lib.Seq.{length-take-le}
 use Rattle.print_text.proofs.Appending.{room}
-use Rattle.print_window.proofs.Going.{falls, Going, going-none, has_room, takes-within, going_more, going_less, takes}
-use Rattle.print_pieces.specs.Pieces.{held, longest, rate, print_of, due, whole, Sound}
+use Rattle.print_window.proofs.Going.{going-none, has_room, takes-within, going_more, going_less, takes}
+use Rattle.print_pieces.specs.Pieces.{longest, rate, due, whole}
 use Rattle.print_stream.proofs.Short.{short}
 use Rattle.print_stream.proofs.take.Goals as goal
 

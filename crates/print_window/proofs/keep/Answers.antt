@@ -1,7 +1,7 @@
 use mathlib.Core.Path.{◌≡◌, refl, ap, ◌∙◌}
 use mathlib.Core.List.{List}
-use Prim.Native.Nat.{ℕ, ◌+◌, ◌-◌, ◌≤◌}
-use lib.ListN.{length, get_or, set, length-set}
+use Prim.Native.Nat.{ℕ, ◌+◌, ◌-◌}
+use lib.ListN.{get_or, set, length-set}
 use native.Mathlib.Omega.{arith}
 use Rattle.print_window.proofs.Moved.{moved, moved_more, moved_all}
 use Rattle.print_window.proofs.keep.Goals as goal

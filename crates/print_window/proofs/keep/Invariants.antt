@@ -1,10 +1,8 @@
 -- `print_window::keep` meets its contract. The loop's invariant: the first i bytes are moved, and all others stand. Assumes nothing.
-use mathlib.Core.Path.{◌≡◌, refl, ap, ◌∙◌}
-use mathlib.Core.List.{List}
-use Prim.Native.Nat.{ℕ, ◌+◌, ◌-◌, ◌≤◌}
-use lib.ListN.{length, get_or, set, length-set}
-use native.Mathlib.Omega.{arith}
-use Rattle.print_window.proofs.Moved.{moved, moved_more, moved_all}
+use mathlib.Core.Path.{◌≡◌}
+use Prim.Native.Nat.{◌-◌, ◌≤◌}
+use lib.ListN.{length}
+use Rattle.print_window.proofs.Moved.{moved}
 use Rattle.print_window.proofs.keep.Given as goal
 
 abbrev pub invariant-loop-i : goal.invariant-loop-i

@@ -1,5 +1,4 @@
 use Rattle.register_block.proofs.Flags.{flags_put}
-use borrow.Author.Rules.{rules}
 use Rattle.register_block.proofs.put_flags.Goals as goal
 
 pub returns : goal.returns

@@ -8,7 +8,6 @@ use Rattle.state.specs.declared.State.TheVariants.{Out, Joining, Member}
 use Rattle.rules.specs.OneCycle.{sends_member}
 use Rattle.registers.specs.Block.{flags_byte}
 use Rattle.registers.specs.Steps.{raised_by}
-use borrow.Author.Rules.{rules}
 use Rattle.register_block.proofs.raised_by.Goals as goal
 
 -- a joining node enters if it is a member then

@@ -1,5 +1,4 @@
 use Rattle.register_block.proofs.Flags.{reads_so_lem}
-use borrow.Author.Rules.{rules}
 use Rattle.register_block.proofs.reads_so.Goals as goal
 
 pub returns : goal.returns

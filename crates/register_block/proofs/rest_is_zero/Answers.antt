@@ -1,5 +1,4 @@
 use Rattle.register_block.proofs.Zeros.{rest_zero}
-use borrow.Author.Rules.{rules}
 use Rattle.register_block.proofs.rest_is_zero.Goals as goal
 
 pub returns : goal.returns

@@ -1,7 +1,6 @@
 use mathlib.Core.Path.{sym, ◌∙◌}
 use borrow.Author.Tests.{eq-eqb, ne_eqb}
 use Rattle.register_block.specs.Bytes.{rest_status}
-use borrow.Author.Rules.{rules}
 use Rattle.register_block.proofs.rest_refusal.Goals as goal
 
 pub returns-then-block-ne64 : goal.returns-then-block-ne64

@@ -2,7 +2,6 @@ use mathlib.Core.Path.{ap, ◌∙◌}
 use Prim.Native.Nat.{ℕ}
 use lib.Dec.{eqb}
 use Rattle.register_block.proofs.Zeros.{number_zero}
-use borrow.Author.Rules.{rules}
 use Rattle.register_block.proofs.zero4.Goals as goal
 
 pub returns : goal.returns

@@ -1,12 +1,10 @@
-use mathlib.Core.Path.{◌≡◌, ap, ◌∙◌}
-use Prim.Native.Nat.{ℕ, ◌-◌, ◌≤◌, ◌<◌}
-use native.Mathlib.Omega.{arith}
-use lib.ListN.{length, length-replicate}
+use mathlib.Core.Path.{◌≡◌}
+use Prim.Native.Nat.{◌-◌, ◌≤◌}
+use lib.ListN.{length}
 use Rattle.rules.specs.Faults.{tabulate}
 use Rattle.row.specs.Gathered.{nothing_of, gathered}
-use Rattle.row_images.specs.Images.{node_in, entries_in, nodes_in}
-use Rattle.row_images.proofs.Images.{entries_fit}
-use Rattle.row_images.proofs.Walks.{found, found_none, found-next, put-lengths, read-bounds, gathered_next, gathered-read}
+use Rattle.row_images.specs.Images.{node_in}
+use Rattle.row_images.proofs.Walks.{found}
 use Rattle.row_images.proofs.gather.Given as goal
 
 abbrev pub invariant-loop-q : goal.invariant-loop-q

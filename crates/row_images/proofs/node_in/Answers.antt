@@ -1,6 +1,5 @@
 use mathlib.Core.Path.{◌∙◌}
 use Rattle.row_images.proofs.Walks.{node_found}
-use borrow.Author.Rules.{rules}
 use Rattle.row_images.proofs.node_in.Goals as goal
 
 pub returns-in-Good : goal.returns-in-Good

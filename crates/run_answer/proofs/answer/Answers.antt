@@ -1,7 +1,6 @@
 -- By the task. Assumes nothing.
 use mathlib.Core.Path.{refl}
 use mathlib.Core.Bool.{true, false}
-use borrow.Author.Rules.{rules}
 use Rattle.row_calls.specs.declared.Task.TheVariants.{Cycle, Run, FramedRun}
 use Rattle.run_answer.proofs.Calling.{same_task, run_answers}
 use Rattle.run_answer.proofs.answer.Goals as goal

@@ -2,7 +2,6 @@ use mathlib.Core.Path.{◌≡◌, sym, ap, ◌∙◌}
 use mathlib.Core.Bool.{Bool, true, false, cond}
 use mathlib.Core.List.{List}
 use Prim.Native.Nat.{ℕ}
-use borrow.Author.Rules.{rules}
 use Rattle.run_answer.proofs.run.Goals as goal
 
 with-frames : (framed : Bool) (shown as_lent left : List ℕ) → framed ≡ true → left ≡ shown → left ≡ cond framed shown as_lent

@@ -4,7 +4,6 @@ use mathlib.Core.Bool.{Bool, true, false, cond}
 use Prim.Native.Nat.{ℕ, ◌<◌}
 use native.Mathlib.Omega.{arith}
 use lib.ListN.{length}
-use borrow.Author.Rules.{rules}
 use Rattle.state.specs.State.{formed_state}
 use Rattle.rules.specs.OneCycle.{config_of, wrong_mode}
 use Rattle.bus_units.specs.Run.{frames_length, frames_after}

@@ -1,5 +1,5 @@
 use mathlib.Core.List.{List}
-use Prim.Native.Nat.{ℕ, ◌+◌, ◌-◌, ◌≤◌}
+use Prim.Native.Nat.{ℕ, ◌+◌, ◌≤◌}
 use native.Mathlib.Omega.{arith}
 use lib.ListN.{length}
 use borrow.Author.Rules.{rules}
@@ -7,7 +7,7 @@ use Rattle.rules.specs.declared.Config.{Config}
 use Rattle.rules.specs.Faults.{Row}
 use Rattle.cluster_states.specs.States.{row_of}
 use Rattle.run_turns.proofs.Ran.{going_done, going-there, going-past, states_formed}
-use Rattle.run_framed.proofs.Frames.{Showing, showing_begun, showing-done, showing-next}
+use Rattle.run_framed.proofs.Frames.{showing_begun, showing-done, showing-next}
 use Rattle.run_framed.proofs.run_framed.Goals as goal
 
 pub loop-cursor-init : goal.loop-cursor-init
