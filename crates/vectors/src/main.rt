@@ -16,99 +16,96 @@
 
 ghost use Rattle.std.specs.Prelude.{◌<◌};
 
-use libc::STDOUT_FILENO;
 use rules::Vote;
 use state::Group;
+use std::io;
 
-fn end_line() {
-    io::write_all(STDOUT_FILENO, b"\n");
+fn end_line(rt: HostRuntime) -> io::Result<()> {
+    println!(rt; "")
 }
 
 // The header check for sync, startup, frame number and length.
-fn show_header(sync: u32, startup: u32, number: u32, length: u32)
+fn show_header(rt: HostRuntime, sync: u32, startup: u32, number: u32, length: u32) -> io::Result<()>
     requires sync_bound { sync < 2 }
     requires startup_bound { startup < 2 }
     requires number_bound { number < 2048 }
     requires length_len_bound { length < 128 }
 {
     let check = crc::header_check(sync, startup, number, length);
-    io::print_hex(STDOUT_FILENO, check as u64, 3);
-    end_line();
+    println!(rt; "{check:03x}")
 }
 
 // The frame check of some bytes on each channel.
-fn show_check(s: &[u8]) {
+fn show_check(rt: HostRuntime, s: &[u8]) -> io::Result<()> {
     let a = crc::frame_check(crc::channel_start(0), s);
     let b = crc::frame_check(crc::channel_start(1), s);
-    io::print_hex(STDOUT_FILENO, a as u64, 6);
-    io::write_all(STDOUT_FILENO, b" ");
-    io::print_hex(STDOUT_FILENO, b as u64, 6);
-    end_line();
+    println!(rt; "{a:06x} {b:06x}")
 }
 
-fn show_bytes(s: &[u8]) {
-    let mut i = 0;
-    while i < s.len() {
-        io::print_hex(STDOUT_FILENO, s[i] as u64, 2);
-        i += 1;
+fn show_bytes(rt: HostRuntime, s: &[u8]) -> io::Result<()> {
+    for byte in s {
+        print!(rt; "{byte:02x}")?;
     }
-    end_line();
+    end_line(rt)
 }
 
 // The frames of one vote on both channels.
-fn show_vote(q: u32, vote: Vote, cycle: u32)
+fn show_vote(rt: HostRuntime, q: u32, vote: Vote, cycle: u32) -> io::Result<()>
     requires q_bound { q < 64 }
     requires cycle_bound { cycle < 64 }
 {
     let a = frame_writing::write_vote(q, vote, cycle, 0);
-    show_bytes(&a);
+    show_bytes(rt, &a)?;
     let b = frame_writing::write_vote(q, vote, cycle, 1);
-    show_bytes(&b);
+    show_bytes(rt, &b)
 }
 
 // A founding member's first vote, and one in which no byte stands twice: there no two of G, M, B and V can change places unseen.
-fn show_votes() {
+fn show_votes(rt: HostRuntime) -> io::Result<()> {
     let founding = Group {
         number: 0,
         set: 0x1f,
         base: 0x1f,
     };
     show_vote(
+        rt,
         0,
         Vote {
             group: founding,
             view: 0x1f,
         },
         0,
-    );
+    )?;
     let group = Group {
         number: 0x3c5a7e91,
         set: 0x0123456789abcdef,
         base: 0x1133557799bbddff,
     };
     show_vote(
+        rt,
         15,
         Vote {
             group,
             view: 0xf0e1d2c3b4a59687,
         },
         42,
-    );
+    )
 }
 
-fn show_headers() {
-    show_header(0, 0, 1, 1);
-    show_header(0, 0, 5, 1);
-    show_header(1, 1, 1, 1);
-    show_header(1, 0, 1, 1);
-    show_header(0, 0, 64, 1);
-    show_header(0, 0, 65, 14);
-    show_header(0, 0, 128, 14);
-    show_header(0, 0, 2047, 127);
+fn show_headers(rt: HostRuntime) -> io::Result<()> {
+    show_header(rt, 0, 0, 1, 1)?;
+    show_header(rt, 0, 0, 5, 1)?;
+    show_header(rt, 1, 1, 1, 1)?;
+    show_header(rt, 1, 0, 1, 1)?;
+    show_header(rt, 0, 0, 64, 1)?;
+    show_header(rt, 0, 0, 65, 14)?;
+    show_header(rt, 0, 0, 128, 14)?;
+    show_header(rt, 0, 0, 2047, 127)
 }
 
 // A heartbeat of node q of 64 on both channels, through a buffer as long as it.
 fn show_heartbeat(
+    rt: HostRuntime,
     mode: u32,
     q: u32,
     join: u32,
@@ -118,15 +115,15 @@ fn show_heartbeat(
     cycle: u32,
     drive: &[u8],
     frame: &mut [u8],
-) {
+) -> io::Result<()> {
     entry_write_heartbeat::write(
         64, mode, q, join, request, sync, startup, cycle, 0, drive, frame,
     );
-    show_bytes(frame);
+    show_bytes(rt, frame)?;
     entry_write_heartbeat::write(
         64, mode, q, join, request, sync, startup, cycle, 1, drive, frame,
     );
-    show_bytes(frame);
+    show_bytes(rt, frame)
 }
 
 // Drive bytes: no two that follow each other are equal.
@@ -141,25 +138,25 @@ fn drive_bytes() -> [u8; 252] {
 }
 
 // Of one, two, three and 127 words; the last of one word has a request, in a quiet press.
-fn show_heartbeats() {
+fn show_heartbeats(rt: HostRuntime) -> io::Result<()> {
     let none = [0u8; 0];
     let mut one = [0u8; 10];
-    show_heartbeat(0, 0, 0, 0, 0, 0, 0, &none, &mut one);
-    show_heartbeat(0, 4, 1, 0, 0, 0, 63, &none, &mut one);
-    show_heartbeat(0, 63, 0, 0, 1, 1, 9, &none, &mut one);
-    show_heartbeat(1, 3, 0, 1, 0, 0, 7, &none, &mut one);
+    show_heartbeat(rt, 0, 0, 0, 0, 0, 0, 0, &none, &mut one)?;
+    show_heartbeat(rt, 0, 4, 1, 0, 0, 0, 63, &none, &mut one)?;
+    show_heartbeat(rt, 0, 63, 0, 0, 1, 1, 9, &none, &mut one)?;
+    show_heartbeat(rt, 1, 3, 0, 1, 0, 0, 7, &none, &mut one)?;
     let mut two = [0u8; 12];
-    show_heartbeat(0, 2, 1, 0, 1, 0, 5, &[13, 20], &mut two);
+    show_heartbeat(rt, 0, 2, 1, 0, 1, 0, 5, &[13, 20], &mut two)?;
     let mut three = [0u8; 14];
-    show_heartbeat(0, 40, 0, 0, 0, 0, 62, &[13, 20, 27, 34], &mut three);
+    show_heartbeat(rt, 0, 40, 0, 0, 0, 0, 62, &[13, 20, 27, 34], &mut three)?;
     let drive = drive_bytes();
     let mut most = [0u8; 262];
-    show_heartbeat(0, 63, 1, 0, 1, 1, 63, &drive, &mut most);
+    show_heartbeat(rt, 0, 63, 1, 0, 1, 1, 63, &drive, &mut most)
 }
 
-fn main() {
-    show_headers();
-    show_check(b"123456789");
-    show_heartbeats();
-    show_votes();
+fn main(rt: HostRuntime) -> io::Result<()> {
+    show_headers(rt)?;
+    show_check(rt, b"123456789")?;
+    show_heartbeats(rt)?;
+    show_votes(rt)
 }
