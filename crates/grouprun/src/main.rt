@@ -1,4 +1,6 @@
 // Prints the run of a table on a press that votes in every cycle.
+#![tactic(auto)]
+
 ghost use Rattle.std.specs.Prelude.{false};
 ghost use Rattle.print_program.specs.Run.{Does};
 
@@ -6,12 +8,12 @@ use print_options::Program;
 use print_program::Done;
 
 // The whole, in mode 0.
-fn run() -> Done
+fn run(rt: HostRuntime) -> Done
     ensures { Does false result }
 {
-    print_program::do_asked(Program::Group)
+    print_program::do_asked(rt, Program::Group)
 }
 
-fn main() {
-    run();
+fn main(rt: HostRuntime) {
+    run(rt);
 }

@@ -5,7 +5,7 @@ use mathlib.Core.List.{List, [], ◌∷◌, ◌++◌}
 use Prim.Native.Nat.{ℕ, ◌+◌, ◌-◌, ◌*◌, ◌≤◌}
 use native.Mathlib.Omega.{arith}
 use lib.Dec.{eqb}
-use lib.ListN.{length, take, drop, length-take, length-drop, length-append}
+use lib.ListN.{length, take, drop, length-drop, length-append}
 use lib.Seq.{length-take-le, take-add}
 use borrow.Author.Tests.{eqb-true, eqb-false}
 use Rattle.sets.proofs.Booleans.{or_f_l, or_f_r}
@@ -20,10 +20,6 @@ use Rattle.print_stream.specs.Stream.{Begins, Takes}
 use Rattle.print_stream.specs.Chunks.{Calls, begun}
 use Rattle.print_program.specs.declared.Run.{Run}
 use Rattle.print_program.specs.Run.{Ready, stands, kept_in, Goes, Along, has_ended, Ended, Prints}
-
--- what a read brings is within the window
-pub read_within : (mid : List ℕ) (kept more : ℕ) → kept ≤ length mid → more ≤ length (take (length mid - kept) (drop kept mid)) → kept + more ≤ length mid
-read_within mid kept more h l = omega (arith, length-take (length mid - kept) (drop kept mid))
 
 -- `input` is the window before the read, and `mid` after it
 module _ (z : Session) (g g' : Groups) (input mid : List ℕ) (kept more : ℕ) (out : List ℕ) (at : ℕ) (window' out' : List ℕ) (t : Taken) (stays : take kept mid ≡ take kept input)

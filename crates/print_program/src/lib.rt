@@ -1,15 +1,17 @@
 // A program over tables: reads one from standard input and prints its run, in the program's mode (read, call, write, and tell what failed); or answers its arguments.
 #![tactic(auto)]
 
-ghost use Rattle.std.specs.Prelude.{◌≡◌, ◌+◌, ◌*◌, ◌≤◌, ◌<◌, length, take};
+ghost use Rattle.std.specs.Prelude.{◌≡◌, ◌+◌, ◌*◌, ◌≤◌, ◌<◌, IfOk, length, take};
 ghost use Rattle.print_options.specs.Options.{is_quiet};
 ghost use Rattle.print_pieces.specs.Pieces.{held};
 ghost use Rattle.print_program.specs.Run.{Ready, Goes, has_ended, Ended, Prints, Does};
 
-use libc::{STDERR_FILENO, STDIN_FILENO, STDOUT_FILENO};
 use print_answers::Failed;
 use print_options::{Asked, Program};
 use print_stream::Taken;
+use std::env::{Env, FillError};
+use std::io;
+use std::io::{IsTerminal, Read, Write};
 
 // A run between two reads: what the last call left, how many reads there were, and whether the last read or the last write failed.
 #[derive(Clone, Copy)]
@@ -28,15 +30,17 @@ pub enum Done {
 }
 
 // Reads behind the bytes kept, which stay.
-fn read_on(input: &mut [u8], kept: usize) -> isize
+fn read_on(rt: HostRuntime, input: &mut [u8], kept: usize) -> io::Result<usize>
     requires { kept < length input.old }
-    ensures { take kept input.new ≡ take kept input.old }
+    ensures kept { take kept input.new ≡ take kept input.old }
+    ensures within { IfOk result (λ more. kept + more ≤ length input.new) }
 {
-    libc::read(STDIN_FILENO, &mut input[kept..])
+    rt.stdin().read(&mut input[kept..])
 }
 
 // One read, the call on what it brought, and the write of what that gave.
 fn next(
+    rt: HostRuntime,
     input: &mut [u8],
     out: &mut [u8],
     r: Run,
@@ -54,17 +58,15 @@ fn next(
     let session = before.session;
     let kept = before.kept;
     let at = before.at;
-    let got = read_on(input, kept);
-    if got < 0 {
-        let done = io::write_all(STDOUT_FILENO, &out[..at]);
+    let Ok(more) = read_on(rt, input, kept) else {
+        let done = rt.stdout().write_all(&out[..at]).is_ok();
         return Run {
             last: before,
             reads,
             unread: true,
             lost: !done,
         };
-    }
-    let more = io::count(got, &input[kept..]);
+    };
     let taken = print_stream::take(
         session,
         input,
@@ -78,7 +80,7 @@ fn next(
     );
     let after = taken.session;
     let end = taken.at;
-    let done = io::write_all(STDOUT_FILENO, &out[..end]);
+    let done = rt.stdout().write_all(&out[..end]).is_ok();
     Run {
         last: Taken {
             session: after,
@@ -110,6 +112,7 @@ fn has_ended(r: Run) -> bool
 
 // The whole print in a mode, in as many reads as it takes.
 fn print(
+    rt: HostRuntime,
     quiet: bool,
     input: &mut [u8],
     out: &mut [u8],
@@ -128,21 +131,21 @@ fn print(
     };
     let mut ended = has_ended(run);
     while !ended {
-        run = next(input, out, run, numbers, sets, bases);
+        run = next(rt, input, out, run, numbers, sets, bases);
         ended = has_ended(run);
     }
     run
 }
 
 // Says on standard error what failed: a program has no exit status.
-fn tell(p: Program, f: Failed) {
+fn tell(rt: HostRuntime, p: Program, f: Failed) {
     let mut text = [0u8; 64];
     let end = print_answers::put_failure(&mut text, 0, p, f);
-    io::write_all(STDERR_FILENO, &text[..end]);
+    let _ = rt.stderr().write_all(&text[..end]);
 }
 
 // The run of a table that comes on standard input.
-fn print_table(p: Program) -> Run
+fn print_table(rt: HostRuntime, p: Program) -> Run
     ensures { Prints (is_quiet p) result }
 {
     let mut input = [0u8; 32768];
@@ -152,6 +155,7 @@ fn print_table(p: Program) -> Run
     let mut bases = [0u64; 64];
     let quiet = print_options::is_quiet(p);
     let run = print(
+        rt,
         quiet,
         &mut input,
         &mut out,
@@ -160,45 +164,55 @@ fn print_table(p: Program) -> Run
         &mut bases,
     );
     if run.unread {
-        tell(p, Failed::Read);
+        tell(rt, p, Failed::Read);
     }
     if run.lost {
-        tell(p, Failed::Write);
+        tell(rt, p, Failed::Write);
     }
     run
 }
 
+// How many arguments there are, the program's name among them.
+fn count_arguments(rt: HostRuntime) -> usize {
+    for i in 0..usize::MAX {
+        if let Err(FillError::NotPresent) = rt.arg(i, &mut []) {
+            return i;
+        }
+    }
+    usize::MAX
+}
+
 // What the arguments ask for. One that is longer than its room comes as empty, which asks for the same.
-fn read_arguments() -> Asked {
+fn read_arguments(rt: HostRuntime) -> Asked {
     let mut first = print_options::argument_room();
-    let length = os::arg(1, &mut first);
-    print_options::asked_by(os::arg_count(), &first[..length])
+    let length = rt.arg(1, &mut first).unwrap_or(0);
+    print_options::asked_by(count_arguments(rt), &first[..length])
 }
 
 // Writes the answer, and says whether all of it was written.
-fn answer(p: Program, asked: Asked) -> bool {
+fn answer(rt: HostRuntime, p: Program, asked: Asked) -> bool {
     let mut text = [0u8; 1024];
     let end = print_answers::put_answer(&mut text, 0, p, asked);
     if print_options::goes_aside(asked) {
-        io::write_all(STDERR_FILENO, &text[..end])
+        rt.stderr().write_all(&text[..end]).is_ok()
     } else {
-        io::write_all(STDOUT_FILENO, &text[..end])
+        rt.stdout().write_all(&text[..end]).is_ok()
     }
 }
 
 // The whole of a program: what its arguments ask for.
-pub fn do_asked(p: Program) -> Done
+pub fn do_asked(rt: HostRuntime, p: Program) -> Done
     ensures { Does (is_quiet p) result }
 {
-    let asked = read_arguments();
+    let asked = read_arguments(rt);
     if let Asked::Run = asked {
-        if libc::isatty(STDIN_FILENO) == 1 {
-            answer(p, asked);
+        if rt.stdin().is_terminal() {
+            answer(rt, p, asked);
         }
-        Done::Printed(print_table(p))
+        Done::Printed(print_table(rt, p))
     } else {
-        if !answer(p, asked) {
-            tell(p, Failed::Write);
+        if !answer(rt, p, asked) {
+            tell(rt, p, Failed::Write);
         }
         Done::Answered
     }

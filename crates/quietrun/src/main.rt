@@ -1,4 +1,6 @@
 // Prints the run of a table on a quiet press, in which votes rest while nothing happens.
+#![tactic(auto)]
+
 ghost use Rattle.std.specs.Prelude.{true};
 ghost use Rattle.print_program.specs.Run.{Does};
 
@@ -6,12 +8,12 @@ use print_options::Program;
 use print_program::Done;
 
 // The whole, in mode 1.
-fn run() -> Done
+fn run(rt: HostRuntime) -> Done
     ensures { Does true result }
 {
-    print_program::do_asked(Program::Quiet)
+    print_program::do_asked(rt, Program::Quiet)
 }
 
-fn main() {
-    run();
+fn main(rt: HostRuntime) {
+    run(rt);
 }

@@ -1,20 +1,8 @@
-use mathlib.Core.Path.{◌≡◌, refl, sym, ◌∙◌}
-use mathlib.Core.Bool.{false}
-use Prim.Native.Nat.{◌-◌, ◌≤◌}
+use mathlib.Core.Path.{refl, sym, ◌∙◌}
 use native.Mathlib.Omega.{arith}
-use lib.ListN.{length}
-use Rattle.sets.proofs.Booleans.{not-e, not_f}
-use Rattle.print_pieces.specs.Pieces.{held}
 use Rattle.print_stream.proofs.Chunks.{chunks_print, failed_prints}
-use Rattle.print_program.specs.Run.{Ready, Along, has_ended}
 use Rattle.print_program.proofs.Calling.{begins-along, begins-ready, going, goes-along}
 use Rattle.print_program.proofs.print.Goals as goal
-
-pub begin-requires : goal.begin-requires
-begin-requires c = omega arith
-
-pub has_ended-ended-requires : goal.has_ended-ended-requires
-has_ended-ended-requires c = tt
 
 pub loop-ended-init : goal.loop-ended-init
 loop-ended-init c =
@@ -30,35 +18,26 @@ loop-ended-init c =
 pub next-run-requires : goal.next-run-requires
 next-run-requires c =
     let l = c.loop-ended in
-    let on = going l.run (sym l.invariant.4 ∙ not-e l.ended c.loop-ended-test.true) in record { ready = l.invariant.1 on.0; reads_bound = omega (arith, l.invariant.5, on.1) }
-
-pub has_ended-ended-requires-in-loop-ended : goal.has_ended-ended-requires-in-loop-ended
-has_ended-ended-requires-in-loop-ended c = tt
+    let on = going l.run (sym l.invariant.4 ∙ c.loop-ended-test.true) in record { ready = l.invariant.1 on.0; reads_bound = omega (arith, l.invariant.5, on.1) }
 
 pub loop-ended-smaller : goal.loop-ended-smaller
 loop-ended-smaller c =
     let l = c.loop-ended in
-    let on = going l.run (sym l.invariant.4 ∙ not-e l.ended c.loop-ended-test.true) in
+    let on = going l.run (sym l.invariant.4 ∙ c.loop-ended-test.true) in
     omega (arith, l.invariant.5, on.1, c.next-run.ensures.reads_value)
 
 pub loop-ended-preserved : goal.loop-ended-preserved
 loop-ended-preserved c =
     let l = c.loop-ended in
     let n = c.next-run in
-    let on = going l.run (sym l.invariant.4 ∙ not-e l.ended c.loop-ended-test.true) in (
+    let on = going l.run (sym l.invariant.4 ∙ c.loop-ended-test.true) in (
       goes-along _ l.run _ l.input n.result _ _ _ n.ensures.goes l.invariant.0 on.0 on.2 n.ensures.reads_value,
       (λ o. n.ensures.goes.ready o),
-      omega (arith, l.invariant.2, c.input-1),
-      omega (arith, l.invariant.3, c.out-in-loop-ended-1),
+      omega (arith, l.invariant.2, c.next-run.auto.input),
+      omega (arith, l.invariant.3, c.next-run.auto.out),
       c.has_ended-ended-in-loop-ended.ensures,
       omega (arith, l.invariant.5, on.1, n.ensures.reads_value),
     )
-
-pub shape_of-input : goal.shape_of-input
-shape_of-input c = c.loop-ended.invariant.2
-
-pub shape_of-out : goal.shape_of-out
-shape_of-out c = omega (arith, c.loop-ended.invariant.3, c.out-1)
 
 pub returns : goal.returns
 returns c =
@@ -66,7 +45,7 @@ returns c =
     let a = l.invariant.0 in
     record {
       along = a;
-      ended = sym l.invariant.4 ∙ not_f l.ended c.loop-ended-test.false;
+      ended = sym l.invariant.4 ∙ c.loop-ended-test.false;
       all = λ o. chunks_print _ a.out a.out' a.first a.founded a.chunks a.text a.begins (a.over o);
       cut = λ o. failed_prints _ a.out a.out' a.first a.founded a.chunks _ _ a.text a.begins (a.goes o);
     }

@@ -1,14 +1,10 @@
 -- `print_program::print` meets its contract. The loop's invariant: what the run has come to, and that the next read may be made. Assumes nothing.
-use mathlib.Core.Path.{◌≡◌, refl, sym, ◌∙◌}
+use mathlib.Core.Path.{◌≡◌}
 use mathlib.Core.Bool.{false}
 use Prim.Native.Nat.{◌-◌, ◌≤◌}
-use native.Mathlib.Omega.{arith}
 use lib.ListN.{length}
-use Rattle.sets.proofs.Booleans.{not-e, not_f}
 use Rattle.print_pieces.specs.Pieces.{held}
-use Rattle.print_stream.proofs.Chunks.{chunks_print, failed_prints}
 use Rattle.print_program.specs.Run.{Ready, Along, has_ended}
-use Rattle.print_program.proofs.Calling.{begins-along, begins-ready, going, goes-along}
 use Rattle.print_program.proofs.print.Given as goal
 
 abbrev pub invariant-loop-ended : goal.invariant-loop-ended
