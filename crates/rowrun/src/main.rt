@@ -5,9 +5,10 @@ ghost use Rattle.std.specs.Prelude.{◌≡◌, ◌++◌, ◌+◌, ◌≤◌, ◌
 ghost use Rattle.bus_units.specs.Run.{frames_length};
 ghost use Rattle.row_calls.specs.Calls.{call_status, call_left};
 
-use libc::{STDIN_FILENO, STDOUT_FILENO};
 use row_calls::Task;
 use state::{Group, Node, Reason, State};
+use std::io;
+use std::io::Read;
 
 // Before the bytes of a call stand its task, N, the mode, how many entries of the row are lent, and the length in two bytes.
 const HEAD: usize = 6;
@@ -38,60 +39,49 @@ fn lend(task: Task, n: u32, mode: u32, mut row: [Node; 9], k: usize, bytes: &[u8
     Called { status, row }
 }
 
-fn words(text: &[u8]) {
-    io::write_all(STDOUT_FILENO, text);
+fn words(rt: HostRuntime, text: &str) -> io::Result<()> {
+    rt.print(text)
 }
 
-fn show_reason(r: Reason) {
+fn show_reason(rt: HostRuntime, r: Reason) -> io::Result<()> {
     match r {
-        Reason::Stopped => words(b" out, stopped\n"),
-        Reason::NoQuorum => words(b" out, no quorum\n"),
-        Reason::Outvoted => words(b" out, outvoted\n"),
+        Reason::Stopped => words(rt, " out, stopped\n"),
+        Reason::NoQuorum => words(rt, " out, no quorum\n"),
+        Reason::Outvoted => words(rt, " out, outvoted\n"),
     }
 }
 
 // A group, and whether its member requests.
-fn show_group(g: Group, requests: bool) {
-    words(b" member ");
-    io::print_decimal(STDOUT_FILENO, g.number as u64);
-    words(b" ");
-    io::print_hex(STDOUT_FILENO, g.set, 16);
-    words(b" ");
-    io::print_hex(STDOUT_FILENO, g.base, 16);
+fn show_group(rt: HostRuntime, g: Group, requests: bool) -> io::Result<()> {
+    print!(rt; " member {} {:016x} {:016x}", g.number, g.set, g.base)?;
     if requests {
-        words(b" requests");
+        words(rt, " requests")?;
     }
-    words(b"\n");
+    words(rt, "\n")
 }
 
 // A unit's number, N and state, on a line.
-fn show_node(x: Node) {
-    io::print_decimal(STDOUT_FILENO, x.id as u64);
-    words(b" of ");
-    io::print_decimal(STDOUT_FILENO, x.nodes as u64);
-    let s = x.state;
-    match s {
-        State::Out(r) => show_reason(r),
-        State::Joining => words(b" joining\n"),
-        State::Member(g, a) => show_group(g, a),
+fn show_node(rt: HostRuntime, x: Node) -> io::Result<()> {
+    print!(rt; "{} of {}", x.id, x.nodes)?;
+    match x.state {
+        State::Out(r) => show_reason(rt, r),
+        State::Joining => words(rt, " joining\n"),
+        State::Member(g, a) => show_group(rt, g, a),
     }
 }
 
-fn show_status(status: u32) {
-    words(b"status ");
-    io::print_decimal(STDOUT_FILENO, status as u64);
-    words(b"\n");
+fn show_status(rt: HostRuntime, status: u32) -> io::Result<()> {
+    println!(rt; "status {status}")
 }
 
 // The first k entries.
-fn show_row(row: [Node; 9], k: usize)
+fn show_row(rt: HostRuntime, row: [Node; 9], k: usize) -> io::Result<()>
     requires { k ≤ 9 }
 {
-    let mut q: usize = 0;
-    while q < k {
-        show_node(row[q]);
-        q += 1;
+    for x in &row[..k] {
+        show_node(rt, *x)?;
     }
+    Ok(())
 }
 
 fn task_of(code: u8) -> Task {
@@ -139,7 +129,7 @@ fn head_at(input: &[u8], at: usize) -> Head
 }
 
 // Every whole call in turn, each on the row that the one before left.
-fn calls(input: &[u8], end: usize)
+fn calls(rt: HostRuntime, input: &[u8], end: usize) -> io::Result<()>
     requires { end ≤ length input.now }
 {
     let mut row = [nobody(); 9];
@@ -150,7 +140,7 @@ fn calls(input: &[u8], end: usize)
         let len = head.length as usize;
         let task = head.task;
         if end - from < len {
-            return;
+            return Ok(());
         }
         at = from + len;
         let called = lend(
@@ -162,13 +152,29 @@ fn calls(input: &[u8], end: usize)
             &input[from..at],
         );
         row = called.row;
-        show_status(called.status);
-        show_row(row, head.entries);
+        show_status(rt, called.status)?;
+        show_row(rt, row, head.entries)?;
     }
+    Ok(())
 }
 
-fn main() {
-    let mut input = io::buffer();
-    let end = io::read_full(STDIN_FILENO, &mut input);
-    calls(&input, end);
+// Reads until the buffer is full, the input ends or a read fails, and returns how many bytes it put at the start.
+fn read_full(rt: HostRuntime, input: &mut [u8]) -> usize
+    ensures { result ≤ length input.new }
+{
+    let mut end = 0;
+    while end < input.len() {
+        let more = rt.stdin().read(&mut input[end..]).unwrap_or(0);
+        if more == 0 {
+            break;
+        }
+        end += more;
+    }
+    end
+}
+
+fn main(rt: HostRuntime) -> io::Result<()> {
+    let mut input = [0u8; 4096];
+    let end = read_full(rt, &mut input);
+    calls(rt, &input, end)
 }
