@@ -28,9 +28,7 @@ use Rattle.rules.specs.Reference.{Cluster, step, after}
 use Rattle.rules.proofs.Rows.{get-tabulate, length-tabulate}
 use Rattle.rules.proofs.Votes.{has_view, in_voters, base_is, new_inside, new_in}
 use Rattle.rules.proofs.States.{none-some, some_inj}
-
-abbrev pub FormedRow : Config → Row → Type 0
-FormedRow C row = (q : ℕ) → q < C.nodes → formed_state C.quiet q C.nodes (at row q) ≡ true
+pub use Rattle.theorem_formed.proofs.Rows.{FormedRow}
 
 -- ---- the test of a state, as laws of the group that it holds
 
