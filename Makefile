@@ -17,11 +17,8 @@ SHELL = bash
 .SHELLFLAGS = -euo pipefail -c
 .DEFAULT_GOAL = help
 
-SOURCES = crates.txt $(shell find crates -name '*.rt' -o -name '*.antt')
-ENTRIES = $(notdir $(wildcard crates/entry_*))
-
-# so many crates and edits at a time, each up to 1 GB: more than there are cores, so that none of these waits for the slowest of a few
-export RT_JOBS ?= 8
+# what is made by the kit, in a crate's out/, is no source
+SOURCES = crates.txt $(shell find crates -name out -prune -o \( -name '*.rt' -o -name '*.antt' \) -print)
 
 # what `make install` places, and where below PREFIX; of the documents those that the header and the manual pages send a reader to, and what these link to
 PROGRAMS = $(GROUPRUN) $(QUIETRUN) $(TABLETEXT)
@@ -66,24 +63,22 @@ run: $(GROUPRUN) $(TABLETEXT)
 	@echo "make run: this is the run of examples/p1.txt, line by line the paper's; a text of your own:" \
 	    "$(TABLETEXT) table <my.txt >my.tab && $(GROUPRUN) <my.tab" >&2
 
-# what `make test` runs: before the gate what needs no archive, then, beside the edits of the gate, the archive and the programs, last what takes longest
+# what `make test` runs after the gate: what needs no archive, then what the archive and the programs are tested by, last what takes longest
 FIRST_TESTS = format trace-test commands-test
 BUILT_TESTS = archive-test series-test heartbeats-test quiet-test host run examples-test vectors-test badinput-test text-test arguments-test install-test
 LONG_TESTS = compare-test load-test
 # whether make was given an option of one letter
 option = $(findstring $1,$(filter-out -%,$(firstword $(MAKEFLAGS))))
 
-# the gate: everything proved from nothing, every wrong edit tried, and all tests beside that; the last line is 'N passed, 0 failed'
+# the gate, `rt ci` (everything proved, every wrong edit tried, every program run), and then all tests; the last line is 'N passed, 0 failed'
 test:
 	@$(if $(call option,i),$(error make test ends with the first test that fails: run it without -i))\
-	    $(call needs,rt cargo gcc g++ git script)echo "make test: 20 to 35 minutes on two idle cores" >&2
-	@tools/evidence.sh begin
-	@$(MAKE) --no-print-directory --silent -j2 --output-sync $(FIRST_TESTS)
-	@tools/gate.sh "20 to 35 minutes on two idle cores" make --no-print-directory tests
+	    $(call needs,rt cargo gcc g++ git script).ci/run
 
-# those tests of `test` that need the archive and the programs, built first where they are not there
+# those tests of `test` that come after its gate; archive and programs are built first where they are not there
 tests:
-	@$(MAKE) --no-print-directory --silent archive
+	@$(MAKE) --no-print-directory --silent -j2 --output-sync $(FIRST_TESTS)
+	@$(MAKE) --no-print-directory --silent archive $(PROGRAMS)
 	@$(MAKE) --no-print-directory -j2 --output-sync $(BUILT_TESTS)
 	@$(MAKE) --no-print-directory -j2 --output-sync $(LONG_TESTS) | $(if $(call option,n),cat,tee log/compared.log)
 	@tools/evidence.sh passed "$(FIRST_TESTS) $(BUILT_TESTS) $(LONG_TESTS)" $(ARCHIVE) $(HEADERS) $(PROGRAMS)
@@ -103,10 +98,9 @@ host: archive
 # prove the library, and build the archive that a host links with include/gm.h
 archive: $(ARCHIVE)
 
-# what gm rests on is proved side by side first: `rt staticlib` alone takes one crate after the other
 $(ARCHIVE): $(SOURCES)
-	@$(call needs,rt)tools/kit.sh archive "up to 5 minutes on two cores" check $(ENTRIES) grouprun quietrun
-	@tools/kit.sh staticlib "less than a minute" staticlib gm
+	@$(call needs,rt)tools/kit.sh archive "up to 30 minutes on two cores" crates/gm_c rt lib
+	@install -D -m 644 crates/gm_c/out/libgm_c.a $@
 
 # header and archive agree
 archive-test: archive
@@ -131,8 +125,9 @@ quiet-test: archive
 	@$(BUILD)/quiet $(addprefix tests/vectors/t03/,decide.txt cycle.txt heartbeat.txt)
 
 # the programs that print the run of a table, of a press that votes in every cycle and of a quiet one
-$(GROUPRUN) $(QUIETRUN): $(SOURCES)
-	@$(call needs,rt)tools/kit.sh run "up to 3 minutes on two cores" check $(notdir $@)
+$(GROUPRUN) $(QUIETRUN): target/bin/%: $(SOURCES)
+	@$(call needs,rt)tools/kit.sh $* "up to 40 minutes on two cores" crates/$* rt run >/dev/null </dev/null
+	@install -D -m 755 -t $(@D) crates/$*/out/$*
 
 # tables as readable text, and back
 $(TABLETEXT): tools/tabletext.c include/gm.h
@@ -219,9 +214,10 @@ bench: archive $(GROUPRUN) $(QUIETRUN) $(PLAIN) $(PLAINLIB) $(TABLEGEN) $(MEASUR
 stack: archive
 	@tests/stack.sh $(ARCHIVE) $(BUILD) -v
 
-# every file stands in the layout that `rt fmt` gives
+# lays out every file by `rt fmt`, and fails if one was not so already, as the gate does
 format:
-	@$(call needs,rt)rt fmt --check
+	@$(call needs,rt)said=$$(for crate in crates/*/; do (cd $$crate && rt fmt) | sed -n "s|^rt: formatted |$$crate|p" || exit 1; done); \
+	    [ -z "$$said" ] || { printf 'these files were not in the layout, and now are:\n%s\n' "$$said" >&2; exit 1; }
 
 # docs/TRACE.html, TRACE for a browser: every name is a link to its file and line
 trace:
@@ -234,8 +230,7 @@ trace-test: trace
 	@tests/lists.sh
 	@tests/demands.sh
 
-# It reads the logs that `make test` or `rt must-fail` left and proves nothing; no part of `test`, whose last command is `rt ci`: that makes these logs, and its last
-# line is the gate's.
+# It reads what the gate said and proves nothing; no part of `test`: the gate asks that each edit is refused, and this where.
 # after `make test`: each wrong edit was refused first by the law or contract that it names
 edits:
 	@tests/edits.sh

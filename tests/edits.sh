@@ -1,57 +1,98 @@
 #!/usr/bin/env bash
 # Whether every must-fail edit was refused for the reason that it names. Each has one line `refused by: NAME`, the name in a form of docs/TRACE.md: a law or theorem
-# (`CRATE/proofs/FILE.antt: NAME`) or a contract (`CRATE::FUNCTION`); where a line `also refused by:` names a law, that refused it too. Read are the logs that a gate run or `rt must-fail` left in target/must-fail; nothing is proved.
-# Usage: edits.sh
+# (`CRATE/proofs/FILE.antt: NAME`) or a contract (`CRATE::FUNCTION`). Read is what the gate said of each, its first error, and nothing is proved for it. Where an edit has
+# a line `also refused by:`, that law is false under it too: of that the gate says nothing, so these edits are checked once more, in a copy of their crate.
+# Usage: edits.sh [LOG], by default log/gate.log, what `rt ci` or `rt must-fail` said
 set -euo pipefail
 cd "$(dirname "$0")/.."
-logs=target/must-fail
-edits=0 wrong=0
+log=${1:-log/gate.log}
+edits=0 again=0 wrong=0
 complain() { echo "tests/edits: $*" >&2; wrong=$((wrong + 1)); }
-[ -d "$logs" ] || { complain "no $logs: run the gate first"; exit 1; }
+[ -f "$log" ] || { complain "no $log: run the gate first"; exit 1; }
+copy=$(mktemp -d)
+trap 'rm -rf "$copy"' EXIT
 
-# Where the first refusal of a log is, and what it says in its first two lines, divided by a tab. One that only follows from another is passed over. In the proof of a
-# function the needs that say what it ensures, and what its loop keeps, are its contract; a function whose proof `search` was to make has a line of its own.
-first_refusal() { # CRATE LABEL
-    awk -v crate="$1" -v folder="/$logs/$1/$2/" '
-        function contract(need) { return need ~ /^(returns|loop-holds|loop-again)(-[0-9]+)?$/ }
-        function quoted(text) { return match(text, /`[^`]+`/) ? substr(text, RSTART + 1, RLENGTH - 2) : "no name" }
-        said != "" { said = said " " $0; exit }
-        /: error: / && !/ so this cannot be checked$/ {
-            said = substr($0, index($0, ": error: ") + 9)
-            file = substr($0, index($0, folder) + length(folder))
-            sub(/:[0-9]+:[0-9]+: error: .*/, "", file)
-            at = crate "/" file ": " quoted(said)
-            if (file ~ /^proofs\/.*\/Proof\.antt$/ && contract(quoted(said))) at = crate "::" substr(file, 8, length(file) - 18)
-        }
-        /^fn [^ ]+: no proof: / && searched == "" {
-            searched = substr($2, 1, length($2) - 1)
-            need = quoted(substr($0, index($0, "does not close ")))
-            if (!contract(need)) searched = searched ", at " need
-        }
-        END { print (said != "" ? at : searched != "" ? searched : "nothing") "\t" said }' "$logs/$1/$2/.log"
+# the function that has the line of a source file
+function_at() { # FILE LINE
+    awk -v last="$2" 'FNR > last { exit } match($0, /fn [a-z_0-9]+/) { name = substr($0, RSTART + 3, RLENGTH - 3) } END { print name }' "$1"
+}
+# the goals that say what a function ensures, and what its loop keeps, are its contract
+contract='^(returns(-.*)?|loop-.*-(init|preserved))$'
+# where the first error is that the gate tells, by the name of a law or contract if it is one
+place() { # CRATE ERROR
+    local file line name='no name'
+    [[ $2 =~ (note:\ )?(\./)?([^ :]+):([0-9]+):[0-9]+:\ (error:\ )?(.*) ]] || { echo nothing; return; }
+    file=${BASH_REMATCH[3]} line=${BASH_REMATCH[4]}
+    [[ ! ${BASH_REMATCH[6]} =~ \`([^\`]+)\` ]] || name=${BASH_REMATCH[1]}
+    if [[ $name =~ $contract && $file == proofs/*/*.antt ]]; then
+        file=${file#proofs/}
+        echo "$1::${file%/*}"
+    elif [[ $file == src/* && $name =~ $contract ]]; then
+        echo "$1::$(function_at "crates/$1/$file" "$line")"
+    else
+        echo "$1/$file: $name"
+    fi
 }
 
-# what the first refusal says where the edit only made the proof unfit: a name or a step that is gone, another shape of code that is walked by hand, a limit reached
-unfit='has no (field )?`|has `\(*(mir\.(Syntax|MapTy|Table)|prog)\.|step limit'
+# what the first error says where the edit only made the proof unfit: a name that is gone, or a limit reached
+unfit='has no (field )?`|is not in scope|step limit|only because a proof file names|only by a limit'
 
-# whether a law named by `also refused by:` is false under the edit too, and not only out of reach
-refuses_too() { # CRATE LABEL LAW
+# the crate and those that it rests on, with their sources as they stand
+copied() { # CRATE
+    local name
+    awk -v wanted="$1" '
+        /^[^#]/ { line[++n] = $0; split($0, half, ":"); split(half[1], word, " "); rests[word[1]] = half[2]; of[n] = word[1] }
+        function need(crate,  i, k, name) {
+            if (!(crate in rests) || crate in needed) return
+            needed[crate] = 1
+            k = split(rests[crate], name, " ")
+            for (i = 1; i <= k; i++) need(name[i])
+        }
+        END { need(wanted); for (i = 1; i <= n; i++) if (of[i] in needed) print line[i] }' crates.txt >"$copy/crates.txt"
+    mkdir -p "$copy/.git" "$copy/crates"
+    while IFS=': ' read -r name _; do
+        [ -d "$copy/crates/$name" ] || { mkdir "$copy/crates/$name" && cp -r "crates/$name/"{src,specs,proofs} "$copy/crates/$name"; }
+    done <"$copy/crates.txt"
+}
+# makes the edit in the copy
+edited() { # CRATE EDIT
+    local line file='' old='' text
+    while IFS= read -r line; do
+        case $line in
+        'file: '*) file=$copy/crates/$1/${line#file: } ;;
+        'old: '*) old=${line#old: } ;;
+        'new:'*)
+            line=${line#new:}
+            text=$(<"$file")
+            printf '%s\n' "${text/"$old"/"${line# }"}" >"$file"
+            ;;
+        esac
+    done <"$2"
+}
+# whether a law is false under the edit too, and not only out of reach
+refuses_too() { # CRATE EDIT LAW
     local file=${3%%: *} name=${3#*: }
-    grep -aE "/$2/${file#"$1/"}:[0-9]+:[0-9]+: error: \`$name\`" "$logs/$1/$2/.log" | grep -vq 'so this cannot be checked$'
+    copied "$1"
+    edited "$1" "$2"
+    (cd "$copy/crates/$1" && rt check || true) >"$copy/said" 2>&1
+    rm -r "$copy/crates/$1/"{src,specs,proofs}
+    cp -r "crates/$1/"{src,specs,proofs} "$copy/crates/$1"
+    again=$((again + 1))
+    grep -qaE "${file#"$1/"}:[0-9]+:[0-9]+: error: \`$name\`: " "$copy/said"
 }
 
 for edit in crates/*/must-fail/*.edit; do
     IFS=/ read -r _ crate _ label <<<"${edit%.edit}"
-    edits=$((edits + 1)) log=$logs/$crate/$label/.log
-    [ -f "$log" ] || { complain "$crate/$label has no log: run the gate, or rt must-fail $crate"; continue; }
-    [ "$log" -nt "$edit" ] || complain "$crate/$label is newer than its log"
-    IFS=$'\t' read -r at said < <(first_refusal "$crate" "$label")
+    edits=$((edits + 1))
+    said=$(grep -aF "must-fail $crate/$label.edit: " "$log" | tail -n 1) || { complain "$log says nothing of $crate/$label: run the gate"; continue; }
+    [[ $said == *': refused, as it must be'* ]] || { complain "$crate/$label was not refused: ${said:0:200}"; continue; }
+    at=$(place "$crate" "${said#*: refused, as it must be: }")
     named=$(sed -n 's/^refused by: //p' "$edit")
     [ -n "$named" ] || { complain "$crate/$label does not name what refuses it; first did $at"; continue; }
     [ "$at" = "$named" ] || { complain "$crate/$label is refused by $at first, and not by $named"; continue; }
+    [[ $at != "$crate/specs/"* && ! $said =~ $unfit ]] || complain "$crate/$label only made a definition or its proof unfit: ${said:0:300}"
     also=$(sed -n 's/^also refused by: //p' "$edit")
-    [ -z "$also" ] || refuses_too "$crate" "$label" "$also" || complain "$crate/$label is not refused by $also"
-    [[ $at != "$crate/specs/"* && ! $said =~ $unfit ]] || complain "$crate/$label only made a definition or its proof unfit: $at: ${said:0:120}"
+    [ -z "$also" ] || [ -n "${NOALSO-}" ] || refuses_too "$crate" "$edit" "$also" || complain "$crate/$label is not refused by $also"
 done
 [ "$wrong" -eq 0 ] || exit 1
-echo "tests/edits: $edits edits, each refused by what it names"
+echo "tests/edits: $edits edits, each refused by what it names; $again of them checked again, for what refuses them too"

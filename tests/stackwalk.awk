@@ -121,7 +121,7 @@ function taken(i,    op, text, plain) {
     gsub(/\([^)]*\)/, "", plain)
     if (op == "mov")
         sub(/^%rsp,/, "", plain)
-    if (plain ~ /%(rsp|esp|spl|sp)(,|$)/ || op ~ /^(push|pop|enter|leave|iret|lret|lcall|ljmp|loop|int|sys|x(begin|abort|end))/)
+    if (plain ~ /%(rsp|esp|spl|sp)(,|$)/ || op !~ /^popcnt/ && op ~ /^(push|pop|enter|leave|iret|lret|lcall|ljmp|loop|int|sys|x(begin|abort|end))/)
         fail_at(i, "what it does to the stack pointer is not known")
     if (op ~ /[^a-z0-9]|^addr32$/ || text ~ / /)
         fail_at(i, "this is not understood")
@@ -163,19 +163,32 @@ function leaves(i,    other) {
     return i in linked || other != "" && other != owner[i]
 }
 
+# the instruction that gives a jump its register, before what only loads other registers
+function jump_made(i, to,    at, other) {
+    for (at = i - 1; opcode[at] == "mov"; at--) {
+        other = operands[at]
+        sub(/^.*,/, "", other)
+        if (other !~ REGISTER || other == to)
+            return at
+    }
+    return at
+}
+
 # a jump to what is found in a table of distances from its own beginning, by these four instructions and no others: every place of the table is reached
-function jump_by_table(f, i,    base, to, file, start, at, target) {
-    base = operands[i - 3]
-    sub(/^.*,/, "", base)
+function jump_by_table(f, i,    base, to, made, lea, file, start, at, target) {
     to = substr(operands[i], 2)
-    if (opcode[i - 3] != "lea" || !(i - 3 in linked) || opcode[i - 2] != "movslq" || operands[i - 2] !~ "^[(]" base ",%r[a-z0-9]+,4[)]," to "$" ||
-        opcode[i - 1] != "add" || operands[i - 1] != base "," to || base == to)
+    made = jump_made(i, to)
+    lea = made - 2
+    base = operands[lea]
+    sub(/^.*,/, "", base)
+    if (opcode[lea] != "lea" || !(lea in linked) || opcode[lea + 1] != "movslq" || operands[lea + 1] !~ "^[(]" base ",%r[a-z0-9]+,4[)]," to "$" ||
+        opcode[made] != "add" || operands[made] != base "," to || base == to)
         fail_at(i, "where it leads is not known")
     file = substr(where[f], 1, index(where[f], SUBSEP) - 1)
-    start = offset_of(linked[i - 3])
-    tables[i] = f
-    for (at = start; (file, symbol_of(linked[i - 3]), at) in put && (at == start || !((file, symbol_of(linked[i - 3]), at) in begun)); at += 4) {
-        target = put[file, symbol_of(linked[i - 3]), at]
+    start = offset_of(linked[lea])
+    tables[i] = lea
+    for (at = start; (file, symbol_of(linked[lea]), at) in put && (at == start || !((file, symbol_of(linked[lea]), at) in begun)); at += 4) {
+        target = put[file, symbol_of(linked[lea]), at]
         if (file SUBSEP symbol_of(target) != where[f])
             fail_at(i, "its table leads out of the function")
         reach(f, place[f, distance(target) - (at - start)], depth[i])
@@ -187,8 +200,8 @@ function jump_by_table(f, i,    base, to, file, start, at, target) {
 # a way that comes into the middle of such a jump would bring another table
 function refuse_entered(    i, k) {
     for (i in tables)
-        for (k = 0; k < 3; k++)
-            if (i - k in landed)
+        for (k = tables[i] + 1; k <= i; k++)
+            if (k in landed)
                 fail_at(i, "where it leads is not known")
 }
 

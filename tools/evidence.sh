@@ -20,11 +20,12 @@ state() {
     echo "commit: $(git rev-parse HEAD 2>/dev/null || echo none)"
     if [ -z "$(git status --porcelain 2>&1)" ]; then echo "tree: as committed"; else echo "tree: changed"; fi
 }
+# nothing is taken away before the gate: a log that is older than this is of an earlier run
 begin() {
     mkdir -p log
-    rm -f "$tested" "$gate" "$compared"
     state >"$begun"
 }
+of_this_run() { [ "$1" -nt "$begun" ]; } # LOG
 # the sums of the files that were tested
 passed() { # "TEST..." FILE...
     { echo "tests passed: $(wc -w <<<"$1"), $1"; sha256sum "${@:2}"; } >"$tested"
@@ -38,14 +39,14 @@ one_state() {
     [[ $now != *'commit: none'* && $now == *'tree: as committed' ]] || lacks "the files here are not those of a commit"
     [ ! -f "$begun" ] || [ "$now" = "$(<"$begun")" ] || lacks "the last make test was of another state: $(paste -s -d ' ' "$begun")"
 }
-# the last make test came to its gate
-came_to_gate() {
+# the last make test came to its end
+came_to_end() {
     if [ ! -f "$begun" ]; then
         lacks "make test was not run: run make test first"
-    elif [ ! -f "$tested" ] || [ ! -f "$gate" ]; then
-        lacks "the last make test did not come to its gate: run make test again"
+    elif ! of_this_run "$tested" || ! of_this_run "$gate"; then
+        lacks "the last make test did not come to its end: run make test again"
     fi
-    [ -f "$tested" ] && [ -f "$gate" ]
+    of_this_run "$tested" && of_this_run "$gate"
 }
 
 # in the form that sha256sum -c reads
@@ -68,25 +69,34 @@ gate() {
     [ "$last" = "$((crates + edits)) passed, 0 failed" ] || lacks "$crates crates and $edits edits were to pass, and the gate says: $last"
     echo "crates proved: $proofs"
     [ "${proofs%%,*}" = "$crates of $crates" ] || lacks "not every crate is proved with no more trusted than the kit and the crates that it rests on"
-    [ "$(grep '^axioms' <<<"$proofs" | sort)" = "$assumed" ] || lacks "the axioms are not those that docs/SAFETY.md names"
+    named_axioms <<<"$proofs" || lacks "the axioms are not those that docs/SAFETY.md names"
     echo "edits refused: $refused of $edits"
     [ "$refused" = "$edits" ] || lacks "not every edit was refused"
     tests/edits.sh 2>&1 || lacks "not every edit was refused by what it names"
 }
 
-# of each crate by the line on its proof, which comes before the line that names the crate
+# of each crate that this run proved, by the line on its proof, which comes before the line that names the crate; and of each that an earlier run on this machine
+# proved, of the same files, which the kit takes by their checksums
 proofs() { # CRATES
     awk -v crates="$1" '
-        /^axioms / { sub(/^axioms [^ ]+/, ""); sub(/ \(.*/, ""); gsub(/,/, ""); names = names $0 }
+        /^axioms / && !/: none reached/ { sub(/^axioms /, ""); sub(/ \(.*/, ""); names = names (names == "" ? "" : "; ") $0 }
         /^logic=/ { logic = $0 }
-        logic ~ /^logic=proved / && logic !~ /foreign=|pinned=no|cache=trusted|incremental=trusted/ && /^rt: [^ ]+ proved \(/ {
+        logic ~ /^logic=proved / && logic !~ /foreign=|pinned=no|cache=trusted|incremental=trusted/ && /^rt: [^ ]+ proved$/ {
             proved++
             axioms = match(logic, / axioms=[0-9]+/) ? substr(logic, RSTART + 8, RLENGTH - 8) + 0 : 0
-            if (axioms > 0 || names != "") some = some "\naxioms of " $2 ": " axioms "," names
+            if (axioms > 0 || names != "") some = some "\naxioms of " $2 ": " axioms ", " names
             else none++
         }
+        /^rt: [^ ]+ is kept: / { kept++ }
         /^rt: / { names = logic = "" }
-        END { print proved + 0 " of " crates ", without an axiom " none + 0 some }' "$gate"
+        END { print proved + kept " of " crates ", " proved + 0 " of them in this run, without an axiom " none + 0 some }' "$gate"
+}
+# no crate has axioms but those that may, and such a one, where this run proved it, all of its own
+named_axioms() {
+    local line
+    while read -r line; do
+        grep -qxF -- "$line" <<<"$assumed" || return 1
+    done < <(grep '^axioms')
 }
 
 # what the comparison with other code says of its seeds and numbers; each of its parts must have come to its end, and each entry of the header have been called
@@ -103,7 +113,7 @@ compared() {
 evidence() { # VERSION FILE...
     echo "Evidence for the library gm $1, written $(date -u '+%F %T') UTC. docs/SAFETY.md, \"The evidence\", says how it is used."
     one_state
-    came_to_gate || return 0
+    came_to_end || return 0
     sums "${@:2}"
     grep '^tests passed: ' "$tested"
     gate
