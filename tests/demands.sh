@@ -1,7 +1,7 @@
 #!/usr/bin/env bash
 # Whether docs/DEMANDS.md says what is there: every quoted formula stands so in the file named above it, and no word of one is left unexplained; every name is there;
 # every clause has its cells and a wrong edit, or says why there is none; every entry of the header is named, and none has a `requires`; the theorem on refused calls has
-# every entry, and as many arguments as the entries may write.
+# every entry, and as many arguments as the entries may write; what C calls has the contract of the entry of its name.
 # Usage: demands.sh [FILE], by default docs/DEMANDS.md
 set -euo pipefail
 root=$(cd "$(dirname "$0")/.." && pwd)
@@ -18,7 +18,8 @@ part() { # inside|outside
 }
 form='^([a-z_0-9]+/(specs|proofs)/[^ ]+\.antt: [^ ]+|[a-z_0-9]+::[a-z_0-9]+|[a-z]+[a-z_0-9]*/[^ :]+)$'
 in_backticks() { grep -o '`[^`]*`' | tr -d '`'; }
-words() { sed -E 's#(--|//) .*##' | tr -s ' (){};,' '\n' | sed -E 's/^\.|\.$//g; /^$/d' | sort -u; }
+# a part that is taken of something, as in `h.cycles`, is a word of its own
+words() { sed -E 's#(--|//) .*##; s/\.([A-Za-z0-9])/ \1/g' | tr -s ' (){};,' '\n' | sed -E 's/^\.|\.$//g; /^$/d' | sort -u; }
 # what the readings speak of: names that are only cited explain nothing
 explained() { part outside | sed -n '/^## The symbols/,$p' | in_backticks | grep -vE "$form" | words; }
 
@@ -78,10 +79,19 @@ for entry in $(sed -nE 's/^uint32_t (gm_[a-z_]+)\(.*/\1/p' include/gm.h); do
     grep -q "${entry//_/-}\.Learnt" "$kept" || complain "$kept has no field for the entry $entry"
 done
 written=$(grep -o "&mut" crates/gm/src/lib.rt | wc -l)
-said=$(awk '/^  pub [a-z-]+ :/ { field = $2 } { while (match($0, /Kept \(a [^)]*\) \(s [^)]*\)/)) { print field, substr($0, RSTART, RLENGTH); $0 = substr($0, RSTART + RLENGTH) } }' "$kept" |
+said=$(awk '/^  pub [a-z_]+ :/ { field = $2 } { while (match($0, /Kept a[.0-9]+ s[.0-9]+/)) { print field, substr($0, RSTART, RLENGTH); $0 = substr($0, RSTART + RLENGTH) } }' "$kept" |
     sort -u | wc -l)
 [ "$said" -eq "$written" ] || complain "$kept says of $said arguments that a refused call keeps them, and the entries are lent $written to write"
-! grep -n requires crates/gm/src/lib.rt crates/row_press/src/lib.rt >&2 || complain "an entry has a 'requires'"
+! grep -n requires crates/gm/src/lib.rt crates/gm_c/src/lib.rt crates/row_press/src/lib.rt >&2 || complain "an entry has a 'requires'"
+# what C calls is gm_c, whose functions have the arguments and the contracts of the entries of gm: each up to its body, without its layout
+contracts() { # CRATE
+    awk '
+        /^pub .*fn gm_/ { sub(/^pub (extern "C" )?/, ""); reading = 1 }
+        reading && /^\{/ { gsub(/ /, "", text); gsub(/,\)/, ")", text); print text; reading = 0; text = "" }
+        reading { text = text $0 }' "crates/$1/src/lib.rt"
+}
+diff <(contracts gm) <(contracts gm_c) >&2 || complain "a function of gm_c has not the contract of the entry of gm of its name"
+[ "$(contracts gm_c | wc -l)" -eq "$(grep -c '^uint32_t gm_' include/gm.h)" ] || complain "gm_c has not as many functions as the header"
 
 [ "$wrong" -eq 0 ] || exit 1
 echo "demands: $formulas formulas as in their files, $(part inside | words | wc -l) words of them explained, $(wc -l <<<"$names") names there"

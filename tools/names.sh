@@ -32,7 +32,7 @@ functions() {
 
 # definitions and theorems: a line that declares one
 declarations() {
-    find crates -name '*.antt' -print0 | xargs -0 awk '
+    find crates -name out -prune -o -name "*.antt" -print0 | xargs -0 awk '
         FNR == 1 { file = substr(FILENAME, 8); sub(/\/(specs|proofs)\//, "/", file); sub(/\.antt$/, "", file) }
         { i = 1 }
         $i == "unfoldable" || $i == "abbrev" { i++ }
