@@ -16,7 +16,7 @@ same() { # WHAT LIST OTHER-WHAT OTHER-LIST
 
 # ---- the crates: "LAYER | CRATE | SENTENCE" a line, in the order of crates.txt, and "CRATE DEPENDENCY" a line
 
-crates=$(sed -nE 's/^([a-z_0-9]+):.*/\1/p' crates.txt)
+crates=$(sed -nE 's/^([a-z_0-9]+)( [^:]*)?:.*/\1/p' crates.txt)
 sentence() { # of a crate: the first of its source
     head -n 1 "crates/$1/src/"{lib,main}.rt 2>/dev/null | sed -nE 's#^// (.*)#\1#p' | sed -E 's/\. .*//; s/\.$//'
 }
@@ -33,6 +33,7 @@ drawn=$(awk '$3 == "─▶" { for (i = 4; i <= NF; i++) print $2, $i }' <<<"$pic
 
 # what crates.txt says of the repository's own crates, less what is reached by way of another dependency
 arrows=$(awk -F ': *' '
+    { sub(/ .*/, "", $1) }
     NR == FNR { if ($1 !~ /^#/) own[$1] = 1; next }
     function reaches(from, to,  i, n, d) {
         if ((from, to) in known) return known[from, to]
@@ -60,6 +61,7 @@ due=$(for crate in $crates; do echo "$(awk -v name="$crate" '$2 == name { print 
 same "README.md's table" "$table" "the source of each crate" "$due"
 [ "$(cut -d '|' -f 2 <<<"$table")" = "$(cut -d '|' -f 2 <<<"$due")" ] || complain "README.md's table is in another order than crates.txt"
 low=$(awk -F ': *' '
+    { sub(/ .*/, "", $1) }
     NR == FNR { if ($1 !~ /^#/) own[$1] = 1; next }
     !/^#/ { n = split($2, d, " "); for (i = 1; i <= n; i++) if (d[i] in own && !(d[i] in above)) print $1 " before " d[i]; above[$1] = 1 }' crates.txt crates.txt)
 [ -z "$low" ] || complain "crates.txt names a crate before one that it rests on: $low"
@@ -69,8 +71,8 @@ low=$(awk -F ': *' '
 opened=$(find crates/*/proofs -name '*.antt' ! -name Worked.antt ! -path 'crates/theorem_refused/proofs/There.antt' ! -path 'crates/theorem_entries/proofs/There.antt' -print0 |
     xargs -0 awk '
     FNR == 1 { delete owner; split(FILENAME, part, "/") }
-    /^use Rattle·[^ ]*\.specs\..*\{/ {
-        crate = $2; sub(/^Rattle·/, "", crate); sub(/[.·].*/, "", crate)
+    /^use Rattle\.[^ ]*\.specs\..*\{/ {
+        crate = $2; sub(/^Rattle\./, "", crate); sub(/\..*/, "", crate)
         sub(/^[^{]*\{/, ""); sub(/\}.*/, "")
         for (i = split($0, name, /, */); i > 0; i--) owner[name[i]] = crate
     }
