@@ -59,17 +59,17 @@ fn request_bit(requests: bool) -> u32
 }
 
 // Rule 2: the heartbeat of node q, if it sends one.
-fn put_heartbeat(all: [u8; 2304], w: Roles, count: u32, channel: u32, q: usize) -> [u8; 2304]
+fn put_heartbeat(all: &mut [u8; 2304], w: Roles, count: u32, channel: u32, q: usize)
     requires { (q < 64) × (count < 64) }
-    ensures { result ≡ with_sent q (heartbeat_put w count channel q) all }
+    ensures { all.new ≡ with_sent q (heartbeat_put w count channel q) all.old }
 {
     if sets::contains(w.members, q) {
         let request = request_bit(sets::contains(w.asking, q));
-        put(all, q, &run_heartbeat(q as u32, 0, request, count, channel))
+        let next = put(*all, q, &run_heartbeat(q as u32, 0, request, count, channel));
+        *all = next;
     } else if sets::contains(w.joining, q) {
-        put(all, q, &run_heartbeat(q as u32, 1, 0, count, channel))
-    } else {
-        all
+        let next = put(*all, q, &run_heartbeat(q as u32, 1, 0, count, channel));
+        *all = next;
     }
 }
 
@@ -80,8 +80,7 @@ fn heartbeats(n: usize, w: Roles, count: u32, channel: u32) -> [u8; 2304]
     let mut all = [0u8; 2304];
     let mut q: usize = 0;
     while q < n {
-        let next = put_heartbeat(all, w, count, channel, q);
-        all = next;
+        put_heartbeat(&mut all, w, count, channel, q);
         q += 1;
     }
     all

@@ -21,7 +21,7 @@ pub struct Arrived {
 
 // Rule 4: the vote of node q, if it casts one.
 fn put_vote(
-    all: [u8; 2304],
+    all: &mut [u8; 2304],
     numbers: &[u32; 64],
     sets: &[u64; 64],
     bases: &[u64; 64],
@@ -30,19 +30,18 @@ fn put_vote(
     count: u32,
     channel: u32,
     q: usize,
-) -> [u8; 2304]
+)
     requires { (q < 64) × (count < 64) }
-    ensures { result ≡ with_sent q (vote_put numbers.now sets.now bases.now views.now voting count channel q) all }
+    ensures { all.new ≡ with_sent q (vote_put numbers.now sets.now bases.now views.now voting count channel q) all.old }
 {
     let v = rule_steps::vote_at(numbers, sets, bases, views, q);
     if sets::contains(voting, q) {
-        bus_channels::put(
-            all,
+        let next = bus_channels::put(
+            *all,
             q,
             &frame_writing::write_vote(q as u32, v, count, channel),
-        )
-    } else {
-        all
+        );
+        *all = next;
     }
 }
 
@@ -62,8 +61,9 @@ pub fn votes(
     let mut all = [0u8; 2304];
     let mut q: usize = 0;
     while q < n {
-        let next = put_vote(all, numbers, sets, bases, views, voting, count, channel, q);
-        all = next;
+        put_vote(
+            &mut all, numbers, sets, bases, views, voting, count, channel, q,
+        );
         q += 1;
     }
     all

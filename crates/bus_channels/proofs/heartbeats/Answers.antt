@@ -7,8 +7,8 @@ use Rattle.bus_channels.proofs.heartbeats.Goals as goal
 pub loop-q-init : goal.loop-q-init
 loop-q-init c = (omega arith, channel_none _)
 
-pub put_heartbeat-next-requires : goal.put_heartbeat-next-requires
-put_heartbeat-next-requires c = omega arith
+pub put_heartbeat-requires : goal.put_heartbeat-requires
+put_heartbeat-requires c = omega arith
 
 pub overflow_add-q : goal.overflow_add-q
 overflow_add-q c = omega arith
@@ -20,7 +20,7 @@ pub loop-q-preserved : goal.loop-q-preserved
 loop-q-preserved c =
     let l = c.loop-q in
     let a = c.args in
-    (omega arith, channel_next l.q (heartbeat_put a.w a.count a.channel) l.all _ l.invariant.1 c.put_heartbeat-next.ensures)
+    (omega arith, channel_next l.q (heartbeat_put a.w a.count a.channel) l.all _ l.invariant.1 c.put_heartbeat.ensures)
 
 pub returns : goal.returns
 returns c =

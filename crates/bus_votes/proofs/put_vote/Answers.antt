@@ -10,8 +10,8 @@ pub returns-then-contains : goal.returns-then-contains
 returns-then-contains c =
     let a = c.args in
     rw (sym c.contains.ensures ∙ c.if-contains.true)
-    (c.put.ensures
-    ∙ ap (λ (x : List ℕ). with_frame a.q x a.all) (c.write_vote.ensures ∙ ap (λ (x : Vote). vote_frame a.q x a.count a.channel) c.vote_at-v.ensures))
+    (c.put-next.ensures
+    ∙ ap (λ (x : List ℕ). with_frame a.q x a.all.now) (c.write_vote.ensures ∙ ap (λ (x : Vote). vote_frame a.q x a.count a.channel) c.vote_at-v.ensures))
 
 pub returns-else-contains : goal.returns-else-contains
 returns-else-contains c = rw (sym c.contains.ensures ∙ c.if-contains.false)

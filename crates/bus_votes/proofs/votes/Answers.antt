@@ -7,8 +7,8 @@ use Rattle.bus_votes.proofs.votes.Goals as goal
 pub loop-q-init : goal.loop-q-init
 loop-q-init c = (omega arith, channel_none _)
 
-pub put_vote-next-requires : goal.put_vote-next-requires
-put_vote-next-requires c = omega arith
+pub put_vote-requires : goal.put_vote-requires
+put_vote-requires c = omega arith
 
 pub overflow_add-q : goal.overflow_add-q
 overflow_add-q c = omega arith
@@ -20,7 +20,7 @@ pub loop-q-preserved : goal.loop-q-preserved
 loop-q-preserved c =
     let l = c.loop-q in
     let a = c.args in
-    (omega arith, channel_next l.q (vote_put a.numbers.now a.sets.now a.bases.now a.views.now a.voting a.count a.channel) l.all _ l.invariant.1 c.put_vote-next.ensures)
+    (omega arith, channel_next l.q (vote_put a.numbers.now a.sets.now a.bases.now a.views.now a.voting a.count a.channel) l.all _ l.invariant.1 c.put_vote.ensures)
 
 pub returns : goal.returns
 returns c =
