@@ -65,7 +65,11 @@ fn put_heartbeat(all: &mut [u8; 2304], w: Roles, count: u32, channel: u32, q: us
 {
     if sets::contains(w.members, q) {
         let request = request_bit(sets::contains(w.asking, q));
-        let next = put(*all, q, &run_heartbeat(q as u32, 0, request, count, channel));
+        let next = put(
+            *all,
+            q,
+            &run_heartbeat(q as u32, 0, request, count, channel),
+        );
         *all = next;
     } else if sets::contains(w.joining, q) {
         let next = put(*all, q, &run_heartbeat(q as u32, 1, 0, count, channel));
