@@ -42,6 +42,12 @@ done
 writable=$(objdump -h "$archive" | awk '$2 ~ /^\.(data|bss|tdata|tbss)/ && $3 !~ /^0+$/ { print $2 }')
 [ -z "$writable" ] || fail "writable data: $writable"
 
+# of what came after SSE2 it has no instruction but tzcnt, which older processors run as bsf: SSE3 to SSE4.2, popcnt and lzcnt, movbe, bit and carry instructions, AES, SHA, AVX
+later='addsub|[hv]|movddup|movs[hl]dup|lddqu|pabs|psign|ph(add|sub|min)|pmadd(ub)|pmulh(rs)|pshufb|palignr|p?blend|pinsr[bdq]|pextr[bdq]|pmov[sz]x|p(min|max)(s[bd]|u[wd])|ptest|round|insertps|extractps
+|dpp[sd]|mpsadbw|packusdw|pcmp(eqq|gtq|[ei]str)|pmul(dq|ld)|movntdqa|crc32|popcnt|lzcnt|movbe|andn|bextr|bls[imr]|bzhi|mulx|p(dep|ext)|rorx|(sa|sh)[lr]x|ad[co]x|aes|pclmul|sha(1|256)|cmpxchg16|rd(rand|seed)'
+beyond=$(objdump -d --no-show-raw-insn "$archive" | awk -F '\t' 'NF > 1 { split($2, word, " "); print word[1] }' | sort -u | grep -E "^(${later//$'\n'/})" || true)
+[ -z "$beyond" ] || fail "instructions that not every x86-64 processor runs: $beyond"
+
 cc=(gcc -std=c99 -Wall -Wextra -Werror -pedantic -O2 -Iinclude)
 "${cc[@]}" tests/entries.c "$archive" -o "$build/entries"
 called=$("$build/entries")

@@ -59,8 +59,9 @@ objdump -d "$build/negative.o" | grep -q 'sub *$0xffffffffffffff80,%rsp' || fail
 walk "$build/negative.o" >"$build/negative.out"
 is negative f $((8 + 256))
 
-# a jump by a table goes to each of its places, and to none of the next table's
+# a jump by a table goes to each of its places, and to none of the next table's; before it other registers may be loaded
 jump='lea 9f(%rip),%rdx; movslq (%rdx,%rdi,4),%rax; add %rdx,%rax; jmp *%rax'
+loaded=${jump/; jmp/; mov 8(%rsi),%rdx; jmp}
 assemble() { gcc -c -x assembler - -o "$build/$1.o"; } # NAME: of the assembler text on standard input
 assemble tables <<S
 f: $jump
@@ -70,10 +71,15 @@ f: $jump
 g: $jump
 1: ret
    .section .rodata; 9: .long 1b-9b; .text
+h: popcnt %rdi,%rdi; $loaded
+1: push %rax; pop %rax
+2: ret
+   .section .rodata; 9: .long 1b-9b, 2b-9b; .text
 S
 walk "$build/tables.o" >"$build/tables.out"
 is tables f $((8 + 8))
 is tables g 8
+is tables h $((8 + 8))
 
 refused() { # NAME MESSAGE OBJECT..
     if walk "${@:3}" >"$build/$1.out" 2>"$build/$1.err"; then fail "$1: is not refused"; fi
@@ -108,6 +114,19 @@ f: je 2f; lea 9f(%rip),%rdx; movslq (%rdx,%rdi,4),%rax
 1: ret
    .section .rodata; 9: .long 1b-9b; .text
 S
+refused_s within 'where it leads is not known' <<S
+f: je 2f; lea 9f(%rip),%rdx; movslq (%rdx,%rdi,4),%rax; add %rdx,%rax
+2: mov 8(%rsi),%rdx; jmp *%rax
+1: ret
+   .section .rodata; 9: .long 1b-9b; .text
+S
+for register in %rax %eax %ax; do
+    refused_s "overwritten$register" 'where it leads is not known' <<S
+f: ${loaded/,%rdx; jmp/,$register; jmp}
+1: ret
+   .section .rodata; 9: .long 1b-9b; .text
+S
+done
 refused_s tableless 'where it leads is not known' <<S
 f: $jump
    .section .rodata; 9: .long 5; .text
