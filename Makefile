@@ -95,11 +95,11 @@ host: archive
 	@for host in $(HOSTS); do $(C99) -DMODE=GM_MODE_QUIET examples/$$host.c $(ARCHIVE) -o $(BUILD)/$$host.quiet && \
 	    diff <(grep -v damaged examples/$$host.out) <($(BUILD)/$$host.quiet | grep -v damaged) || exit 1; done
 
-# prove the library, and build the archive that a host links with include/gm.h
+# prove the library, and build the archive that a host links with include/gm.h, for every x86-64 processor
 archive: $(ARCHIVE)
 
 $(ARCHIVE): $(SOURCES)
-	@$(call needs,rt)tools/kit.sh archive "up to 30 minutes on two cores" crates/gm_c rt lib
+	@$(call needs,rt)tools/kit.sh archive "up to 30 minutes on two cores" crates/gm_c rt lib --cpu x86-64
 	@install -D -m 644 crates/gm_c/out/libgm_c.a $@
 
 # header and archive agree
@@ -125,9 +125,9 @@ quiet-test: archive
 	@$(BUILD)/quiet $(addprefix tests/vectors/t03/,decide.txt cycle.txt heartbeat.txt)
 
 # the programs that print the run of a table, of a press that votes in every cycle and of a quiet one
-$(GROUPRUN) $(QUIETRUN): target/bin/%: $(SOURCES)
-	@$(call needs,rt)tools/kit.sh $* "up to 40 minutes on two cores" crates/$* rt run >/dev/null </dev/null
-	@install -D -m 755 -t $(@D) crates/$*/out/$*
+$(GROUPRUN) $(QUIETRUN): $(SOURCES)
+	@$(call needs,rt)tools/kit.sh $(@F) "up to 40 minutes on two cores" crates/$(@F) rt run >/dev/null </dev/null
+	@install -D -m 755 -t $(@D) crates/$(@F)/out/$(@F)
 
 # tables as readable text, and back
 $(TABLETEXT): tools/tabletext.c include/gm.h

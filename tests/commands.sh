@@ -1,6 +1,6 @@
 #!/usr/bin/env bash
 # Whether the commands tell a new user what is needed: `make help` lists every target, a command that is missing is named in one sentence, tools/kit.sh tells how far
-# the kit is and passes on its verdict, and tools/evidence.sh takes nothing but what was tested, whole and of this
+# the kit is and passes on its verdict, .ci/run runs the gate as it is and then the tests, and tools/evidence.sh takes nothing but what was tested, whole and of this
 # commit. A script plays the kit; nothing is proved or built.
 # Usage: commands.sh
 set -euo pipefail
@@ -76,8 +76,8 @@ make_kit() {
     cat >"$work/kit/rt" <<'KIT'
 #!/usr/bin/env bash
 [ "$1" != version ] || { echo "${KIT:-a kit}"; exit 0; }
+echo "$PWD: $*" >"$SAYS.asked"
 head -n 1 "$SAYS" >&2
-[ -n "${EARLY-}" ] || mkdir -p target/must-fail
 for _ in {1..100}; do [ ! -e "$SAYS.wait" ] || sleep 0.1; done
 tail -n +2 "$SAYS"
 exit "${ENDS:-0}"
@@ -85,15 +85,21 @@ KIT
     chmod +x "$work/kit/rt"
 }
 make_room() {
+    local program
     room=$work/room
-    mkdir -p "$room"/{tools,tests,include,crates/low/must-fail}
-    cp tools/{kit,gate,evidence}.sh "$room/tools"
+    mkdir -p "$room"/{.ci,tools,tests,include,crates/low/must-fail}
+    cp .ci/run "$room/.ci"
+    cp tools/{kit,rests,evidence}.sh "$room/tools"
     cp tests/edits.sh "$room/tests"
     cp .gitignore "$room"
-    printf '# NAME: the crates it rests on\nlow:\nprint_program: low\ngrouprun: low print_program\nquietrun: print_program\nvectors: low\nrowrun: low grouprun\n' >"$room/crates.txt"
+    printf 'tests:\n\t@$(TESTS)\n' >"$room/Makefile"
+    printf '# NAME: the crates it rests on\nlow:\nprint_program: low\ngrouprun: low print_program\nquietrun: print_program\nvectors: low\nrowrun staticlib: low grouprun\n' >"$room/crates.txt"
     printf 'refused by: low::half\nfile: src/lib.rt\nold: 2\nnew: 3\n' >"$room/crates/low/must-fail/third.edit"
+    for program in grouprun quietrun; do
+        mkdir -p "$room/crates/$program/out"
+        echo "$program" >"$room/crates/$program/out/$program"
+    done
     printf 'uint32_t gm_%s(uint8_t *state);\n' begin stop >"$room/include/gm.h"
-    touch -d '1 hour ago' "$room/crates/low/must-fail/third.edit"
     git -C "$room" init --quiet
     commit "a repository"
 }
@@ -106,46 +112,49 @@ run_kit() { # WORDS OF kit.sh
 }
 proof='logic=proved functions=1'
 libc='axioms libc: libc::' os='axioms os: os::c::'
-# of a program over tables: the kit names what is assumed with a program, and not with the library that calls it
-assumed=("${libc}isatty, libc::read, libc::write (3 of the 50 declared)" "${os}rattle_arg, os::c::rattle_arg_count, os::c::rattle_set_errno (3 of the 10 declared)"
-    "$proof axioms=6 sum=1")
-# with a byte 0 in a message, as the kit may quote one
-gate_lines=("$proof sum=1" 'rt: low proved (1 s)' "$proof sum=1" 'rt: print_program proved (1 s)'
-    "${assumed[@]}" 'rt: grouprun proved (2 s)' 'a note on \0' "${assumed[@]}" 'rt: quietrun proved (2 s)'
-    "${libc}write (1 of the 50 declared)" "$proof axioms=1 sum=1" 'rt: vectors proved (2 s)'
-    "${libc}read, libc::write (2 of the 50 declared)" "$proof axioms=2 sum=1" 'rt: rowrun proved (3 s)'
-    'rt: must-fail low/third: refused, as it must be (first at src/lib.rt:1:1; 1 s)' 'rt: rowrun ran, and wrote what its file has (0 s)'
-    'rt: ok, 6 crates proved, 1 must-fail edits refused' '7 passed, 0 failed')
+# of a program, what is assumed
+assumed=("${libc}heap::rattle_alloc, libc::read, libc::write, ... (6 of the 128 declared)" "${os}rattle_errno (1 of the 22 declared)"
+    'axioms std: none reached of the 2 declared' "$proof axioms=7 sum=1")
+refusal="rt: must-fail low/third.edit: refused, as it must be: ./proofs/half/Answers.antt:1:1: error: \`returns\`: the two types differ"
+# with a byte 0 in a message, as the kit may quote one; a crate that an earlier run proved comes without its proof
+gate_lines=('== low' "$proof sum=1" 'rt: low proved' 'rt: low: trying its must-fail edits (1)' "$proof tests=1 axioms=9 sum=1" 'rt: print_program: its tests are proved'
+    "$proof sum=1" 'rt: print_program proved' "${assumed[@]}" 'rt: grouprun proved' 'a note on \0' "${assumed[@]}" 'rt: quietrun proved'
+    'rt: vectors is kept: an earlier run on this machine proved the same files over the same libraries' "${assumed[@]}" 'rt: rowrun proved'
+    "$refusal" 'rt: rowrun ran, and wrote what its file stdout has'
+    'rt: ok; handles allowed: none; must-fail edits: 1 refused; every proof and must-fail edit was done in this run' '7 passed, 0 failed')
 
 # ---- how far the kit is
 
 check_lines() {
     says "${gate_lines[@]}"
-    run_kit gate "an hour" ci
-    [ "$ended $(<"$work/out")" = '0 7 passed, 0 failed' ] || fail "a gate that passes ends with $ended and prints: $(<"$work/out")"
+    run_kit gate "an hour" . rt ci
+    [ "$ended$(<"$work/out")" = 0 ] || fail "a gate that passes ends with $ended and prints: $(<"$work/out")"
+    [ "$(<"$work/says.asked")" = "$room: ci" ] || fail "the gate is asked otherwise: $(<"$work/says.asked")"
     diff - <(sed -E 's/[0-9]+ s:/T s:/' "$work/err") <<'LINES' || fail "what is told of a gate (>) is not what is expected (<)"
 rt ci: from nothing an hour; what it says goes to log/gate.log
-crate 1 of 6, T s: low proved (1 s)
-crate 2 of 6, T s: print_program proved (1 s)
-crate 3 of 6, T s: grouprun proved (2 s)
-crate 4 of 6, T s: quietrun proved (2 s)
-crate 5 of 6, T s: vectors proved (2 s)
-crate 6 of 6, T s: rowrun proved (3 s)
-edit 1 of 1, T s: low/third: refused, as it must be (first at src/lib.rt:1:1; 1 s)
+crate 1 of 6, T s: low proved
+crate 2 of 6, T s: print_program proved
+crate 3 of 6, T s: grouprun proved
+crate 4 of 6, T s: quietrun proved
+crate 6 of 6, T s: rowrun proved
 LINES
     cmp "$work/says" "$room/log/gate.log" || fail "the log is not what the kit said"
-    says 'rt: low proved (1 s)' 'rt: print_program proved (unchanged since it was last proved)' 'rt: grouprun proved (unchanged since it was last proved)' \
-        'rt: ok, 3 crates proved'
-    run_kit try "an hour" check grouprun
-    has "$work/err" 'crate 1 of 3, '
-    [ ! -s "$work/out" ] && [ "$(wc -l <"$work/err")" = 2 ] || fail "a check of three crates prints: $(<"$work/out") and $(<"$work/err")"
+    says 'rt: low: begins with what a check kept in a folder' 'library low: modules loaded=5 checked=0' 'crate low: modules loaded=3 checked=2' "$proof sum=1" \
+        'crate grouprun: modules loaded=3 checked=2' "$proof sum=1"
+    run_kit try "an hour" crates/grouprun rt run
+    [ "$(<"$work/says.asked")" = "$room/crates/grouprun: run" ] || fail "the kit is asked otherwise: $(<"$work/says.asked")"
+    diff - <(sed -E 's/[0-9]+ s:/T s:/' "$work/err") <<'LINES' || fail "what is told of a program (>) is not what is expected (<)"
+rt run: from nothing an hour; what it says goes to log/try.log
+crate 1 of 3, T s: crate low proved
+crate 2 of 3, T s: crate grouprun proved
+LINES
 }
 check_quiet() {
-    says 'rt: low proved (unchanged since it was last proved)' 'rt: ok, 1 crates proved'
-    run_kit try "an hour" check low
+    says 'rt: low is kept: an earlier run proved the same' 'rt: ok; handles allowed: none'
+    run_kit try "an hour" . rt ci
     [ "$ended" = 0 ] && [ ! -s "$work/out" ] && [ ! -s "$work/err" ] || fail "what is proved already is told: $(<"$work/out") $(<"$work/err")"
     says 'this is no line on a crate'
-    run_kit try "an hour" check low
+    run_kit try "an hour" crates/low rt lib
     [ "$ended" = 0 ] || fail "status 0 of a kit that tells of no crate becomes $ended"
 }
 
@@ -153,42 +162,42 @@ check_quiet() {
 check_life() {
     says "${gate_lines[@]:1}"
     touch "$work/says.wait"
-    run_kit gate "an hour" ci &
-    for _ in {1..80}; do grep -q 'crate 1 of 6' "$work/err" 2>/dev/null || sleep 0.1; done
-    has "$work/err" 'crate 1 of 6'
-    ! grep -q 'crate 2 of 6' "$work/err" || fail "the kit did not wait"
+    run_kit gate "an hour" . rt ci &
+    sleep 1
+    ! grep -q 'crate 1 of 6' "$work/err" 2>/dev/null || fail "the kit did not wait"
     rm "$work/says.wait"
     wait $!
-    has "$work/err" 'edit 1 of 1'
+    has "$work/err" 'crate 4 of 6'
 }
 
 check_failure() {
     says 'crates/low/src/lib.rt:1:1: error: no such name' \
-        'rt: low NOT PROVED (exit 1, 1 s)' 'rt: grouprun NOT PROVED: its dependency low is not proved' 'rt: FAILED: low grouprun' '3 passed, 2 failed'
-    ENDS=1 run_kit gate "an hour" ci
-    [ "$ended $(<"$work/out")" = '1 3 passed, 2 failed' ] || fail "a gate that fails ends with $ended and prints: $(<"$work/out")"
+        'rt: low NOT PROVED' 'rt: grouprun NOT PROVED: its library low failed' 'rt: FAILED: low grouprun' '3 passed, 2 failed'
+    ENDS=1 run_kit gate "an hour" . rt ci
+    [ "$ended$(<"$work/out")" = 1 ] || fail "a gate that fails ends with $ended and prints: $(<"$work/out")"
     has "$work/err" 'error: no such name'
     has "$work/err" 'rt: FAILED: low grouprun'
+    has "$work/err" '3 passed, 2 failed'
     says 'rt: something else'
-    ENDS=3 run_kit try "an hour" check low
+    ENDS=3 run_kit try "an hour" crates/low rt lib
     [ "$ended" = 3 ] || fail "status 3 becomes $ended"
     has "$work/err" 'rt: something else'
 }
 
-# on a terminal one line is rewritten: three lines in all, the last one the gate's; which is alone where standard output goes elsewhere
+# on a terminal one line is rewritten
 on_terminal() { # COMMAND
     ended=0
     SAYS=$work/says PATH=$work/kit:$PATH script -qec "$1" /dev/null </dev/null >"$work/shown" || ended=$?
 }
 check_terminal() {
-    local gate="'$room/tools/kit.sh' gate 'an hour' ci"
+    local gate="'$room/tools/kit.sh' gate 'an hour' . rt ci"
     says "${gate_lines[@]}"
     on_terminal "$gate"
-    has "$work/shown" $'\rcrate 2 of 6, '
-    [ "$ended $(tail -n 1 "$work/shown" | tr -d '\r')" = '0 7 passed, 0 failed' ] || fail "on a terminal a gate that passes ends with $ended: $(<"$work/shown")"
-    [ "$(wc -l <"$work/shown")" = 3 ] || fail "on a terminal a gate takes other than three lines: $(<"$work/shown")"
-    ENDS=1 on_terminal "$gate >'$work/out'"
-    [ "$ended $(<"$work/out")" = '1 7 passed, 0 failed' ] || fail "on a terminal a gate that fails ends with $ended: $(<"$work/out")"
+    has "$work/shown" $'\rcrate 3 of 6, '
+    [ "$ended" = 0 ] || fail "on a terminal a gate that passes ends with $ended: $(<"$work/shown")"
+    [ "$(wc -l <"$work/shown")" = 2 ] || fail "on a terminal a gate takes other than two lines: $(<"$work/shown")"
+    ENDS=1 on_terminal "$gate"
+    [ "$ended" = 1 ] || fail "on a terminal a gate that fails ends with $ended: $(<"$work/shown")"
 }
 # a kit that says nothing yet: the first crate is in work, and the seconds go on
 rewritten() { tr '\r' '\n' <"$work/shown" | grep -c '^crate 1 of 6, ' || true; }
@@ -196,37 +205,40 @@ check_waiting() {
     says "${gate_lines[@]}"
     touch "$work/says.wait"
     : >"$work/shown"
-    on_terminal "'$room/tools/kit.sh' gate 'an hour' ci" &
+    on_terminal "'$room/tools/kit.sh' gate 'an hour' . rt ci" &
     for _ in {1..80}; do [ "$(rewritten)" -ge 2 ] || sleep 0.1; done
     [ "$(rewritten)" -ge 2 ] || fail "a kit that says nothing is not told of: $(<"$work/shown")"
     rm "$work/says.wait"
     wait $!
-    has "$work/shown" '7 passed, 0 failed'
+    has "$work/shown" 'crate 6 of 6, '
 }
 
-# ---- the gate with the tests beside it
+# ---- the gate, and then the tests
 
-# a gate that waits at its edits, where it comes to them; the tests let it go on
-gated() { # TESTS
+ci() { # TESTS
     ended=0
-    [ -n "${EARLY-}" ] || touch "$work/says.wait"
-    SAYS=$work/says PATH=$work/kit:$PATH "$room/tools/gate.sh" "an hour" bash -c "$1" >"$work/out" 2>"$work/err" || ended=$?
-    rm -f "$work/says.wait"
+    rm -rf "$room/target"
+    SAYS=$work/says PATH=$work/kit:$PATH TESTS=$1 "$room/.ci/run" >"$work/out" 2>"$work/err" || ended=$?
 }
-check_beside() {
-    local on='echo tested; rm "$SAYS.wait"'
+check_ci() {
+    local tests='cat target/bin/grouprun target/bin/quietrun' bad
     says "${gate_lines[@]}"
-    gated "$on"
-    [ "$ended $(<"$work/out")" = $'0 tested\n7 passed, 0 failed' ] || fail "a gate with tests that pass ends with $ended and prints: $(<"$work/out")"
-    ENDS=1 gated "$on"
-    [ "$ended $(<"$work/out")" = $'1 tested\n7 passed, 0 failed' ] || fail "a gate that fails beside its tests ends with $ended and prints: $(<"$work/out")"
-    gated 'echo a test; exit 3'
-    [ "$ended $(<"$work/out")" = '1 ' ] || fail "a gate with a test that fails ends with $ended and prints: $(<"$work/out")"
-    has "$work/err" 'a test failed'
-    ! pgrep -f "$work/kit/rt" >/dev/null || fail "a gate goes on though a test failed"
-    says 'rt: low NOT PROVED (exit 1, 1 s)' 'rt: FAILED: low' '0 passed, 1 failed'
-    EARLY=yes ENDS=1 gated "$on"
-    [ "$ended $(<"$work/out")" = '1 0 passed, 1 failed' ] || fail "a gate that ends before its edits ends with $ended and prints: $(<"$work/out")"
+    ci "$tests"
+    [ "$ended $(<"$work/out")" = $'0 grouprun\nquietrun\n7 passed, 0 failed' ] || fail "a gate with tests that pass ends with $ended and prints: $(<"$work/out")"
+    [ "$(<"$work/says.asked")" = "$room: ci" ] || fail "the gate is asked otherwise: $(<"$work/says.asked")"
+    ENDS=1 ci "$tests"
+    [ "$ended$(<"$work/out")" = 1 ] || fail "a gate that fails ends with $ended and prints: $(<"$work/out")"
+    ci 'echo a test; exit 3'
+    [ "$ended" != 0 ] && [ "$(<"$work/out")" = 'a test' ] || fail "a gate with a test that fails ends with $ended and prints: $(<"$work/out")"
+    for bad in 'refused, 1 bad' '0 refused, 12 bad' 'refused, 3 of them only by a limit, 1 bad'; do
+        says "${gate_lines[@]/1 refused/1 $bad}"
+        ci "$tests"
+        [ "$ended$(<"$work/out")" = 1 ] || fail "a gate with a bad edit ends with $ended and prints: $(<"$work/out")"
+        has "$work/err" 'could not be tried'
+    done
+    says "${gate_lines[@]/#rt: ok*/rt: well}"
+    ci "$tests"
+    [ "$ended$(<"$work/out")" = 1 ] || fail "a gate that does not say that all is well ends with $ended and prints: $(<"$work/out")"
 }
 
 # ---- evidence
@@ -241,17 +253,15 @@ refused() { # REASON
 compared_lines=('stored: 8 votes and decisions come out' 'compare: seed 7, 9 random calls' 'gm_begin    5 calls; by status 0: 5' 'gm_stop     4 calls; by status 0: 4' 'gm_stop: joining: 4'
     'compare: 9 calls agree' 'press: mistake SenderSkipped is noticed by press 0' 'press: all presses agree, and every mistake is noticed'
     'printed: 3 tables agree' 'demand3: all claims hold, and every mistake is found' 'load: other lines')
-# the logs of a run, from a gate that says what is given
+# the logs of a run, of a gate that says what is given
 tested() { # LINE...
-    local log=$room/target/must-fail/low/third/.log
     evidence begin
-    mkdir -p "$(dirname "$log")"
+    says "$@"
+    run_kit gate "an hour" . rt ci
+    mkdir -p "$room/target"
     echo an archive >"$room/target/libgm.a"
     printf '%s\n' "${compared_lines[@]}" >"$room/log/compared.log"
     evidence passed "host run" target/libgm.a include/gm.h
-    echo 'fn low::half: no proof: search does not close `returns`' >"$log"
-    says "$@"
-    run_kit gate "an hour" ci
 }
 check_evidence() {
     rm -rf "$room/log"
@@ -268,11 +278,7 @@ SUM  target/libgm.a
 SUM  include/gm.h
 tests passed: 2, host run
 gate: 7 passed, 0 failed
-crates proved: 6 of 6, without an axiom 2
-axioms of grouprun: 6, libc::isatty libc::read libc::write os::c::rattle_arg os::c::rattle_arg_count os::c::rattle_set_errno
-axioms of quietrun: 6, libc::isatty libc::read libc::write os::c::rattle_arg os::c::rattle_arg_count os::c::rattle_set_errno
-axioms of vectors: 1, libc::write
-axioms of rowrun: 2, libc::read libc::write
+AXIOMS
 edits refused: 1 of 1
 tests/edits: 1 edits, each refused by what it names
 stored: 8 votes and decisions come out

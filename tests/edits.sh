@@ -16,8 +16,8 @@ trap 'rm -rf "$copy"' EXIT
 function_at() { # FILE LINE
     awk -v last="$2" 'FNR > last { exit } match($0, /fn [a-z_0-9]+/) { name = substr($0, RSTART + 3, RLENGTH - 3) } END { print name }' "$1"
 }
-# the goals that say what a function ensures, and what its loop keeps, are its contract
-contract='^(returns(-.*)?|loop-.*-(init|preserved))$'
+# the goals that say what a function ensures, what its loop keeps, and what it owes to a function that it calls, are refused by its contract
+contract='^(returns(-.*)?|loop-.*-(init|preserved)|.*-requires(-.*)?)$'
 # where the first error is that the gate tells, by the name of a law or contract if it is one
 place() { # CRATE ERROR
     local file line name='no name'
@@ -40,15 +40,7 @@ unfit='has no (field )?`|is not in scope|step limit|only because a proof file na
 # the crate and those that it rests on, with their sources as they stand
 copied() { # CRATE
     local name
-    awk -v wanted="$1" '
-        /^[^#]/ { line[++n] = $0; split($0, half, ":"); split(half[1], word, " "); rests[word[1]] = half[2]; of[n] = word[1] }
-        function need(crate,  i, k, name) {
-            if (!(crate in rests) || crate in needed) return
-            needed[crate] = 1
-            k = split(rests[crate], name, " ")
-            for (i = 1; i <= k; i++) need(name[i])
-        }
-        END { need(wanted); for (i = 1; i <= n; i++) if (of[i] in needed) print line[i] }' crates.txt >"$copy/crates.txt"
+    tools/rests.sh "$1" >"$copy/crates.txt"
     mkdir -p "$copy/.git" "$copy/crates"
     while IFS=': ' read -r name _; do
         [ -d "$copy/crates/$name" ] || { mkdir "$copy/crates/$name" && cp -r "crates/$name/"{src,specs,proofs} "$copy/crates/$name"; }
@@ -92,7 +84,7 @@ for edit in crates/*/must-fail/*.edit; do
     [ "$at" = "$named" ] || { complain "$crate/$label is refused by $at first, and not by $named"; continue; }
     [[ $at != "$crate/specs/"* && ! $said =~ $unfit ]] || complain "$crate/$label only made a definition or its proof unfit: ${said:0:300}"
     also=$(sed -n 's/^also refused by: //p' "$edit")
-    [ -z "$also" ] || [ -n "${NOALSO-}" ] || refuses_too "$crate" "$edit" "$also" || complain "$crate/$label is not refused by $also"
+    [ -z "$also" ] || refuses_too "$crate" "$edit" "$also" || complain "$crate/$label is not refused by $also"
 done
 [ "$wrong" -eq 0 ] || exit 1
 echo "tests/edits: $edits edits, each refused by what it names; $again of them checked again, for what refuses them too"

@@ -9,19 +9,7 @@ log=$PWD/log/$1.log time=$2 folder=$3
 shift 3
 
 # how many crates the one of the folder rests on, itself among them; every crate at the top
-rest_on() { # CRATE
-    awk -v wanted="$1" '
-        /^[^#]/ { split($0, half, ":"); split(half[1], word, " "); rests[word[1]] = half[2]; all++ }
-        function need(crate,  i, n, name) {
-            if (!(crate in rests) || crate in needed) return
-            needed[crate] = 1
-            count++
-            n = split(rests[crate], name, " ")
-            for (i = 1; i <= n; i++) need(name[i])
-        }
-        END { if (wanted in rests) { need(wanted); print count } else print all + 0 }' crates.txt
-}
-crates=$(rest_on "${folder##*/}") crate=0 told=
+crates=$(tools/rests.sh "${folder##*/}" | wc -l) crate=0 told=
 
 place() { # AHEAD: 0 for the crate that was done last, 1 for the one in work
     local at=$((crate + $1))
