@@ -1,6 +1,6 @@
 #!/usr/bin/env bash
 # Writes evidence.txt, for the record of a delivery: kit, commit, sums of the files delivered, and what the last `make test` tested, proved, refused and compared. It
-# reads the logs of that run and proves nothing. What is missing, failed, or other than what was tested is said in the text, first of all, and the command fails.
+# reads the logs of that run, and proves nothing but what tests/edits.sh does. What is missing, failed, or other than what was tested is said in the text, first of all, and the command fails.
 # Usage: evidence.sh begin, as `make test` begins; evidence.sh passed "TEST..." FILE..., when its tests have passed; evidence.sh VERSION FILE... afterwards
 set -euo pipefail
 cd "$(dirname "$0")/.."
