@@ -94,7 +94,8 @@ same "docs/ARCHITECTURE.md's table" "$written" "what is opened in proofs" "$due"
 count=0
 for file in rules/specs/OneCycle rules/specs/Faults table/specs/Records row_calls/specs/Calls sets/specs/Sets frames/specs/Read; do
     file=crates/$file.antt
-    listed=$(sed -nE '/^use /q; s/^--     ([^:]+): .+/\1/p' "$file" | sed 's/, /\n/g')
+    # an operator may stand there with `_` for its arguments
+    listed=$(sed -nE '/^use /q; s/^--     ([^:]+): .+/\1/p' "$file" | sed 's/, /\n/g' | sed -E 's/^_([^_a-z]+)_$/◌\1◌/')
     declared=$(sed -nE 's/^((unfoldable|abbrev) )?pub (record |data )?([^ ]+).*/\4/p' "$file")
     same "the vocabulary of $file" "$listed" "the file" "$declared"
     count=$((count + $(wc -l <<<"$declared")))

@@ -89,9 +89,8 @@ try "full output, endless input" 0 - "$none" endless
 reader_gone() { run <"$long" | head -n 2; return "${PIPESTATUS[0]}"; }
 reader_gone_ignored() { (trap '' PIPE; run <"$long") | head -n 2; return "${PIPESTATUS[0]}"; }
 head -n 2 "$expected.long" >"$expected.two"
-says=
-try "the reader is gone" 141 "$(last_of "$expected.two")" "$expected.two" reader_gone
-says=$unwritten
+# the program ignores SIGPIPE as it starts, by the kit's code before its own, so that it is told by the failed write
+try "the reader is gone" 0 "$(last_of "$expected.two")" "$expected.two" reader_gone
 try "the reader is gone, SIGPIPE ignored" 0 "$(last_of "$expected.two")" "$expected.two" reader_gone_ignored
 # a file that may have 100 KiB, as on a disk that fills up: the last line is cut. The shell would name the signal on standard error
 small_file() { local status=0; { (ulimit -f 100; run <"$long" >"$part") || status=$?; } 2>/dev/null; cat "$part"; return "$status"; }

@@ -1,6 +1,6 @@
 #!/usr/bin/env bash
 # Writes evidence.txt, for the record of a delivery: kit, commit, sums of the files delivered, and what the last `make test` tested, proved, refused and compared. It
-# reads the logs of that run and proves nothing. What is missing, failed, or other than what was tested is said in the text, first of all, and the command fails.
+# reads the logs of that run, and proves nothing but what tests/edits.sh does. What is missing, failed, or other than what was tested is said in the text, first of all, and the command fails.
 # Usage: evidence.sh begin, as `make test` begins; evidence.sh passed "TEST..." FILE..., when its tests have passed; evidence.sh VERSION FILE... afterwards
 set -euo pipefail
 cd "$(dirname "$0")/.."
@@ -9,10 +9,10 @@ lacking=
 lacks() { lacking+="NOT EVIDENCE: $*"$'\n'; }
 
 # the C functions whose contracts are assumed, by these programs and by no other crate: docs/SAFETY.md, "How a builder checks the delivery", step 3
-assumed='axioms of grouprun: 6, libc::isatty libc::read libc::write os::c::rattle_arg os::c::rattle_arg_count os::c::rattle_set_errno
-axioms of quietrun: 6, libc::isatty libc::read libc::write os::c::rattle_arg os::c::rattle_arg_count os::c::rattle_set_errno
-axioms of rowrun: 2, libc::read libc::write
-axioms of vectors: 1, libc::write'
+assumed='axioms of grouprun: 6, libc::isatty libc::read libc::write os::c::rattle_arg os::c::rattle_errno os::c::rattle_set_errno
+axioms of quietrun: 6, libc::isatty libc::read libc::write os::c::rattle_arg os::c::rattle_errno os::c::rattle_set_errno
+axioms of rowrun: 4, libc::read libc::write os::c::__xpg_strerror_r os::c::rattle_errno
+axioms of vectors: 3, libc::write os::c::__xpg_strerror_r os::c::rattle_errno'
 
 # what a run of the tests belongs to
 state() {
@@ -79,12 +79,12 @@ gate() {
 # proved, of the same files, which the kit takes by their checksums
 proofs() { # CRATES
     awk -v crates="$1" '
-        /^axioms / && !/: none reached/ { sub(/^axioms /, ""); sub(/ \(.*/, ""); names = names (names == "" ? "" : "; ") $0 }
+        /^axioms / && !/: none reached/ { sub(/^axioms [^ ]+/, ""); sub(/ \(.*/, ""); gsub(/,/, ""); names = names $0 }
         /^logic=/ { logic = $0 }
         logic ~ /^logic=proved / && logic !~ /foreign=|pinned=no|cache=trusted|incremental=trusted/ && /^rt: [^ ]+ proved$/ {
             proved++
             axioms = match(logic, / axioms=[0-9]+/) ? substr(logic, RSTART + 8, RLENGTH - 8) + 0 : 0
-            if (axioms > 0 || names != "") some = some "\naxioms of " $2 ": " axioms ", " names
+            if (axioms > 0 || names != "") some = some "\naxioms of " $2 ": " axioms "," names
             else none++
         }
         /^rt: [^ ]+ is kept: / { kept++ }

@@ -22,11 +22,12 @@ tell() { # COMMAND-WORDS [LINE]
 }
 # the lines of the kit that say how far it is: of the gate on each crate, of other commands on each library that had to be proved; a crate that is proved already only counts
 step() { # COMMAND-WORDS LINE
+    local line
     case $2 in
     'rt: '*': its tests '*) return 0 ;;
     'rt: '*' is kept: '*) crate=$((crate + 1)) ;;
     'rt: '*' proved' | 'rt: '*' NOT PROVED'*) crate=$((crate + 1)); tell "$1" "${2#rt: }" ;;
-    'crate '*': modules loaded='*) crate=$((crate + 1)); tell "$1" "${2%: modules*} proved" ;;
+    'crate '*': modules loaded='*) crate=$((crate + 1)) line=${2%: modules*}; tell "$1" "${line#crate } proved" ;;
     esac
 }
 progress() { # COMMAND-WORDS
@@ -41,7 +42,7 @@ progress() { # COMMAND-WORDS
 
 # what a failed command said of it, or else its last lines
 reasons() {
-    awk '/: error: |: error\[|NOT PROVED|NOT REFUSED|NOT TRIED|BAD EDIT|FAILED/ && !/: its library / && n++ < 20 { print substr($0, 1, 300) } END { exit !n }' "$log" ||
+    awk '/: error: |: error\[|NOT PROVED|NOT REFUSED|NOT TRIED|BAD EDIT|FAILED|^[0-9]+ passed, / && !/: its library / && n++ < 20 { print substr($0, 1, 300) } END { exit !n }' "$log" ||
         tail -n 10 "$log"
 }
 
