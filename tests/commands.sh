@@ -89,7 +89,7 @@ make_room() {
     room=$work/room
     mkdir -p "$room"/{.ci,tools,tests,include,crates/low/must-fail}
     cp .ci/run "$room/.ci"
-    cp tools/{kit,rests,evidence}.sh "$room/tools"
+    cp tools/{kit,rests,archive,evidence}.sh "$room/tools"
     cp tests/edits.sh "$room/tests"
     cp .gitignore "$room"
     printf '.PHONY: tests\ntests:\n\t@$(TESTS)\n' >"$room/Makefile"
