@@ -2,7 +2,7 @@
 -- Assumes nothing.
 --     has: node q is in m
 --     single: node q alone
---     ◌∪◌, ◌∩◌, ◌∖◌: in one or both; in both; in the first and not in the second
+--     _∪_, _∩_, _∖_: in one or both; in both; in the first and not in the second
 --     those: the nodes below n of which a test holds
 --     below: the nodes of m below n
 --     subset: every node of a is in b
