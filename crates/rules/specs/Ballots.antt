@@ -1,15 +1,23 @@
 -- Votes as the code holds them: four arrays, one slot per sender, and the mask of the slots that hold a vote.
 -- Assumes nothing.
-use Rattle.std.specs.Prelude.{◌≡◌, Bool, true, not, ◌||◌, cond, List, ℕ, ◌<◌, get_or}
+use Rattle.std.specs.Prelude.{◌≡◌, Bool, true, not, ◌||◌, cond, List, ℕ, ◌<◌, get_or, set, replicate}
 use Rattle.std.proofs.Math.Option.{none, some}
 use Rattle.sets.specs.Sets.{has, those}
 use Rattle.state.specs.declared.Group.{Group}
+use Rattle.rules.specs.declared.Groups.{Groups}
 use Rattle.rules.specs.declared.Vote.{Vote}
 use Rattle.rules.specs.OneCycle.{Ballots, is, fits}
 
 -- the group and the vote in slot p
 abbrev pub group_at : List ℕ → List ℕ → List ℕ → ℕ → Group
 group_at numbers sets bases p = record { number = get_or numbers p 0; set = get_or sets p 0; base = get_or bases p 0 }
+
+-- the groups with that of slot p put in, and the same group in every slot
+abbrev pub with_group : Groups → ℕ → Group → Groups
+with_group s p g = record { numbers = set s.numbers p g.number; sets = set s.sets p g.set; bases = set s.bases p g.base }
+
+abbrev pub one_group : Group → Groups
+one_group g = record { numbers = replicate 64 g.number; sets = replicate 64 g.set; bases = replicate 64 g.base }
 
 abbrev pub vote_at : List ℕ → List ℕ → List ℕ → List ℕ → ℕ → Vote
 vote_at numbers sets bases views p = record { group = group_at numbers sets bases p; view = get_or views p 0 }

@@ -5,7 +5,7 @@ ghost use Rattle.std.specs.Prelude.{◌≡◌};
 ghost use Rattle.state.specs.State.{next_number};
 
 // Why a node is out: stopped or never started; it halted for want of a quorum; a quorum voted for another view than its own.
-#[derive(Clone, Copy)]
+#[derive(Clone, Copy, Debug, PartialEq, Eq)]
 pub enum Reason {
     Stopped,
     NoQuorum,
@@ -13,7 +13,7 @@ pub enum Reason {
 }
 
 // The group that a member holds: its number G, the set M of its members, and the base B of its quorums (the present and the previous group).
-#[derive(Clone, Copy)]
+#[derive(Clone, Copy, Debug, PartialEq, Eq)]
 pub struct Group {
     pub number: u32,
     pub set: u64,
@@ -21,7 +21,7 @@ pub struct Group {
 }
 
 // A member holds its group, and whether it requests in the next cycle: a bit of its heartbeat that wakes the votes of a quiet press.
-#[derive(Clone, Copy)]
+#[derive(Clone, Copy, Debug, PartialEq, Eq)]
 pub enum State {
     Out(Reason),
     Joining,
@@ -29,7 +29,7 @@ pub enum State {
 }
 
 // A node: its state, its number, and how many nodes the cluster has.
-#[derive(Clone, Copy)]
+#[derive(Clone, Copy, Debug, PartialEq, Eq)]
 pub struct Node {
     pub state: State,
     pub id: u8,
