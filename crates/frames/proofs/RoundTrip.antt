@@ -3,7 +3,6 @@ use mathlib.Core.Path.{◌≡◌, refl, sym, ap, ap₂, ◌∙◌, subst}
 use mathlib.Core.Logic.{◌⊎◌, inl, inr}
 use mathlib.Core.Bool.{Bool, true, false, not, ◌&&◌, cond, true≢false}
 use mathlib.Core.List.{List, [], ◌∷◌, ◌++◌, append_assoc, append-nil}
-use mathlib.Core.Option.{Option, none, some}
 use Prim.Native.Nat.{ℕ, ◌+◌, ◌-◌, ◌*◌, ◌/◌, ◌%◌, ◌^◌, ◌≤◌, ◌<◌}
 use native.Mathlib.Nat.{mod-lt, add-zero}
 use native.Mathlib.Omega.{arith}
@@ -13,6 +12,7 @@ use lib.Pow.{pow_pos, pow_mono}
 use lib.Bits.{and_le_r}
 use lib.Seq.{take_at, get_or_at}
 use borrow.Author.Tests.{ne_eqb, le-leb, leb-true}
+use Rattle.std.specs.Prelude.{Option, None, Some, Result, Ok, Err}
 use Rattle.sets.specs.Sets.{has, subset, below, ◌∩◌}
 use Rattle.sets.proofs.Booleans.{and_l, and_r, eqb-true}
 use Rattle.sets.proofs.Membership.{bit2}
@@ -21,11 +21,10 @@ use Rattle.bigendian.proofs.Laws.{Bytes, length_bytes, number_at_lem, number_lt,
 use Rattle.crc.specs.Crc.{header_check, frame_check, channel_start}
 use Rattle.crc.proofs.Laws.{header-lt, frame-lt, start_lt}
 use Rattle.rules.specs.declared.Vote.{Vote}
-use Rattle.frames.specs.declared.HeartbeatRead.TheVariants as beat
-use Rattle.frames.specs.declared.VoteRead.TheVariants as vote
+use Rattle.frames.specs.declared.Heartbeat.{Heartbeat}
+use Rattle.frames.specs.declared.Heartbeat.TheVariants.{Alive, Join, Request}
 use Rattle.frames.specs.declared.Fault.{Fault}
 use Rattle.frames.specs.declared.Fault.TheVariants.{Content}
-use Rattle.frames.specs.declared.HeartbeatRead.{HeartbeatRead}
 use Rattle.frames.specs.Written.{header, frame, first_byte, wrong_request, heartbeat_frame, wrong_drive, vote_payload, vote_frame, formed_vote}
 use Rattle.frames.specs.Read.{sync_of, startup_of, words_of, heartbeat_words, vote_words, fault_of, heartbeat_indicators, vote_indicators, drive_of, heartbeat_of, heartbeat_content, heartbeat_unless, read_heartbeat, is_good, payload_vote, vote_unless, read_vote, join_of, request_of}
 use Rattle.frames.proofs.Faults.{Clean, clean, clean-none, vote-length, heartbeat-length, all_five}
@@ -146,11 +145,11 @@ module _ (number cycle : ℕ) (due indicators : Bool) (channel : ℕ) (s : List 
 -- ---- heartbeats
 
 -- the answer of a heartbeat with these bits; and with any: one with a request that may not be gives 10
-abbrev pub bits_answer : ℕ → ℕ → HeartbeatRead
-bits_answer join request = cond (eqb join 0) (cond (eqb request 0) beat.Alive beat.Request) beat.Join
+abbrev pub bits_answer : ℕ → ℕ → Result Heartbeat Fault
+bits_answer join request = cond (eqb join 0) (cond (eqb request 0) (Ok Alive) (Ok Request)) (Ok Join)
 
-abbrev pub answer_of : Bool → ℕ → ℕ → HeartbeatRead
-answer_of quiet join request = cond (wrong_request quiet join request) (beat.Refused Content) (bits_answer join request)
+abbrev pub answer_of : Bool → ℕ → ℕ → Result Heartbeat Fault
+answer_of quiet join request = cond (wrong_request quiet join request) (Err Content) (bits_answer join request)
 
 -- without a request nothing is wrong
 pub unasked : (quiet : Bool) (join : ℕ) → wrong_request quiet join 0 ≡ false
@@ -217,7 +216,7 @@ heartbeat_back quiet q join request sync startup cycle channel drive hq hj hr hs
     )
 
 -- a first word with the bits of what was read, which may be
-abbrev Bits : Bool → ℕ → ℕ → HeartbeatRead → Type 0
+abbrev Bits : Bool → ℕ → ℕ → Result Heartbeat Fault → Type 0
 Bits quiet a b r = (wrong_request quiet (join_of r) (request_of r) ≡ false) × (a ≡ first_byte (join_of r) (request_of r)) × (b ≡ 0)
 
 good_bits : (quiet : Bool) (a b : ℕ) → is_good (heartbeat_of quiet a b) ≡ true → Bits quiet a b (heartbeat_of quiet a b)
@@ -225,7 +224,7 @@ unfolding heartbeat_of wrong_request
 good_bits quiet a b good = go (eqb b 0) (eqb a 0) (eqb a (2 ^ 7)) (eqb a (2 ^ 6)) quiet refl refl refl refl good
   where
     go : (z n j r w : Bool) → eqb b 0 ≡ z → eqb a 0 ≡ n → eqb a (2 ^ 7) ≡ j → eqb a (2 ^ 6) ≡ r
-        → let x = cond (not z) (beat.Refused Content) (cond n beat.Alive (cond j beat.Join (cond (r && w) beat.Request (beat.Refused Content)))) in
+        → let x = cond (not z) (Err Content) (cond n (Ok Alive) (cond j (Ok Join) (cond (r && w) (Ok Request) (Err Content)))) in
         is_good x ≡ true → Bits w a b x
     go true true j r w ez en ej er g = (refl, eqb-true en, eqb-true ez)
     go true false true r w ez en ej er g = (refl, eqb-true ej, eqb-true ez)
@@ -236,9 +235,9 @@ good_bits quiet a b good = go (eqb b 0) (eqb a 0) (eqb a (2 ^ 7)) (eqb a (2 ^ 6)
 
 -- a heartbeat that is taken: no fault, and the two bytes of the first word
 taken_content : (quiet : Bool) (o : Option Fault) (s : List ℕ) → is_good (heartbeat_unless quiet o s) ≡ true
-    → (o ≡ none) × Bits quiet (get_or s 5 0) (get_or s 6 0) (heartbeat_unless quiet o s)
-taken_content quiet (some f) s g = absurd (true≢false (sym g))
-taken_content quiet none s g = (refl, good_bits quiet (get_or s 5 0) (get_or s 6 0) g)
+    → (o ≡ None) × Bits quiet (get_or s 5 0) (get_or s 6 0) (heartbeat_unless quiet o s)
+taken_content quiet (Some f) s g = absurd (true≢false (sym g))
+taken_content quiet None s g = (refl, good_bits quiet (get_or s 5 0) (get_or s 6 0) g)
 
 -- a heartbeat that is accepted is, byte for byte, the one that would be written from its bits, indicators and drive bytes; and these can be written
 pub heartbeat_only : (quiet : Bool) (q cycle channel : ℕ) (s : List ℕ) → Bytes s
@@ -281,8 +280,8 @@ no_request q join sync startup cycle channel drive =
     (ap (λ (x : ℕ). frame (channel_start channel) (header sync startup (q + 1) (1 + length drive / 2) cycle ++ (x ∷ 0 ∷ drive))) (add-zero (join * 2 ^ 7)), λ s o. go s (ne_eqb (get_or s 5 0) (2 ^ 6) o) (fault_of (q + 1) cycle (heartbeat_words s) (heartbeat_indicators s) channel s))
   where
     go : (s : List ℕ) → eqb (get_or s 5 0) (2 ^ 6) ≡ false → (o : Option Fault) → heartbeat_unless true o s ≡ heartbeat_unless false o s
-    go s e (some f) = refl
-    go s e none = rw e
+    go s e (Some f) = refl
+    go s e None = rw e
 
 -- with no drive bytes the frame is that of paper 01, one word with its bits and nothing else; a frame of one word is read as there, where any other length was refused;
 -- and there are then no drive bytes in it
@@ -368,7 +367,7 @@ payload_back start h v l fg fm fb fv =
     λ i. record { group = record { number = eg i; set = em i; base = eb i }; view = ev i }
 
 pub vote_back : (n q : ℕ) (v : Vote) (cycle channel : ℕ) → n ≤ 64 → q < n → cycle < 64 → v.group.number < 2 ^ 32 → formed_vote n q v ≡ true
-    → read_vote n q cycle channel (vote_frame q v cycle channel) ≡ vote.Whole v
+    → read_vote n q cycle channel (vote_frame q v cycle channel) ≡ Ok v
 unfolding read_vote vote_frame
 vote_back n q v cycle channel hn hq hc hg e =
     let s = sent 0 0 (q + 65) 14 cycle channel (vote_payload v) in
@@ -381,15 +380,15 @@ vote_back n q v cycle channel hn hq hc hg e =
     let z = formed-fits n q v hn e in
     let p : payload_vote s ≡ v = payload_back _ (header 0 0 (q + 65) 14 cycle) v (length-header 0 0 (q + 65) 14 cycle) hg z.0 z.1 z.2 in
     ap (λ (o : Option Fault). vote_unless o n q s) (clean-none (q + 65) cycle (vote_words s) (vote_indicators s) channel s c)
-    ∙ ap (λ (w : Vote). cond (formed_vote n q w) (vote.Whole w) (vote.Refused Content)) p
-    ∙ ap (λ (t : Bool). cond t (vote.Whole v) (vote.Refused Content)) e
+    ∙ ap (λ (w : Vote). cond (formed_vote n q w) (Ok w) (Err Content)) p
+    ∙ ap (λ (t : Bool). cond t (Ok v) (Err Content)) e
 
 -- a vote that is taken: no fault, and the payload's
-taken_vote : (o : Option Fault) (n q : ℕ) (s : List ℕ) (v : Vote) → vote_unless o n q s ≡ vote.Whole v → (o ≡ none) × (payload_vote s ≡ v)
-taken_vote (some f) n q s v e = absurd (let z : ◌≡◌ {A = ℕ} 0 1 = cc in omega arith)
-taken_vote none n q s v e = (refl, go (formed_vote n q (payload_vote s)) (payload_vote s) e)
+taken_vote : (o : Option Fault) (n q : ℕ) (s : List ℕ) (v : Vote) → vote_unless o n q s ≡ Ok v → (o ≡ None) × (payload_vote s ≡ v)
+taken_vote (Some f) n q s v e = absurd (let z : ◌≡◌ {A = ℕ} 0 1 = cc in omega arith)
+taken_vote None n q s v e = (refl, go (formed_vote n q (payload_vote s)) (payload_vote s) e)
   where
-    go : (t : Bool) (w : Vote) → cond t (vote.Whole w) (vote.Refused Content) ≡ vote.Whole v → w ≡ v
+    go : (t : Bool) (w : Vote) → cond t (Ok w) (Err Content) ≡ Ok v → w ≡ v
     go true w h = cc
     go false w h = absurd (let z : ◌≡◌ {A = ℕ} 0 1 = cc in omega arith)
 
@@ -405,7 +404,7 @@ vote_rest s b l =
     ∙ ap (λ (r : List ℕ). bytes_of 4 (number_at s 5 4) ++ r) (bytes_rest s 9 8 b l17)
     ∙ bytes_rest s 5 4 b l9)
 
-pub vote_only : (n q : ℕ) (v : Vote) (cycle channel : ℕ) (s : List ℕ) → Bytes s → read_vote n q cycle channel s ≡ vote.Whole v → s ≡ vote_frame q v cycle channel
+pub vote_only : (n q : ℕ) (v : Vote) (cycle channel : ℕ) (s : List ℕ) → Bytes s → read_vote n q cycle channel s ≡ Ok v → s ≡ vote_frame q v cycle channel
 unfolding read_vote vote_frame
 vote_only n q v cycle channel s b e =
     let p = taken_vote (fault_of (q + 65) cycle (vote_words s) (vote_indicators s) channel s) n q s v e in

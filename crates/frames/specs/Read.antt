@@ -22,14 +22,15 @@
 --     vote_unless: the same, unless the frame is refused
 --     read_vote: the vote of node q from one copy
 --     is_good: whether a copy was read and not refused
---     counted_on: what a copy gives that is the only one, or equal to the other; missed where it is refused
+--     counted_on: what a copy gives that is the only one, or equal to the other; nothing where it is refused, and so missed
 --     counted_of: what two copies give, by what was read in each and whether their payloads are equal
 --     same_payload: whether two copies have equal payloads
 --     receive_heartbeat, receive_vote: what two copies give
+--     heard_in: what is heard, by what counts
+--     drive_on: the drive bytes of the copy on a channel
 --     drive_counted: the drive bytes of the copy that counts
 --     drive_heard: those of two copies
-use Rattle.std.specs.Prelude.{Bool, true, false, not, ◌&&◌, ◌||◌, cond, List, [], ℕ, ◌+◌, ◌-◌, ◌*◌, ◌/◌, ◌%◌, ◌^◌, eqb, ltb, leb, get_or, length, take, drop}
-use Rattle.std.proofs.Math.Option.{Option, none, some}
+use Rattle.std.specs.Prelude.{Bool, true, false, Option, None, Some, Result, Ok, Err, not, ◌&&◌, ◌||◌, cond, List, [], ℕ, ◌+◌, ◌-◌, ◌*◌, ◌/◌, ◌%◌, ◌^◌, eqb, ltb, leb, get_or, length, take, drop}
 use Rattle.parts.specs.Compared.{same_bytes}
 use Rattle.bigendian.specs.BigEndian.{number_at}
 use Rattle.crc.specs.Crc.{header_check, frame_check, channel_start}
@@ -37,16 +38,11 @@ use Rattle.rules.specs.declared.Vote.{Vote}
 use Rattle.rules.specs.OneCycle.{same_vote}
 use Rattle.frames.specs.declared.Fault.{Fault}
 use Rattle.frames.specs.declared.Fault.TheVariants.{Length, HeaderCheck, FrameCheck, NullFrame, NotDue, Content}
-use Rattle.frames.specs.declared.HeartbeatRead.{HeartbeatRead}
-use Rattle.frames.specs.declared.HeartbeatRead.TheVariants as beat
-use Rattle.frames.specs.declared.VoteRead.{VoteRead}
-use Rattle.frames.specs.declared.VoteRead.TheVariants as vote
-use Rattle.frames.specs.declared.HeartbeatReceived.TheVariants as beats
-use Rattle.frames.specs.declared.Copy.{Copy}
-use Rattle.frames.specs.declared.Copy.TheVariants.{Neither, OnA, OnB}
-use Rattle.frames.specs.declared.HeartbeatCounted.{HeartbeatCounted}
-use Rattle.frames.specs.declared.VoteReceived.{VoteReceived}
-use Rattle.frames.specs.declared.VoteReceived.TheVariants as votes
+use Rattle.frames.specs.declared.Heartbeat.{Heartbeat}
+use Rattle.frames.specs.declared.Heartbeat.TheVariants.{Alive, Join, Request}
+use Rattle.frames.specs.declared.Channel.{Channel}
+use Rattle.frames.specs.declared.Channel.TheVariants.{A, B}
+use Rattle.frames.specs.declared.Counted.{Counted}
 use Rattle.frames.specs.Written.{formed_vote}
 
 -- the refusal's number
@@ -130,11 +126,11 @@ vote_indicators s = eqb (sync_of s) 0 && eqb (startup_of s) 0
 -- the first of 5 to 9 that holds of s
 unfoldable pub fault_of : ℕ → ℕ → Bool → Bool → ℕ → List ℕ → Option Fault
 fault_of number cycle words indicators channel s =
-    cond (wrong_length s) (some Length)
-    (cond (wrong_header s) (some HeaderCheck)
-    (cond (wrong_frame channel s) (some FrameCheck)
-    (cond (is_null s) (some NullFrame)
-    (cond (is_due number cycle s && words && indicators) none (some NotDue)))))
+    cond (wrong_length s) (Some Length)
+    (cond (wrong_header s) (Some HeaderCheck)
+    (cond (wrong_frame channel s) (Some FrameCheck)
+    (cond (is_null s) (Some NullFrame)
+    (cond (is_due number cycle s && words && indicators) None (Some NotDue)))))
 
 -- ---- payloads: "Five header bytes"; "Then payload, then 24 check bits."
 
@@ -148,37 +144,37 @@ drive_of s = drop 2 (payload_of s)
 -- ---- heartbeats: "bit 7 of the first byte is join, all else 0"; "10: heartbeat bits that must be 0". Request 2: "10 looks at the first word alone". Request 3: "In a
 -- quiet press bit 6 of a heartbeat's first byte becomes a request. Read .. it gives 10 together with the join bit, and in mode 0 also alone"
 
-unfoldable pub heartbeat_of : Bool → ℕ → ℕ → HeartbeatRead
+unfoldable pub heartbeat_of : Bool → ℕ → ℕ → Result Heartbeat Fault
 heartbeat_of quiet a b =
-    cond (not (eqb b 0)) (beat.Refused Content)
-    (cond (eqb a 0) beat.Alive
-    (cond (eqb a (2 ^ 7)) beat.Join
-    (cond (eqb a (2 ^ 6) && quiet) beat.Request
-    (beat.Refused Content))))
+    cond (not (eqb b 0)) (Err Content)
+    (cond (eqb a 0) (Ok Alive)
+    (cond (eqb a (2 ^ 7)) (Ok Join)
+    (cond (eqb a (2 ^ 6) && quiet) (Ok Request)
+    (Err Content))))
 
-abbrev pub heartbeat_content : Bool → List ℕ → HeartbeatRead
+abbrev pub heartbeat_content : Bool → List ℕ → Result Heartbeat Fault
 heartbeat_content quiet s = heartbeat_of quiet (get_or s 5 0) (get_or s 6 0)
 
-abbrev pub heartbeat_unless : Bool → Option Fault → List ℕ → HeartbeatRead
-heartbeat_unless quiet none s = heartbeat_content quiet s
-heartbeat_unless quiet (some f) s = beat.Refused f
+abbrev pub heartbeat_unless : Bool → Option Fault → List ℕ → Result Heartbeat Fault
+heartbeat_unless quiet None s = heartbeat_content quiet s
+heartbeat_unless quiet (Some f) s = Err f
 
 -- the heartbeat of node q in a cycle, from the copy on a channel
-unfoldable pub read_heartbeat : Bool → ℕ → ℕ → ℕ → List ℕ → HeartbeatRead
+unfoldable pub read_heartbeat : Bool → ℕ → ℕ → ℕ → List ℕ → Result Heartbeat Fault
 read_heartbeat quiet q cycle channel s = heartbeat_unless quiet (fault_of (q + 1) cycle (heartbeat_words s) (heartbeat_indicators s) channel s) s
 
 -- bit 7 and bit 6 of what was read, 0 where it is refused
-abbrev pub join_of : HeartbeatRead → ℕ
-join_of beat.Alive = 0
-join_of beat.Join = 1
-join_of beat.Request = 0
-join_of (beat.Refused f) = 0
+abbrev pub join_of : Result Heartbeat Fault → ℕ
+join_of (Ok Alive) = 0
+join_of (Ok Join) = 1
+join_of (Ok Request) = 0
+join_of (Err f) = 0
 
-abbrev pub request_of : HeartbeatRead → ℕ
-request_of beat.Alive = 0
-request_of beat.Join = 0
-request_of beat.Request = 1
-request_of (beat.Refused f) = 0
+abbrev pub request_of : Result Heartbeat Fault → ℕ
+request_of (Ok Alive) = 0
+request_of (Ok Join) = 0
+request_of (Ok Request) = 1
+request_of (Err f) = 0
 
 -- ---- votes
 
@@ -186,53 +182,56 @@ abbrev pub payload_vote : List ℕ → Vote
 payload_vote s =
     record { group = record { number = number_at s 5 4; set = number_at s 9 8; base = number_at s 17 8 }; view = number_at s 25 8 }
 
-abbrev pub vote_content : ℕ → ℕ → List ℕ → VoteRead
-vote_content n q s = cond (formed_vote n q (payload_vote s)) (vote.Whole (payload_vote s)) (vote.Refused Content)
+abbrev pub vote_content : ℕ → ℕ → List ℕ → Result Vote Fault
+vote_content n q s = cond (formed_vote n q (payload_vote s)) (Ok (payload_vote s)) (Err Content)
 
-abbrev pub vote_unless : Option Fault → ℕ → ℕ → List ℕ → VoteRead
-vote_unless none n q s = vote_content n q s
-vote_unless (some f) n q s = vote.Refused f
+abbrev pub vote_unless : Option Fault → ℕ → ℕ → List ℕ → Result Vote Fault
+vote_unless None n q s = vote_content n q s
+vote_unless (Some f) n q s = Err f
 
-unfoldable pub read_vote : ℕ → ℕ → ℕ → ℕ → List ℕ → VoteRead
+unfoldable pub read_vote : ℕ → ℕ → ℕ → ℕ → List ℕ → Result Vote Fault
 read_vote n q cycle channel s = vote_unless (fault_of (q + 65) cycle (vote_words s) (vote_indicators s) channel s) n q s
 
 -- ---- "A unit reads both channels. One good copy counts; two good copies count if their payloads are equal, else the frame is missed." Request 2: "Two good copies
 -- with different drive data are still a missed frame."
 
-abbrev pub is_good : HeartbeatRead → Bool
-is_good beat.Alive = true
-is_good beat.Join = true
-is_good beat.Request = true
-is_good (beat.Refused f) = false
+abbrev pub is_good : Result Heartbeat Fault → Bool
+is_good (Ok h) = true
+is_good (Err f) = false
 
-abbrev pub counted_on : Copy → HeartbeatRead → HeartbeatCounted
-counted_on copy beat.Alive = record { heard = beats.Alive; copy = copy }
-counted_on copy beat.Join = record { heard = beats.Join; copy = copy }
-counted_on copy beat.Request = record { heard = beats.Request; copy = copy }
-counted_on copy (beat.Refused f) = record { heard = beats.Missed; copy = Neither }
+abbrev pub counted_on : Channel → Result Heartbeat Fault → Option Counted
+counted_on channel (Ok h) = Some (record { heartbeat = h; channel = channel })
+counted_on channel (Err f) = None
 
-abbrev pub counted_of : HeartbeatRead → HeartbeatRead → Bool → HeartbeatCounted
-counted_of a b equal =
-    cond (is_good a) (cond (is_good b && not equal) (record { heard = beats.Missed; copy = Neither }) (counted_on OnA a)) (counted_on OnB b)
+abbrev pub counted_of : Result Heartbeat Fault → Result Heartbeat Fault → Bool → Option Counted
+counted_of a b equal = cond (is_good a) (cond (is_good b && not equal) None (counted_on A a)) (counted_on B b)
 
 unfoldable pub same_payload : List ℕ → List ℕ → Bool
 same_payload a b = same_bytes (payload_of a) (payload_of b)
 
 -- what comes of the copies a on channel A and b on channel B of a heartbeat of node q
-unfoldable pub receive_heartbeat : Bool → ℕ → ℕ → List ℕ → List ℕ → HeartbeatCounted
+unfoldable pub receive_heartbeat : Bool → ℕ → ℕ → List ℕ → List ℕ → Option Counted
 receive_heartbeat quiet q cycle a b = counted_of (read_heartbeat quiet q cycle 0 a) (read_heartbeat quiet q cycle 1 b) (same_payload a b)
 
+-- what is heard, nothing where it is missed
+abbrev pub heard_in : Option Counted → Option Heartbeat
+heard_in None = None
+heard_in (Some c) = Some c.heartbeat
+
 -- the drive bytes with it, none where it is missed
-abbrev pub drive_counted : Copy → List ℕ → List ℕ → List ℕ
-drive_counted Neither a b = []
-drive_counted OnA a b = drive_of a
-drive_counted OnB a b = drive_of b
+abbrev pub drive_on : Channel → List ℕ → List ℕ → List ℕ
+drive_on A a b = drive_of a
+drive_on B a b = drive_of b
+
+abbrev pub drive_counted : Option Counted → List ℕ → List ℕ → List ℕ
+drive_counted None a b = []
+drive_counted (Some c) a b = drive_on c.channel a b
 
 unfoldable pub drive_heard : Bool → ℕ → ℕ → List ℕ → List ℕ → List ℕ
-drive_heard quiet q cycle a b = drive_counted (receive_heartbeat quiet q cycle a b).copy a b
+drive_heard quiet q cycle a b = drive_counted (receive_heartbeat quiet q cycle a b) a b
 
-abbrev pub receive_vote : VoteRead → VoteRead → VoteReceived
-receive_vote (vote.Whole v) (vote.Whole w) = cond (same_vote v w) (votes.Whole v) votes.Missed
-receive_vote (vote.Whole v) (vote.Refused f) = votes.Whole v
-receive_vote (vote.Refused f) (vote.Whole w) = votes.Whole w
-receive_vote (vote.Refused f) (vote.Refused g) = votes.Missed
+abbrev pub receive_vote : Result Vote Fault → Result Vote Fault → Option Vote
+receive_vote (Ok v) (Ok w) = cond (same_vote v w) (Some v) None
+receive_vote (Ok v) (Err f) = Some v
+receive_vote (Err f) (Ok w) = Some w
+receive_vote (Err f) (Err g) = None

@@ -1,10 +1,17 @@
 // Heartbeat and vote frames: how they are laid out and read, as definitions with their laws, and what reading one can find.
 #![tactic(auto)]
 
-use rules::Vote;
+ghost use Rattle.std.specs.Prelude.{◌≡◌, true, ◌<◌};
+
+// The two kinds of frame.
+#[derive(Clone, Copy, Debug, PartialEq, Eq)]
+pub enum Kind {
+    Heartbeat,
+    Vote,
+}
 
 // Why a frame is refused, in the order looked at.
-#[derive(Clone, Copy)]
+#[derive(Clone, Copy, Debug, PartialEq, Eq)]
 pub enum Fault {
     Length,
     HeaderCheck,
@@ -14,56 +21,44 @@ pub enum Fault {
     Content,
 }
 
-// What reading a heartbeat finds: a member's, a joining node's, a member's that requests, or a refusal.
-#[derive(Clone, Copy)]
-pub enum HeartbeatRead {
-    Alive,
-    Join,
-    Request,
-    Refused(Fault),
-}
-
-// What reading a vote finds.
-#[derive(Clone, Copy)]
-pub enum VoteRead {
-    Whole(Vote),
-    Refused(Fault),
-}
-
-// What comes of the two copies of a heartbeat.
-#[derive(Clone, Copy)]
-pub enum HeartbeatReceived {
-    Missed,
+// What a heartbeat says: a member's, a joining node's, or that of a member that requests.
+#[derive(Clone, Copy, Debug, PartialEq, Eq)]
+pub enum Heartbeat {
     Alive,
     Join,
     Request,
 }
 
-// Which of the two copies of a heartbeat counts.
-#[derive(Clone, Copy)]
-pub enum Copy {
-    Neither,
-    OnA,
-    OnB,
+// On which channel a copy came.
+#[derive(Clone, Copy, Debug, PartialEq, Eq)]
+pub enum Channel {
+    A,
+    B,
 }
 
-// What comes of the two copies of a heartbeat, and whose drive bytes count.
-#[derive(Clone, Copy)]
-pub struct HeartbeatCounted {
-    pub heard: HeartbeatReceived,
-    pub copy: Copy,
+// What the two copies of a heartbeat that is not missed give, and whose drive bytes count.
+#[derive(Clone, Copy, Debug, PartialEq, Eq)]
+pub struct Counted {
+    pub heartbeat: Heartbeat,
+    pub channel: Channel,
 }
 
-// What comes of the two copies of a vote.
-#[derive(Clone, Copy)]
-pub enum VoteReceived {
-    Missed,
-    Whole(Vote),
+// Where a frame is written: its node, cycle and channel.
+#[derive(Clone, Copy, Debug, PartialEq, Eq)]
+pub struct Slot {
+    pub node: u32,
+    pub cycle: u32,
+    pub channel: u32,
+    ghost node_bound: { node < 64 },
+    ghost cycle_bound: { cycle < 64 },
 }
 
-// What refusals 5 to 9 leave of a frame.
-#[derive(Clone, Copy)]
-pub enum Looked {
-    Due,
-    Refused(Fault),
+// The bits of a heartbeat that its sender chooses: join and request in its first word, sync and startup in its header.
+#[derive(Clone, Copy, Debug, PartialEq, Eq)]
+pub struct Bits {
+    pub join: bool,
+    pub request: bool,
+    pub sync: bool,
+    pub startup: bool,
+    ghost startup_with_sync: { startup ≡ true → sync ≡ true },
 }
