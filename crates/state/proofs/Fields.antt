@@ -1,9 +1,9 @@
 -- What reading an image finds, by its length, its place and its kind. Assumes nothing.
-use Rattle.std.proofs.Common.{◌≡◌, ℕ, ◌<◌, ◌≤◌, Bool, true, false, ◌&&◌, eqb, ltb, leb, ◌⊎◌, List, length, get_or, refl, ◌∙◌, inl, inr, arith, ltb-true, le-ltb, lt-ltb, ne_eqb, eqb-true, leb-true}
+use Rattle.std.proofs.Common.{◌≡◌, ℕ, ◌<◌, ◌≤◌, Bool, true, false, ◌&&◌, eqb, ltb, leb, ◌⊎◌, List, length, get_or, refl, ◌∙◌, inl, inr, arith, ltb-true, le-ltb, lt-ltb, ne_eqb, eqb-true, leb-true, Err}
 use mathlib.Core.Bool.{and-true, and-false}
 use Rattle.sets.proofs.Booleans.{and_l, and_r, or-e}
 use Rattle.state.specs.declared.State.TheVariants.{Out, Joining, Member}
-use Rattle.state.specs.declared.Decoded.TheVariants.{WrongLength, Malformed}
+use Rattle.refusal.specs.declared.Refusal.TheVariants.{Length, Image}
 use Rattle.state.specs.State.{formed_place, formed_sets}
 use Rattle.state.specs.Image.{kind_at, reason_at, group_at, is_zero, reason_of, node_if, member_reason, formed_reason, well_formed, decoded}
 
@@ -38,15 +38,15 @@ place_bounds id n e =
 abbrev pub place_at : List ℕ → Bool
 place_at s = formed_place (get_or s 2 0) (get_or s 3 0)
 
-pub wrong_length_lem : (quiet : Bool) (s : List ℕ) → (length s ≡ 24 → ⊥) → decoded quiet s ≡ WrongLength
+pub wrong_length_lem : (quiet : Bool) (s : List ℕ) → (length s ≡ 24 → ⊥) → decoded quiet s ≡ Err Length
 unfolding decoded
 wrong_length_lem quiet s h = simp (ne_eqb (length s) 24 h)
 
-pub no_place : (quiet : Bool) (s : List ℕ) → length s ≡ 24 → place_at s ≡ false → decoded quiet s ≡ Malformed
+pub no_place : (quiet : Bool) (s : List ℕ) → length s ≡ 24 → place_at s ≡ false → decoded quiet s ≡ Err Image
 unfolding decoded well_formed
 no_place quiet s l p = simp (l, p, and-false)
 
-pub kind_unknown : (quiet : Bool) (s : List ℕ) → length s ≡ 24 → 3 ≤ kind_at s → decoded quiet s ≡ Malformed
+pub kind_unknown : (quiet : Bool) (s : List ℕ) → length s ≡ 24 → 3 ≤ kind_at s → decoded quiet s ≡ Err Image
 unfolding decoded well_formed
 kind_unknown quiet s l k = simp (l, le-ltb (kind_at s) 3 k)
 

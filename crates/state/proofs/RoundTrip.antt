@@ -1,5 +1,5 @@
 -- A well-formed node is what its image is read as, and what is read as a node is that node's image. Assumes nothing.
-use Rattle.std.proofs.Common.{◌≡◌, ℕ, zero, suc, ◌%◌, ◌^◌, ◌<◌, ◌≤◌, Bool, true, false, cond, not, ◌&&◌, ◌||◌, eqb, ltb, ◌⊎◌, List, [], ◌∷◌, ◌++◌, length, get_or, drop, sym, refl, ap, ◌∙◌, inl, inr, append-nil, mod-lt, arith, lit<, drop_of_length-le, drop-cons, pow_pos, pow_mono}
+use Rattle.std.proofs.Common.{◌≡◌, ℕ, zero, suc, ◌%◌, ◌^◌, ◌<◌, ◌≤◌, Bool, true, false, cond, not, ◌&&◌, ◌||◌, eqb, ltb, ◌⊎◌, List, [], ◌∷◌, ◌++◌, length, get_or, drop, sym, refl, ap, ◌∙◌, inl, inr, append-nil, mod-lt, arith, lit<, Ok, Err, drop_of_length-le, drop-cons, pow_pos, pow_mono}
 use mathlib.Core.Bool.{false≢true}
 use lib.Bits.{bit_and, and_le_r}
 use Rattle.sets.specs.Sets.{has, ◌∩◌, subset, below}
@@ -12,7 +12,7 @@ use Rattle.state.specs.declared.Group.{Group}
 use Rattle.state.specs.declared.State.{State}
 use Rattle.state.specs.declared.State.TheVariants.{Out, Joining, Member}
 use Rattle.state.specs.declared.Node.{Node}
-use Rattle.state.specs.declared.Decoded.TheVariants.{Good, WrongLength, Malformed}
+use Rattle.refusal.specs.declared.Refusal.TheVariants.{Length, Image}
 use Rattle.state.specs.State.{reason_code, formed_sets, formed_place, formed_state, formed}
 use Rattle.state.specs.Image.{kind_code, reason_byte, no_group, group_bytes, layout, image_of}
 use Rattle.state.specs.Image.{kind_at, reason_at, group_at, is_zero, member_reason, formed_reason, well_formed, reason_of, state_of, node_if, node_at, decoded}
@@ -56,14 +56,14 @@ reason_back Outvoted = (refl, refl)
 
 -- a member's reason says whether it requests
 request_back : (quiet a : Bool) (id n : ℕ) (g : Group) → (quiet || not a) ≡ true
-    → node_if (member_reason quiet (cond a 1 0) && true) (Member g (eqb (cond a 1 0) 1)) id n ≡ Good (record { state = Member g a; id = id; nodes = n })
+    → node_if (member_reason quiet (cond a 1 0) && true) (Member g (eqb (cond a 1 0) 1)) id n ≡ Ok (record { state = Member g a; id = id; nodes = n })
 request_back true true id n g e = refl
 request_back true false id n g e = refl
 request_back false true id n g e = absurd (false≢true e)
 request_back false false id n g e = refl
 
 from_state : (quiet : Bool) (t : State) (id n : ℕ) → formed_place id n ≡ true → formed_state quiet id n t ≡ true
-    → decoded quiet (image_of (record { state = t; id = id; nodes = n })) ≡ Good (record { state = t; id = id; nodes = n })
+    → decoded quiet (image_of (record { state = t; id = id; nodes = n })) ≡ Ok (record { state = t; id = id; nodes = n })
 unfolding image_of
 from_state quiet (Out r) id n p f =
     of_out quiet _ (image_length (record { state = Out r; id = id; nodes = n })) p refl
@@ -81,7 +81,7 @@ from_state quiet (Member g a) id n p f =
     (group_back 2 (cond a 1 0) id n g (ltb-lt (and_l (ltb g.number (2 ^ 32)) (formed_sets id n g.set g.base) group)) fit.0 fit.1)
     ∙ rw sets (request_back quiet a id n g (and_l (quiet || not a) (ltb g.number (2 ^ 32) && formed_sets id n g.set g.base) f))
 
-pub round_trip : (quiet : Bool) (n : Node) → formed quiet n ≡ true → decoded quiet (image_of n) ≡ Good n
+pub round_trip : (quiet : Bool) (n : Node) → formed quiet n ≡ true → decoded quiet (image_of n) ≡ Ok n
 unfolding formed
 round_trip quiet n f =
     let place = formed_place n.id n.nodes in
@@ -115,11 +115,11 @@ sound quiet s l w =
     let r = and6 _ _ _ _ _ _ w in
     record { whole = l; kind = r.0; reason = r.1; place = r.2; no_reason = r.3; no_group = r.4; sets = r.5 }
 
-good_sound : (quiet : Bool) (s : List ℕ) (n : Node) → decoded quiet s ≡ Good n → Sound quiet s × (node_at s ≡ n)
+good_sound : (quiet : Bool) (s : List ℕ) (n : Node) → decoded quiet s ≡ Ok n → Sound quiet s × (node_at s ≡ n)
 unfolding decoded
 good_sound quiet s n = go (eqb (length s) 24) (well_formed quiet s) refl refl
   where
-    go : (b c : Bool) → eqb (length s) 24 ≡ b → well_formed quiet s ≡ c → cond b (cond c (Good (node_at s)) Malformed) WrongLength ≡ Good n → Sound quiet s × (node_at s ≡ n)
+    go : (b c : Bool) → eqb (length s) 24 ≡ b → well_formed quiet s ≡ c → cond b (cond c (Ok (node_at s)) (Err Image)) (Err Length) ≡ Ok n → Sound quiet s × (node_at s ≡ n)
     go true true l w e = (sound quiet s (eqb-true l) w, cc)
     go true false l w e = let z : ◌≡◌ {A = ℕ} 0 1 = cc in absurd (omega arith)
     go false c l w e = let z : ◌≡◌ {A = ℕ} 0 1 = cc in absurd (omega arith)
@@ -184,7 +184,7 @@ state_formed quiet (suc (suc zero)) r id n g er h e hk =
     (and_i (ltb g.number (2 ^ 32)) (formed_sets id n g.set g.base) (ltb-true h) e)
 state_formed quiet (suc (suc (suc k))) r id n g er h e hk = let l : suc (suc (suc k)) < 3 = ltb-lt hk in absurd (omega arith)
 
-pub image_back : (quiet : Bool) (s : List ℕ) (n : Node) → Bytes s → decoded quiet s ≡ Good n → image_of n ≡ s
+pub image_back : (quiet : Bool) (s : List ℕ) (n : Node) → Bytes s → decoded quiet s ≡ Ok n → image_of n ≡ s
 unfolding image_of
 image_back quiet s n b e =
     let r = good_sound quiet s n e in
@@ -192,7 +192,7 @@ image_back quiet s n b e =
     let same = state_back quiet (kind_at s) (reason_at s) (group_at s) w.kind w.reason w.no_reason w.no_group in
     ap image_of (sym r.1) ∙ rw (same.0, same.1, same.2) (layout_back s w.whole b)
 
-pub decoded-formed : (quiet : Bool) (s : List ℕ) (n : Node) → Bytes s → decoded quiet s ≡ Good n → formed quiet n ≡ true
+pub decoded-formed : (quiet : Bool) (s : List ℕ) (n : Node) → Bytes s → decoded quiet s ≡ Ok n → formed quiet n ≡ true
 unfolding formed
 decoded-formed quiet s n b e =
     let r = good_sound quiet s n e in

@@ -1,15 +1,16 @@
 -- Paper 01, "State": the 24-byte image of a node.
 -- Assumes nothing.
-use Rattle.std.specs.Prelude.{ℕ, zero, suc, Bool, cond, not, ◌&&◌, ◌||◌, List, ◌∷◌, ◌++◌, length, ◌==◌, nat_lt, slice_index}
+use Rattle.std.specs.Prelude.{ℕ, zero, suc, Bool, cond, not, ◌&&◌, ◌||◌, List, ◌∷◌, ◌++◌, length, ◌==◌, nat_lt, slice_index, Result, Ok, Err}
 use Rattle.bigendian.specs.BigEndian.{bytes_of, number_at}
+use Rattle.refusal.specs.declared.Refusal.{Refusal}
+use Rattle.refusal.specs.declared.Refusal.TheVariants.{Length, Image}
+use Rattle.refusal.specs.Codes.{status_of}
 use Rattle.state.specs.declared.Reason.{Reason}
 use Rattle.state.specs.declared.Reason.TheVariants.{Stopped, NoQuorum, Outvoted}
 use Rattle.state.specs.declared.Group.{Group}
 use Rattle.state.specs.declared.State.{State}
 use Rattle.state.specs.declared.State.TheVariants.{Out, Joining, Member}
 use Rattle.state.specs.declared.Node.{Node}
-use Rattle.state.specs.declared.Decoded.{Decoded}
-use Rattle.state.specs.declared.Decoded.TheVariants.{Good, WrongLength, Malformed}
 use Rattle.state.specs.State.{reason_code, formed_sets, formed_place}
 
 -- "Its image has 24 bytes: kind (0 out, 1 joining, 2 member), reason, node, N, G in 4, M in 8, B in 8."
@@ -81,17 +82,15 @@ state_of (suc zero) r g = Joining
 state_of (suc (suc k)) r g = Member g (r == 1)
 
 -- a node that passed a test, or not
-abbrev pub node_if : Bool → State → ℕ → ℕ → Decoded
-node_if test t id n = cond test (Good (record { state = t; id = id; nodes = n })) Malformed
+abbrev pub node_if : Bool → State → ℕ → ℕ → Result Node Refusal
+node_if test t id n = cond test (Ok (record { state = t; id = id; nodes = n })) (Err Image)
 
 abbrev pub node_at : List ℕ → Node
 node_at s = record { state = state_of (kind_at s) (reason_at s) (group_at s); id = slice_index s 2; nodes = slice_index s 3 }
 
 -- What reading an image finds, in a quiet press or in one that votes in every cycle, and the refusal's number. "3: a lent buffer of another length than named here"; "4: a state image not well formed".
-unfoldable pub decoded : Bool → List ℕ → Decoded
-decoded quiet s = cond (length s == 24) (cond (well_formed quiet s) (Good (node_at s)) Malformed) WrongLength
+unfoldable pub decoded : Bool → List ℕ → Result Node Refusal
+decoded quiet s = cond (length s == 24) (cond (well_formed quiet s) (Ok (node_at s)) (Err Image)) (Err Length)
 
-abbrev pub refusal : Decoded → ℕ
-refusal (Good n) = 0
-refusal WrongLength = 3
-refusal Malformed = 4
+abbrev pub refusal : Result Node Refusal → ℕ
+refusal = status_of

@@ -36,14 +36,6 @@ pub struct Node {
     pub nodes: u8,
 }
 
-// What reading an image finds.
-#[derive(Clone, Copy)]
-pub enum Decoded {
-    Good(Node),
-    WrongLength,
-    Malformed,
-}
-
 // The group number after g.
 pub fn next_number(g: u32) -> u32
     ensures { result ≡ next_number g }
