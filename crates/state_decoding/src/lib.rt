@@ -5,19 +5,14 @@ ghost use Rattle.std.specs.Prelude.{◌≡◌, ◌&&◌, ◌≤◌, ◌<◌, eqb
 ghost use Rattle.state.specs.State.{formed_place, formed_sets};
 ghost use Rattle.state.specs.Image.{is_zero, group_at, member_reason, reason_of, state_of, node_at, node_if, decoded};
 
-use state::{Decoded, Group, Node, Reason, State};
+use refusal::Refusal;
+use state::{Group, Node, Reason, State};
 
 // Whether N is one that a cluster can have, and the node below it.
 pub fn place_formed(id: u8, n: u8) -> bool
     ensures { result ≡ formed_place id n }
 {
-    if n < 2 {
-        return false;
-    }
-    if n > 64 {
-        return false;
-    }
-    id < n
+    n >= 2 && n <= 64 && id < n
 }
 
 // Whether a member may have these sets.
@@ -25,25 +20,13 @@ pub fn sets_formed(id: u8, n: u8, m: u64, b: u64) -> bool
     requires { (id < 64) × (n ≤ 64) }
     ensures { result ≡ formed_sets id n m b }
 {
-    if !sets::contains(m, id as usize) {
-        return false;
-    }
-    if !sets::subset(m, b) {
-        return false;
-    }
-    sets::below(n as usize, b) == b
+    sets::contains(m, id as usize) && sets::subset(m, b) && sets::below(n as usize, b) == b
 }
 
 fn is_zero(g: Group) -> bool
     ensures { result ≡ is_zero g }
 {
-    if g.number != 0 {
-        return false;
-    }
-    if g.set != 0 {
-        return false;
-    }
-    g.base == 0
+    g == Group::default()
 }
 
 fn group_at(s: &[u8]) -> Group
@@ -57,54 +40,40 @@ fn group_at(s: &[u8]) -> Group
     }
 }
 
-fn node_if(test: bool, state: State, id: u8, n: u8) -> Decoded
+fn node_if(test: bool, state: State, id: u8, n: u8) -> Result<Node, Refusal>
     ensures { result ≡ node_if test state id n }
 {
     if test {
-        Decoded::Good(Node {
+        Ok(Node {
             state: state,
             id: id,
             nodes: n,
         })
     } else {
-        Decoded::Malformed
-    }
-}
-
-fn reason_of(code: u8) -> Reason
-    ensures { result ≡ reason_of code }
-{
-    match code {
-        0 => Reason::Stopped,
-        1 => Reason::NoQuorum,
-        _ => Reason::Outvoted,
+        Err(Refusal::Image)
     }
 }
 
 // Kind 0: a known reason, and no group.
-fn out_node(reason: u8, id: u8, n: u8, g: Group) -> Decoded
+fn out_node(reason: u8, id: u8, n: u8, g: Group) -> Result<Node, Refusal>
     ensures { result ≡ node_if (ltb reason 3 && is_zero g) (State.Out (reason_of reason)) id n }
 {
-    node_if(
-        (reason < 3) & is_zero(g),
-        State::Out(reason_of(reason)),
-        id,
-        n,
-    )
+    let known = Reason::try_from(reason)?;
+    node_if(is_zero(g), State::Out(known), id, n)
 }
 
 // Kind 1: no reason, and no group.
-fn joining_node(reason: u8, id: u8, n: u8, g: Group) -> Decoded
+fn joining_node(reason: u8, id: u8, n: u8, g: Group) -> Result<Node, Refusal>
     ensures { result ≡ node_if (eqb reason 0 && is_zero g) State.Joining id n }
 {
     match reason {
         0 => node_if(is_zero(g), State::Joining, id, n),
-        _ => Decoded::Malformed,
+        _ => Err(Refusal::Image),
     }
 }
 
 // Kind 2: a reason, in a quiet press alone, for a member that requests, and sets that a member may have.
-fn member_node(quiet: bool, reason: u8, id: u8, n: u8, g: Group) -> Decoded
+fn member_node(quiet: bool, reason: u8, id: u8, n: u8, g: Group) -> Result<Node, Refusal>
     requires { (id < 64) × (n ≤ 64) }
     ensures { result ≡ node_if (member_reason quiet reason && formed_sets id n g.set g.base) (State.Member g (eqb reason 1)) id n }
 {
@@ -114,23 +83,23 @@ fn member_node(quiet: bool, reason: u8, id: u8, n: u8, g: Group) -> Decoded
         1 => if quiet {
             node_if(formed, State::Member(g, true), id, n)
         } else {
-            Decoded::Malformed
+            Err(Refusal::Image)
         },
-        _ => Decoded::Malformed,
+        _ => Err(Refusal::Image),
     }
 }
 
 // The node of an image, in a quiet press or in one that votes in every cycle.
-pub fn decode(quiet: bool, s: &[u8]) -> Decoded
+pub fn decode(quiet: bool, s: &[u8]) -> Result<Node, Refusal>
     ensures { result ≡ decoded quiet s.now }
 {
     if s.len() != 24 {
-        return Decoded::WrongLength;
+        return Err(Refusal::Length);
     }
     let id = s[2];
     let n = s[3];
     if !place_formed(id, n) {
-        return Decoded::Malformed;
+        return Err(Refusal::Image);
     }
     let reason = s[1];
     let g = group_at(s);
@@ -138,7 +107,7 @@ pub fn decode(quiet: bool, s: &[u8]) -> Decoded
         0 => out_node(reason, id, n, g),
         1 => joining_node(reason, id, n, g),
         2 => member_node(quiet, reason, id, n, g),
-        _ => Decoded::Malformed,
+        _ => Err(Refusal::Image),
     }
 }
 
@@ -146,7 +115,7 @@ fn state_of(kind: u8, reason: u8, g: Group) -> State
     ensures { result ≡ state_of kind reason g }
 {
     match kind {
-        0 => State::Out(reason_of(reason)),
+        0 => State::Out(Reason::try_from(reason).unwrap_or(Reason::Outvoted)),
         1 => State::Joining,
         _ => State::Member(g, reason == 1),
     }
