@@ -1,15 +1,13 @@
-use borrow.Author.Tests.{le-leb, lt-leb}
+use Rattle.std.proofs.Common.{arith}
+use Rattle.std.proofs.lemmas.Bool.Decides.{nat_tests}
+use Rattle.std.proofs.lemmas.Grind.{common_steps}
 use Rattle.state.specs.State.{formed_place}
 use Rattle.state_decoding.proofs.place_formed.Goals as goal
 
-pub returns-then-n-lt2 : goal.returns-then-n-lt2
+pub returns-then-n-le64 : goal.returns-then-n-le64
 unfolding formed_place
-returns-then-n-lt2 c = simp (lt-leb _ _ c.if-n-lt2.true)
+returns-then-n-le64 c = grind (arith, nat_tests, common_steps)
 
-pub returns-then-n-gt64 : goal.returns-then-n-gt64
+pub returns-else-n-le64 : goal.returns-else-n-le64
 unfolding formed_place
-returns-then-n-gt64 c = simp (le-leb _ _ c.if-n-lt2.false, lt-leb _ _ c.if-n-gt64.true)
-
-pub returns : goal.returns
-unfolding formed_place
-returns c = simp (le-leb _ _ c.if-n-lt2.false, le-leb _ _ c.if-n-gt64.false)
+returns-else-n-le64 c = grind (arith, nat_tests, common_steps)

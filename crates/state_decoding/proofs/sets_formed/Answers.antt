@@ -1,20 +1,12 @@
-use mathlib.Core.Path.{sym, ◌∙◌}
+use Rattle.std.proofs.Common.{arith}
+use Rattle.std.proofs.lemmas.Grind.{common_steps}
 use Rattle.state.specs.State.{formed_sets}
 use Rattle.state_decoding.proofs.sets_formed.Goals as goal
 
-pub returns-then-not-contains : goal.returns-then-not-contains
+pub returns-then-subset : goal.returns-then-subset
 unfolding formed_sets
-returns-then-not-contains c = simp (sym c.contains.ensures ∙ c.if-not-contains.true)
+returns-then-subset c = grind (arith, common_steps)
 
-pub returns-then-not-subset : goal.returns-then-not-subset
+pub returns-else-subset : goal.returns-else-subset
 unfolding formed_sets
-returns-then-not-subset c = simp (sym c.contains.ensures ∙ c.if-not-contains.false, sym c.subset.ensures ∙ c.if-not-subset.true)
-
-pub returns : goal.returns
-unfolding formed_sets
-returns c =
-    simp (
-      sym c.contains.ensures ∙ c.if-not-contains.false,
-      sym c.subset.ensures ∙ c.if-not-subset.false,
-      c.below.ensures,
-    )
+returns-else-subset c = grind (arith, common_steps)
