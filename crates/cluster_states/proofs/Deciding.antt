@@ -14,7 +14,7 @@ use Rattle.state.specs.declared.State.{State}
 use Rattle.state.specs.declared.State.TheVariants.{Out, Joining, Member}
 use Rattle.rules.specs.OneCycle.{sends_member, sends_join, asks}
 use Rattle.cluster_states.specs.declared.Roles.{Roles}
-use Rattle.cluster_states.specs.States.{no_roles, state_at}
+use Rattle.cluster_states.specs.States.{no_roles, states_of, state_at}
 use Rattle.cluster_states.specs.Decided.{held_by, is_no_quorum, is_outvoted, with_state}
 use Rattle.rules.proofs.Arrays.{stored}
 
@@ -77,7 +77,7 @@ rebuilt Joining = refl
 rebuilt (Member g a) = refl
 
 pub holds_state : (D : ℕ → State) (n k : ℕ) (w : Roles) (numbers sets bases : List ℕ) → Holds D k w numbers sets bases → k ≡ n → (q : ℕ) → q < n
-    → state_at (record { members = w.members; asking = w.asking; joining = w.joining; no_quorum = w.no_quorum; outvoted = w.outvoted; numbers = numbers; sets = sets; bases = bases }) q ≡ D q
+    → state_at (states_of w numbers sets bases) q ≡ D q
 unfolding state_at
 holds_state D n k w numbers sets bases h z q l =
     let i : q < k = omega arith in

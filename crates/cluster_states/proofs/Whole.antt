@@ -130,31 +130,31 @@ module _ (C : Config) (s : States) (f : Faults) where
 
   -- a state of that row
   abbrev pub state_after : ℕ → State
-  state_after q = by_role (has q roles.members) (has q roles.joining) (has q roles.no_quorum) (has q roles.outvoted) (group_at s q) (has q s.asking)
+  state_after q = by_role (has q roles.members) (has q roles.joining) (has q roles.no_quorum) (has q roles.outvoted) (group_at s q) (has q s.roles.asking)
 
-  members-after : (q : ℕ) → q < n → has q roles.members ≡ (has q s.members && not (has q f.stop))
+  members-after : (q : ℕ) → q < n → has q roles.members ≡ (has q s.roles.members && not (has q f.stop))
   unfolding roles_after
-  members-after q h = has-below q n (s.members ∖ f.stop) ∙ ap₂ (λ (x y : Bool). x && y) (ltb-true h) (has_diff q s.members f.stop)
+  members-after q h = has-below q n (s.roles.members ∖ f.stop) ∙ ap₂ (λ (x y : Bool). x && y) (ltb-true h) (has_diff q s.roles.members f.stop)
 
-  joining-after : (q : ℕ) → q < n → has q roles.joining ≡ ((has q f.start || (has q s.joining && not (has q f.stop))) && not (has q roles.members))
+  joining-after : (q : ℕ) → q < n → has q roles.joining ≡ ((has q f.start || (has q s.roles.joining && not (has q f.stop))) && not (has q roles.members))
   unfolding roles_after
   joining-after q h =
-      has-below q n ((f.start ∪ (s.joining ∖ f.stop)) ∖ below n (s.members ∖ f.stop)) ∙ ap (λ (x : Bool). x && has q ((f.start ∪ (s.joining ∖ f.stop)) ∖ below n (s.members ∖ f.stop))) (ltb-true h)
-      ∙ has_diff q (f.start ∪ (s.joining ∖ f.stop)) (below n (s.members ∖ f.stop))
-      ∙ ap (λ (x : Bool). x && not (has q (below n (s.members ∖ f.stop)))) (has_union q f.start (s.joining ∖ f.stop) ∙ ap (λ (x : Bool). has q f.start || x) (has_diff q s.joining f.stop))
+      has-below q n ((f.start ∪ (s.roles.joining ∖ f.stop)) ∖ below n (s.roles.members ∖ f.stop)) ∙ ap (λ (x : Bool). x && has q ((f.start ∪ (s.roles.joining ∖ f.stop)) ∖ below n (s.roles.members ∖ f.stop))) (ltb-true h)
+      ∙ has_diff q (f.start ∪ (s.roles.joining ∖ f.stop)) (below n (s.roles.members ∖ f.stop))
+      ∙ ap (λ (x : Bool). x && not (has q (below n (s.roles.members ∖ f.stop)))) (has_union q f.start (s.roles.joining ∖ f.stop) ∙ ap (λ (x : Bool). has q f.start || x) (has_diff q s.roles.joining f.stop))
 
   pub members-high : (q : ℕ) → ltb q n ≡ false → has q roles.members ≡ false
   unfolding roles_after
-  members-high q h = has-below q n (s.members ∖ f.stop) ∙ ap (λ (x : Bool). x && has q (s.members ∖ f.stop)) h
+  members-high q h = has-below q n (s.roles.members ∖ f.stop) ∙ ap (λ (x : Bool). x && has q (s.roles.members ∖ f.stop)) h
 
   pub joining-high : (q : ℕ) → ltb q n ≡ false → has q roles.joining ≡ false
   unfolding roles_after
   joining-high q h =
-      has-below q n ((f.start ∪ (s.joining ∖ f.stop)) ∖ below n (s.members ∖ f.stop)) ∙ ap (λ (x : Bool). x && has q ((f.start ∪ (s.joining ∖ f.stop)) ∖ below n (s.members ∖ f.stop))) h
+      has-below q n ((f.start ∪ (s.roles.joining ∖ f.stop)) ∖ below n (s.roles.members ∖ f.stop)) ∙ ap (λ (x : Bool). x && has q ((f.start ∪ (s.roles.joining ∖ f.stop)) ∖ below n (s.roles.members ∖ f.stop))) h
 
-  out-after : (q : ℕ) → (has q roles.no_quorum ≡ (has q s.no_quorum && not (has q f.stop))) × (has q roles.outvoted ≡ (has q s.outvoted && not (has q f.stop)))
+  out-after : (q : ℕ) → (has q roles.no_quorum ≡ (has q s.roles.no_quorum && not (has q f.stop))) × (has q roles.outvoted ≡ (has q s.roles.outvoted && not (has q f.stop)))
   unfolding roles_after
-  out-after q = (has_diff q s.no_quorum f.stop, has_diff q s.outvoted f.stop)
+  out-after q = (has_diff q s.roles.no_quorum f.stop, has_diff q s.roles.outvoted f.stop)
 
   -- the row holds the states of the masks
   pub after-at : (q : ℕ) → q < n → at row q ≡ state_after q
@@ -162,81 +162,81 @@ module _ (C : Config) (s : States) (f : Faults) where
   after-at q h =
       get-tabulate n q (λ x. stop_and_start (has x f.stop) (has x f.start) (at (row_of n s) x)) stopped h
       ∙ ap (stop_and_start (has q f.stop) (has q f.start)) (get-tabulate n q (state_at s) stopped h)
-      ∙ rule_roles (has q f.stop) (has q f.start) (has q s.members) (has q s.joining) (has q s.no_quorum) (has q s.outvoted) (group_at s q) (has q s.asking)
+      ∙ rule_roles (has q f.stop) (has q f.start) (has q s.roles.members) (has q s.roles.joining) (has q s.roles.no_quorum) (has q s.roles.outvoted) (group_at s q) (has q s.roles.asking)
       ∙ sym (rw (joining-after q h, members-after q h, (out-after q).0, (out-after q).1))
 
   pub sends-member : (q : ℕ) → q < n → sends_member (at row q) ≡ has q roles.members
-  sends-member q h = ap sends_member (after-at q h) ∙ member_role (has q roles.members) (has q roles.joining) (has q roles.no_quorum) (has q roles.outvoted) (group_at s q) (has q s.asking)
+  sends-member q h = ap sends_member (after-at q h) ∙ member_role (has q roles.members) (has q roles.joining) (has q roles.no_quorum) (has q roles.outvoted) (group_at s q) (has q s.roles.asking)
 
   pub sends-join : (q : ℕ) → q < n → sends_join (at row q) ≡ has q roles.joining
   sends-join q h =
-      ap sends_join (after-at q h) ∙ ap (λ (x : Bool). sends_join (by_role (has q roles.members) x (has q roles.no_quorum) (has q roles.outvoted) (group_at s q) (has q s.asking))) (joining-after q h)
-      ∙ join_role (has q roles.members) (has q f.start || (has q s.joining && not (has q f.stop))) (has q roles.no_quorum) (has q roles.outvoted) (group_at s q) (has q s.asking) ∙ sym (joining-after q h)
+      ap sends_join (after-at q h) ∙ ap (λ (x : Bool). sends_join (by_role (has q roles.members) x (has q roles.no_quorum) (has q roles.outvoted) (group_at s q) (has q s.roles.asking))) (joining-after q h)
+      ∙ join_role (has q roles.members) (has q f.start || (has q s.roles.joining && not (has q f.stop))) (has q roles.no_quorum) (has q roles.outvoted) (group_at s q) (has q s.roles.asking) ∙ sym (joining-after q h)
 
   -- the members that request
   abbrev pub asking : ℕ
-  asking = roles.members ∩ s.asking
+  asking = roles.members ∩ s.roles.asking
 
   pub sends-request : (q : ℕ) → q < n → asks (at row q) ≡ has q asking
   sends-request q h =
-      ap asks (after-at q h) ∙ asks_role (has q roles.members) (has q roles.joining) (has q roles.no_quorum) (has q roles.outvoted) (group_at s q) (has q s.asking)
-      ∙ sym (has_inter q roles.members s.asking)
+      ap asks (after-at q h) ∙ asks_role (has q roles.members) (has q roles.joining) (has q roles.no_quorum) (has q roles.outvoted) (group_at s q) (has q s.roles.asking)
+      ∙ sym (has_inter q roles.members s.roles.asking)
 
   pub asking-high : (q : ℕ) → ltb q n ≡ false → has q asking ≡ false
-  asking-high q h = has_inter q roles.members s.asking ∙ ap (λ (x : Bool). x && has q s.asking) (members-high q h)
+  asking-high q h = has_inter q roles.members s.roles.asking ∙ ap (λ (x : Bool). x && has q s.roles.asking) (members-high q h)
 
   module _ (views : List ℕ)
-      (seen : (p : ℕ) → p < n → get_or views p 0 ≡ view_at n s.sets (roles.members ∖ f.heartbeat_lost) (roles.joining ∖ f.heartbeat_lost) f.heartbeat_missed p) where
-    pub own-vote : (q : ℕ) → q < n → own_vote n f row q (group_at s q) ≡ vote_at s.numbers s.sets s.bases views q
+      (seen : (p : ℕ) → p < n → get_or views p 0 ≡ view_at n s.groups.sets (roles.members ∖ f.heartbeat_lost) (roles.joining ∖ f.heartbeat_lost) f.heartbeat_missed p) where
+    pub own-vote : (q : ℕ) → q < n → own_vote n f row q (group_at s q) ≡ vote_at s.groups.numbers s.groups.sets s.groups.bases views q
     unfolding own_vote heard
     own-vote q h =
         ap (λ (x : ℕ). record { group = group_at s q; view = x })
-        (ap₂ (view_of n q (get_or s.sets q 0))
+        (ap₂ (view_of n q (get_or s.groups.sets q 0))
         (reached n roles.members f.heartbeat_lost (heartbeats_missed f q) (λ p. sends_member (at row p)) sends-member members-high)
         (reached n roles.joining f.heartbeat_lost (heartbeats_missed f q) (λ p. sends_join (at row p)) sends-join joining-high)
         ∙ sym (seen q h))
 
     -- the members that vote
     abbrev pub voting : ℕ
-    voting = voting_of C s.sets views roles (asking ∖ f.heartbeat_lost) f.heartbeat_missed
+    voting = voting_of C s.groups.sets views roles (asking ∖ f.heartbeat_lost) f.heartbeat_missed
 
-    votes-now : (q : ℕ) → q < n → votes_now C f row q (group_at s q) (has q s.asking) ≡ votes_at C s.sets views s.asking (asking ∖ f.heartbeat_lost) f.heartbeat_missed q
+    votes-now : (q : ℕ) → q < n → votes_now C f row q (group_at s q) (has q s.roles.asking) ≡ votes_at C s.groups.sets views s.roles.asking (asking ∖ f.heartbeat_lost) f.heartbeat_missed q
     unfolding votes_now heard
     votes-now q h =
-        ap₂ (λ (v : Vote) (x : ℕ). will_vote C (get_or s.sets q 0) v.view (called (get_or s.sets q 0) (has q s.asking) x)) (own-vote q h)
+        ap₂ (λ (v : Vote) (x : ℕ). will_vote C (get_or s.groups.sets q 0) v.view (called (get_or s.groups.sets q 0) (has q s.roles.asking) x)) (own-vote q h)
         (reached n asking f.heartbeat_lost (heartbeats_missed f q) (λ p. asks (at row p)) sends-request asking-high)
 
-    has-voting : (q : ℕ) → q < n → has q voting ≡ (has q roles.members && votes_now C f row q (group_at s q) (has q s.asking))
+    has-voting : (q : ℕ) → q < n → has q voting ≡ (has q roles.members && votes_now C f row q (group_at s q) (has q s.roles.asking))
     unfolding voting_of roles_after
     has-voting q h =
-        those_in q n (λ p. has p roles.members && votes_at C s.sets views s.asking (asking ∖ f.heartbeat_lost) f.heartbeat_missed p) h
+        those_in q n (λ p. has p roles.members && votes_at C s.groups.sets views s.roles.asking (asking ∖ f.heartbeat_lost) f.heartbeat_missed p) h
         ∙ ap (λ (x : Bool). has q roles.members && x) (sym (votes-now q h))
 
     voting-high : (q : ℕ) → ltb q n ≡ false → has q voting ≡ false
     unfolding voting_of
     voting-high q h =
-        has-those q n (λ p. has p roles.members && votes_at C s.sets views roles.asking (asking ∖ f.heartbeat_lost) f.heartbeat_missed p)
-        ∙ ap (λ (x : Bool). x && (has q roles.members && votes_at C s.sets views roles.asking (asking ∖ f.heartbeat_lost) f.heartbeat_missed q)) h
+        has-those q n (λ p. has p roles.members && votes_at C s.groups.sets views roles.asking (asking ∖ f.heartbeat_lost) f.heartbeat_missed p)
+        ∙ ap (λ (x : Bool). x && (has q roles.members && votes_at C s.groups.sets views roles.asking (asking ∖ f.heartbeat_lost) f.heartbeat_missed q)) h
 
-    pub sent : (p : ℕ) → get_or (votes C f row) p none ≡ ballots_of s.numbers s.sets s.bases views voting p
+    pub sent : (p : ℕ) → get_or (votes C f row) p none ≡ ballots_of s.groups.numbers s.groups.sets s.groups.bases views voting p
     unfolding votes ballots_of
     sent p = go (ltb p n) refl
       where
-        go : (a : Bool) → ltb p n ≡ a → get_or (votes C f row) p none ≡ ballots_of s.numbers s.sets s.bases views voting p
+        go : (a : Bool) → ltb p n ≡ a → get_or (votes C f row) p none ≡ ballots_of s.groups.numbers s.groups.sets s.groups.bases views voting p
         go true h =
             let l : p < n = ltb-lt h in
             get-tabulate n p (λ q. vote_of C f row q (at row q)) none l ∙ ap (vote_of C f row p) (after-at p l)
-            ∙ vote_role C f row p (has p roles.members) (has p roles.joining) (has p roles.no_quorum) (has p roles.outvoted) (group_at s p) (has p s.asking)
+            ∙ vote_role C f row p (has p roles.members) (has p roles.joining) (has p roles.no_quorum) (has p roles.outvoted) (group_at s p) (has p s.roles.asking)
             ∙ ap₂ (λ (x : Bool) (v : Vote). cond x (some v) none) (sym (has-voting p l)) (own-vote p l)
         go false h =
             get-tabulate-out n p (λ q. vote_of C f row q (at row q)) none (ltb-le h)
-            ∙ sym (ap (λ (x : Bool). cond x (some (vote_at s.numbers s.sets s.bases views p)) none) (voting-high p h))
+            ∙ sym (ap (λ (x : Bool). cond x (some (vote_at s.groups.numbers s.groups.sets s.groups.bases views p)) none) (voting-high p h))
 
     -- what arrives at q
     abbrev pub present_at : ℕ → ℕ
     present_at q = voting ∖ f.vote_lost ∖ get_or f.vote_missed q 0
 
-    arrived : (q : ℕ) → arrived_at f (votes C f row) q ≡ ballots_of s.numbers s.sets s.bases views (present_at q)
+    arrived : (q : ℕ) → arrived_at f (votes C f row) q ≡ ballots_of s.groups.numbers s.groups.sets s.groups.bases views (present_at q)
     unfolding reaches ballots_of
     arrived q = λ i p. each p i
       where
@@ -248,25 +248,25 @@ module _ (C : Config) (s : States) (f : Faults) where
         cases false false true v = refl
         cases false false false v = refl
 
-        each : (p : ℕ) → arrived_at f (votes C f row) q p ≡ ballots_of s.numbers s.sets s.bases views (present_at q) p
+        each : (p : ℕ) → arrived_at f (votes C f row) q p ≡ ballots_of s.groups.numbers s.groups.sets s.groups.bases views (present_at q) p
         each p =
             ap (arrive_if (not (has p f.vote_lost) && not (has p (votes_missed f q)))) (sent p)
-            ∙ cases (has p voting) (has p f.vote_lost) (has p (votes_missed f q)) (vote_at s.numbers s.sets s.bases views p)
-            ∙ ap (λ (x : Bool). cond x (some (vote_at s.numbers s.sets s.bases views p)) none)
+            ∙ cases (has p voting) (has p f.vote_lost) (has p (votes_missed f q)) (vote_at s.groups.numbers s.groups.sets s.groups.bases views p)
+            ∙ ap (λ (x : Bool). cond x (some (vote_at s.groups.numbers s.groups.sets s.groups.bases views p)) none)
             (sym (has_diff p (voting ∖ f.vote_lost) (votes_missed f q) ∙ ap (λ (x : Bool). x && not (has p (votes_missed f q))) (has_diff p voting f.vote_lost)))
 
-    decided : (q : ℕ) → q < n → decides C f row q (at row q) (arrived_at f (votes C f row) q) ≡ decided_at s.numbers s.sets s.bases views C roles voting (present_at q) q
+    decided : (q : ℕ) → q < n → decides C f row q (at row q) (arrived_at f (votes C f row) q) ≡ decided_at s.groups.numbers s.groups.sets s.groups.bases views C roles voting (present_at q) q
     unfolding decided_at
     decided q h =
         ap₂ (decides C f row q) (after-at q h) (arrived q)
-        ∙ decides_role C f row q (has q roles.members) (has q roles.joining) (has q roles.no_quorum) (has q roles.outvoted) (group_at s q) (has q s.asking) (ballots_of s.numbers s.sets s.bases views (present_at q))
+        ∙ decides_role C f row q (has q roles.members) (has q roles.joining) (has q roles.no_quorum) (has q roles.outvoted) (group_at s q) (has q s.roles.asking) (ballots_of s.groups.numbers s.groups.sets s.groups.bases views (present_at q))
         ∙ ap₂ (λ (x : Bool) (v : Vote).
-        cond x (member_decides C q v (ballots_of s.numbers s.sets s.bases views (present_at q)))
-        (cond (has q roles.members) (silent_decides C q (group_at s q) (ballots_of s.numbers s.sets s.bases views (present_at q)))
-        (cond (has q roles.joining) (joiner_decides C q (ballots_of s.numbers s.sets s.bases views (present_at q))) (out_at roles q))))
+        cond x (member_decides C q v (ballots_of s.groups.numbers s.groups.sets s.groups.bases views (present_at q)))
+        (cond (has q roles.members) (silent_decides C q (group_at s q) (ballots_of s.groups.numbers s.groups.sets s.groups.bases views (present_at q)))
+        (cond (has q roles.joining) (joiner_decides C q (ballots_of s.groups.numbers s.groups.sets s.groups.bases views (present_at q))) (out_at roles q))))
         (sym (has-voting q h)) (own-vote q h)
 
-    pub whole : (r : States) → ((q : ℕ) → q < n → state_at r q ≡ decided_at s.numbers s.sets s.bases views C roles voting (present_at q) q) → row_of n r ≡ cycle C f (row_of n s)
+    pub whole : (r : States) → ((q : ℕ) → q < n → state_at r q ≡ decided_at s.groups.numbers s.groups.sets s.groups.bases views C roles voting (present_at q) q) → row_of n r ≡ cycle C f (row_of n s)
     unfolding row_of cycle decisions
     whole r e = tabulate-ext n (state_at r) (λ q. decides C f row q (at row q) (arrived_at f (votes C f row) q)) (λ q h. e q h ∙ sym (decided q h))
 
@@ -297,22 +297,22 @@ module _ (C : Config) (sets views : List ℕ) (w : Roles) (requests : ℕ) (miss
 -- the same from the values that the code has on its way: the masks w after rule 1, the heartbeats and requests that go out, the members that vote
 pub run_cycle : (C : Config) (s : States) (f : Faults) (w : Roles) (h0 h1 a o d t : ℕ) (views : List ℕ) (r : States)
     → w ≡ roles_after C.nodes (roles_of s) f.stop f.start → h0 ≡ w.members ∖ f.heartbeat_lost → h1 ≡ w.joining ∖ f.heartbeat_lost
-    → a ≡ w.members ∩ w.asking → o ≡ a ∖ f.heartbeat_lost → d ≡ voting_of C s.sets views w o f.heartbeat_missed → t ≡ d ∖ f.vote_lost
-    → ((p : ℕ) → p < C.nodes → get_or views p 0 ≡ view_at C.nodes s.sets h0 h1 f.heartbeat_missed p)
-    → ((q : ℕ) → q < C.nodes → state_at r q ≡ decided_at s.numbers s.sets s.bases views C w d (t ∖ get_or f.vote_missed q 0) q)
+    → a ≡ w.members ∩ w.asking → o ≡ a ∖ f.heartbeat_lost → d ≡ voting_of C s.groups.sets views w o f.heartbeat_missed → t ≡ d ∖ f.vote_lost
+    → ((p : ℕ) → p < C.nodes → get_or views p 0 ≡ view_at C.nodes s.groups.sets h0 h1 f.heartbeat_missed p)
+    → ((q : ℕ) → q < C.nodes → state_at r q ≡ decided_at s.groups.numbers s.groups.sets s.groups.bases views C w d (t ∖ get_or f.vote_missed q 0) q)
     → row_of C.nodes r ≡ cycle C f (row_of C.nodes s)
 unfolding roles_after
 run_cycle C s f w h0 h1 a o d t views r e e0 e1 ea eo ed et seen made =
     whole C s f views
     (λ p h. seen p h
-    ∙ ap₂ (λ (x y : ℕ). view_at C.nodes s.sets x y f.heartbeat_missed p) (e0 ∙ ap (λ (x : Roles). x.members ∖ f.heartbeat_lost) e) (e1 ∙ ap (λ (x : Roles). x.joining ∖ f.heartbeat_lost) e))
+    ∙ ap₂ (λ (x y : ℕ). view_at C.nodes s.groups.sets x y f.heartbeat_missed p) (e0 ∙ ap (λ (x : Roles). x.members ∖ f.heartbeat_lost) e) (e1 ∙ ap (λ (x : Roles). x.joining ∖ f.heartbeat_lost) e))
     r
     (λ q h. made q h
-    ∙ ap₂ (λ (x : Roles) (y : ℕ). decided_at s.numbers s.sets s.bases views C x y (t ∖ get_or f.vote_missed q 0) q) e voted
-    ∙ ap (λ (x : ℕ). decided_at s.numbers s.sets s.bases views C (roles C s f) (voting_of C s.sets views (roles C s f) (asking C s f ∖ f.heartbeat_lost) f.heartbeat_missed) (x ∖ get_or f.vote_missed q 0) q) (et ∙ ap (λ (x : ℕ). x ∖ f.vote_lost) voted))
+    ∙ ap₂ (λ (x : Roles) (y : ℕ). decided_at s.groups.numbers s.groups.sets s.groups.bases views C x y (t ∖ get_or f.vote_missed q 0) q) e voted
+    ∙ ap (λ (x : ℕ). decided_at s.groups.numbers s.groups.sets s.groups.bases views C (roles C s f) (voting_of C s.groups.sets views (roles C s f) (asking C s f ∖ f.heartbeat_lost) f.heartbeat_missed) (x ∖ get_or f.vote_missed q 0) q) (et ∙ ap (λ (x : ℕ). x ∖ f.vote_lost) voted))
   where
     out : o ≡ asking C s f ∖ f.heartbeat_lost
     out = eo ∙ ap (λ (x : ℕ). x ∖ f.heartbeat_lost) (ea ∙ ap (λ (x : Roles). x.members ∩ x.asking) e)
 
-    voted : d ≡ voting_of C s.sets views (roles C s f) (asking C s f ∖ f.heartbeat_lost) f.heartbeat_missed
-    voted = ed ∙ ap₂ (λ (x : Roles) (y : ℕ). voting_of C s.sets views x y f.heartbeat_missed) e out
+    voted : d ≡ voting_of C s.groups.sets views (roles C s f) (asking C s f ∖ f.heartbeat_lost) f.heartbeat_missed
+    voted = ed ∙ ap₂ (λ (x : Roles) (y : ℕ). voting_of C s.groups.sets views x y f.heartbeat_missed) e out

@@ -6,6 +6,7 @@ use Rattle.state.specs.declared.Reason.TheVariants.{Stopped, NoQuorum, Outvoted}
 use Rattle.state.specs.declared.Group.{Group}
 use Rattle.state.specs.declared.State.{State}
 use Rattle.state.specs.declared.State.TheVariants.{Out, Joining, Member}
+use Rattle.state.specs.Image.{group_bytes}
 use Rattle.rules.specs.declared.Config.{Config}
 use Rattle.rules.specs.OneCycle.{sends_member, sends_join, asks, view_of, called, will_vote, member_decides, silent_decides, joiner_decides}
 use Rattle.rules.specs.Ballots.{group_at, vote_at, ballots_of}
@@ -52,9 +53,7 @@ decided_at numbers sets bases views C w voting present q =
 
 -- the group that a state holds, zeros if it holds none; and whether it is out for want of a quorum, or outvoted
 abbrev pub held_by : State → Group
-held_by (Out r) = record { number = 0; set = 0; base = 0 }
-held_by Joining = record { number = 0; set = 0; base = 0 }
-held_by (Member g a) = g
+held_by = group_bytes
 
 abbrev pub is_no_quorum : State → Bool
 is_no_quorum (Out Stopped) = false

@@ -14,17 +14,7 @@ use Rattle.cluster_states.specs.declared.States.{States}
 
 -- the states of masks and arrays, and the faults of marks and of what each node misses
 abbrev pub states_of : Roles → List ℕ → List ℕ → List ℕ → States
-states_of w numbers sets bases =
-    record {
-      members = w.members;
-      asking = w.asking;
-      joining = w.joining;
-      no_quorum = w.no_quorum;
-      outvoted = w.outvoted;
-      numbers = numbers;
-      sets = sets;
-      bases = bases;
-    }
+states_of w numbers sets bases = record { roles = w; groups = record { numbers = numbers; sets = sets; bases = bases } }
 
 abbrev pub faults_of : Marks → List ℕ → List ℕ → Faults
 faults_of m heartbeats votes =
@@ -43,17 +33,17 @@ no_roles = record { members = 0; asking = 0; joining = 0; no_quorum = 0; outvote
 
 -- the masks of the states
 abbrev pub roles_of : States → Roles
-roles_of s = record { members = s.members; asking = s.asking; joining = s.joining; no_quorum = s.no_quorum; outvoted = s.outvoted }
+roles_of s = s.roles
 
 abbrev pub group_at : States → ℕ → Group
-group_at s q = record { number = get_or s.numbers q 0; set = get_or s.sets q 0; base = get_or s.bases q 0 }
+group_at s q = record { number = get_or s.groups.numbers q 0; set = get_or s.groups.sets q 0; base = get_or s.groups.bases q 0 }
 
 unfoldable pub state_at : States → ℕ → State
 state_at s q =
-    cond (has q s.members) (Member (group_at s q) (has q s.asking))
-    (cond (has q s.joining) Joining
-    (cond (has q s.no_quorum) (Out NoQuorum)
-    (cond (has q s.outvoted) (Out Outvoted)
+    cond (has q s.roles.members) (Member (group_at s q) (has q s.roles.asking))
+    (cond (has q s.roles.joining) Joining
+    (cond (has q s.roles.no_quorum) (Out NoQuorum)
+    (cond (has q s.roles.outvoted) (Out Outvoted)
     (Out Stopped))))
 
 unfoldable pub row_of : ℕ → States → Row

@@ -68,7 +68,8 @@ fn reason_byte(s: State) -> u8
     }
 }
 
-fn group_held(s: State) -> Group
+// The group that a node in this state holds, zeros where it holds none.
+pub fn group_held(s: State) -> Group
     ensures { result ≡ group_bytes s }
 {
     match s {

@@ -13,7 +13,7 @@ use Rattle.cluster_states.proofs.begin.Goals as goal
 -- the founders hold the founding group, and nobody else is anything
 abbrev founders : ℕ → States
 founders F =
-    record { members = F; asking = 0; joining = 0; no_quorum = 0; outvoted = 0; numbers = replicate 64 0; sets = replicate 64 F; bases = replicate 64 F }
+    record { roles = record { members = F; asking = 0; joining = 0; no_quorum = 0; outvoted = 0 }; groups = record { numbers = replicate 64 0; sets = replicate 64 F; bases = replicate 64 F } }
 
 at_first : (F q : ℕ) → q < 64 → state_at (founders F) q ≡ initial 0 F q
 unfolding state_at
@@ -27,4 +27,6 @@ founded n F h = tabulate-ext n (state_at (founders F)) (initial 0 F) (λ q l. at
     less q l = omega arith
 
 pub returns : goal.returns
-returns c = founded c.args.n c.args.founding c.requires
+returns c =
+    let zeros = c.default.ensures in
+    rw (zeros.1.0, zeros.1.1.0, zeros.1.1.1.0, zeros.1.1.1.1, c.all.ensures) (founded c.args.n c.args.founding c.requires)
