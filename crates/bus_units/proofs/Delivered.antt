@@ -7,6 +7,7 @@ use Prim.Native.Nat.{ℕ, ◌^◌, ◌≤◌, ◌<◌}
 use native.Mathlib.Omega.{arith}
 use lib.Dec.{eqb, ltb, lit<, lit≤}
 use borrow.Author.Tests.{eq-eqb}
+use Rattle.std.specs.Prelude as std
 use Rattle.sets.specs.Sets.{has, subset, below}
 use Rattle.sets.proofs.Booleans.{and_l, and_r, ltb-lt}
 use Rattle.state.specs.declared.Group.{Group}
@@ -22,13 +23,9 @@ use Rattle.rules.proofs.States.{none-some, some_inj}
 use Rattle.rules.proofs.Votes.{view_own, view_below, vote_self}
 use Rattle.theorem_formed.proofs.Formed.{FormedRow, rule_one_formed}
 use Rattle.frames.specs.declared.Fault.TheVariants.{Length}
-use Rattle.frames.specs.declared.HeartbeatReceived.{HeartbeatReceived}
-use Rattle.frames.specs.declared.HeartbeatReceived.TheVariants as beats
-use Rattle.frames.specs.declared.HeartbeatCounted.{HeartbeatCounted}
-use Rattle.frames.specs.declared.VoteRead.TheVariants as vote
-use Rattle.frames.specs.declared.VoteReceived.TheVariants as votes
+use Rattle.frames.specs.declared.Heartbeat.{Heartbeat}
 use Rattle.frames.specs.Written.{wrong_request, heartbeat_frame, wrong_drive, vote_frame, formed_vote}
-use Rattle.frames.specs.Read.{payload_of, read_heartbeat, is_good, read_vote, receive_vote}
+use Rattle.frames.specs.Read.{payload_of, read_heartbeat, is_good, heard_in, read_vote, receive_vote}
 use Rattle.frames.proofs.Faults.{no_heartbeat, no_vote}
 use Rattle.frames.proofs.Payloads.{none_wrong}
 use Rattle.frames.proofs.RoundTrip.{unasked, vote_back}
@@ -111,8 +108,8 @@ module _ (C : Config) (count : ℕ) (few : C.nodes ≤ 64) (counted : count < 64
     b = bus.heartbeats p q 1
 
     -- what was heard, and the drive bytes with it, of a frame that came or not
-    abbrev Beat : HeartbeatReceived → Bool → Type 0
-    Beat kind t = (heartbeat_got quiet count bus.heartbeats q p ≡ cond t kind beats.Missed) × (drive_got quiet count bus.heartbeats q p ≡ cond t drive [])
+    abbrev Beat : std.Option Heartbeat → Bool → Type 0
+    Beat kind t = (heartbeat_got quiet count bus.heartbeats q p ≡ cond t kind std.None) × (drive_got quiet count bus.heartbeats q p ≡ cond t drive [])
 
     abbrev Refused : ℕ → List ℕ → Type 0
     Refused = HeartbeatRefused quiet count p
@@ -120,10 +117,10 @@ module _ (C : Config) (count : ℕ) (few : C.nodes ≤ 64) (counted : count < 64
     refused-copy : (channel : ℕ) (x : List ℕ) → Refused channel x → is_good (read_heartbeat quiet p count channel x) ≡ false
     refused-copy channel x k = ap is_good k.1
 
-    no-beat : (kind : HeartbeatReceived) → Refused 0 a → Refused 1 b → Beat kind false
+    no-beat : (kind : std.Option Heartbeat) → Refused 0 a → Refused 1 b → Beat kind false
     no-beat kind e f =
         let g = neither-good quiet p count a b (refused-copy 0 a e) (refused-copy 1 b f) in
-        (ap (λ (z : HeartbeatCounted). z.heard) g.0, g.1)
+        (ap heard_in g.0, g.1)
 
     -- of a unit that sends with those bits
     module _ (join request : ℕ) (low-j : join < 2) (low-r : request < 2) (allowed : wrong_request quiet join request ≡ false) where
@@ -131,7 +128,7 @@ module _ (C : Config) (count : ℕ) (few : C.nodes ≤ 64) (counted : count < 64
       Frame channel x =
           (sync : ℕ) × (startup : ℕ) × (sync < 2) × (startup ≤ sync) × (wrong_drive drive ≡ false) × (some (heartbeat_frame p join request sync startup count channel drive) ≡ some x)
 
-      abbrev heard : HeartbeatReceived
+      abbrev heard : std.Option Heartbeat
       heard = heard_with join request
 
       low : p < 64
@@ -153,12 +150,12 @@ module _ (C : Config) (count : ℕ) (few : C.nodes ≤ 64) (counted : count < 64
 
     -- heard is what was sent, with exactly the drive bytes of its sender
     pub beat-came : (s : State) (t : Bool) → formed_state quiet p N s ≡ true → Came (HeartbeatSent count p drive s) (HeartbeatRefused quiet count p) a b (sends_heartbeat s && t)
-        → (heartbeat_got quiet count bus.heartbeats q p ≡ cond t (heartbeat_kind s) beats.Missed) × (drive_got quiet count bus.heartbeats q p ≡ cond (sends_heartbeat s && t) drive [])
+        → (heartbeat_got quiet count bus.heartbeats q p ≡ cond t (heartbeat_kind s) std.None) × (drive_got quiet count bus.heartbeats q p ≡ cond (sends_heartbeat s && t) drive [])
     beat-came (Out z) t w k =
-        let g = nothing-came (HeartbeatSent count p drive (Out z)) Refused a b (Beat beats.Missed) (no-beat beats.Missed) k in
+        let g = nothing-came (HeartbeatSent count p drive (Out z)) Refused a b (Beat std.None) (no-beat std.None) k in
         (g.0 ∙ go t, g.1)
       where
-        go : (t : Bool) → beats.Missed ≡ cond t beats.Missed beats.Missed
+        go : (t : Bool) → ◌≡◌ {A = std.Option Heartbeat} std.None (cond t std.None std.None)
         go true = refl
         go false = refl
     beat-came Joining t w k = beat-of 1 0 (lit< tt) (lit< tt) (unasked quiet 1) t k
@@ -173,7 +170,7 @@ module _ (C : Config) (count : ℕ) (few : C.nodes ≤ 64) (counted : count < 64
     ballot-of : (o : Option Vote) → ((v : Vote) → o ≡ some v → (v.group.number < 2 ^ 32) × (formed_vote N p v ≡ true)) → (t : Bool)
         → Came (Sent o) (VoteRefused N count p) (bus.votes p q 0) (bus.votes p q 1) (is_some o && t) → received (vote_got N count bus.votes q p) ≡ arrive_if t o
     ballot-of none sound t k =
-        ap received (nothing-came (Sent none) (VoteRefused N count p) _ _ (λ z. vote_got N count bus.votes q p ≡ votes.Missed) (λ e f. ap₂ receive_vote e.1 f.1) k)
+        ap received (nothing-came (Sent none) (VoteRefused N count p) _ _ (λ z. vote_got N count bus.votes q p ≡ std.None) (λ e f. ap₂ receive_vote e.1 f.1) k)
         ∙ go t
       where
         go : (t : Bool) → none ≡ arrive_if t none
@@ -181,16 +178,16 @@ module _ (C : Config) (count : ℕ) (few : C.nodes ≤ 64) (counted : count < 64
         go false = refl
     ballot-of (some v) sound t k =
         ap received
-        (came (Sent (some v)) (VoteRefused N count p) _ _ (λ z. vote_got N count bus.votes q p ≡ cond z (votes.Whole v) votes.Missed)
+        (came (Sent (some v)) (VoteRefused N count p) _ _ (λ z. vote_got N count bus.votes q p ≡ cond z (std.Some v) std.None)
         (λ e f. ap₂ receive_vote e.1 f.1)
-        (λ e f. ap₂ receive_vote (back 0 _ e) (back 1 _ f) ∙ ap (λ (x : Bool). cond x (votes.Whole v) votes.Missed) (vote_self v))
+        (λ e f. ap₂ receive_vote (back 0 _ e) (back 1 _ f) ∙ ap (λ (x : Bool). cond x (std.Some v) std.None) (vote_self v))
         (λ e f. ap₂ receive_vote (back 0 _ e) f.1) (λ e f. ap₂ receive_vote e.1 (back 1 _ f)) t k)
         ∙ got t
       where
-        back : (channel : ℕ) (x : List ℕ) → some (vote_frame p v count channel) ≡ some x → read_vote N p count channel x ≡ vote.Whole v
+        back : (channel : ℕ) (x : List ℕ) → some (vote_frame p v count channel) ≡ some x → read_vote N p count channel x ≡ std.Ok v
         back channel x e = ap (read_vote N p count channel) (sym (some_inj e)) ∙ vote_back N p v count channel few l counted (sound v refl).0 (sound v refl).1
 
-        got : (t : Bool) → received (cond t (votes.Whole v) votes.Missed) ≡ arrive_if t (some v)
+        got : (t : Bool) → received (cond t (std.Some v) std.None) ≡ arrive_if t (some v)
         got true = refl
         got false = refl
 

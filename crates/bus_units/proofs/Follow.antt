@@ -5,6 +5,7 @@ use mathlib.Core.Option.{Option, none, some}
 use Prim.Native.Nat.{ℕ, ◌<◌}
 use lib.Dec.{eqb, ltb}
 use lib.ListN.{get_or}
+use Rattle.std.specs.Prelude as std
 use Rattle.sets.specs.Sets.{has, those, any}
 use Rattle.sets.proofs.Booleans.{eqb_self, eqb-true, ltb-lt, ltb-le}
 use Rattle.sets.proofs.Membership.{set_ext}
@@ -20,8 +21,7 @@ use Rattle.rules.specs.OneCycle.{Ballots, sends_member, sends_join, asks, called
 use Rattle.rules.specs.Faults.{Row, at, rule_one, heartbeat_reaches, vote_reaches, heard, own_vote, votes_now, vote_of, votes, arrive_if, arrived_at, decides, decisions, cycle}
 use Rattle.rules.proofs.Rows.{get-tabulate, get-tabulate-out, tabulate-ext}
 use Rattle.rules.proofs.Votes.{view_others}
-use Rattle.frames.specs.declared.HeartbeatReceived.{HeartbeatReceived}
-use Rattle.frames.specs.declared.HeartbeatReceived.TheVariants.{Missed}
+use Rattle.frames.specs.declared.Heartbeat.{Heartbeat}
 use Rattle.bus_units.specs.Units.{Bus, heartbeat_got, is_alive, is_join, is_request, unit_hears, unit_vote, unit_votes, vote_cast, vote_got, received, unit_ballots, unit_decides, units_cycle}
 use Rattle.bus_units.specs.Carried.{heartbeat_kind, Carries}
 
@@ -30,7 +30,7 @@ module _ (C : Config) (count : ℕ) (bus : Bus) (c : Faults) (r : Row) (carried 
   N = C.nodes
 
   -- the others that are heard are those that send and reach
-  hears : (kind : HeartbeatReceived → Bool) (sends : State → Bool) → ((t : Bool) (s : State) → kind (cond t (heartbeat_kind s) Missed) ≡ (sends s && t))
+  hears : (kind : std.Option Heartbeat → Bool) (sends : State → Bool) → ((t : Bool) (s : State) → kind (cond t (heartbeat_kind s) std.None) ≡ (sends s && t))
       → (q x : ℕ) → q < N → x < N → eqb x q ≡ false → has x (unit_hears C count bus.heartbeats kind q) ≡ has x (heard N c r sends q)
   unfolding unit_hears heard
   hears kind sends same q x lq lx o =
@@ -40,7 +40,7 @@ module _ (C : Config) (count : ℕ) (bus : Bus) (c : Faults) (r : Row) (carried 
       ∙ same (heartbeat_reaches c x q) (at r x)
       ∙ sym (those_in x N (λ p. sends (at r p) && heartbeat_reaches c p q) lx)
 
-  alive : (t : Bool) (s : State) → is_alive (cond t (heartbeat_kind s) Missed) ≡ (sends_member s && t)
+  alive : (t : Bool) (s : State) → is_alive (cond t (heartbeat_kind s) std.None) ≡ (sends_member s && t)
   alive true (Out z) = refl
   alive true Joining = refl
   alive true (Member g true) = refl
@@ -49,7 +49,7 @@ module _ (C : Config) (count : ℕ) (bus : Bus) (c : Faults) (r : Row) (carried 
   alive false Joining = refl
   alive false (Member g a) = refl
 
-  joins : (t : Bool) (s : State) → is_join (cond t (heartbeat_kind s) Missed) ≡ (sends_join s && t)
+  joins : (t : Bool) (s : State) → is_join (cond t (heartbeat_kind s) std.None) ≡ (sends_join s && t)
   joins true (Out z) = refl
   joins true Joining = refl
   joins true (Member g true) = refl
@@ -58,7 +58,7 @@ module _ (C : Config) (count : ℕ) (bus : Bus) (c : Faults) (r : Row) (carried 
   joins false Joining = refl
   joins false (Member g a) = refl
 
-  requests : (t : Bool) (s : State) → is_request (cond t (heartbeat_kind s) Missed) ≡ (asks s && t)
+  requests : (t : Bool) (s : State) → is_request (cond t (heartbeat_kind s) std.None) ≡ (asks s && t)
   requests true (Out z) = refl
   requests true Joining = refl
   requests true (Member g true) = refl

@@ -7,6 +7,7 @@ use mathlib.Core.Option.{Option, none, some}
 use Prim.Native.Nat.{ℕ, ◌≤◌, ◌<◌}
 use lib.Dec.{eqb, ltb, lit<}
 use lib.ListN.{get_or}
+use Rattle.std.specs.Prelude as std
 use Rattle.sets.specs.Sets.{has, single, ◌∖◌, any}
 use Rattle.sets.proofs.Booleans.{and_i, or_f_l, or_f_r, eqb-true, ltb-lt, not_f}
 use Rattle.sets.proofs.Membership.{has_diff, has-none, has-single, set_ext}
@@ -22,8 +23,7 @@ use Rattle.rules.proofs.Rows.{get-tabulate}
 use Rattle.rules.proofs.States.{none-some}
 use Rattle.rules.specs.declared.Vote.{Vote}
 use Rattle.theorem_formed.proofs.Formed.{FormedRow, rule_one_formed}
-use Rattle.frames.specs.declared.HeartbeatReceived.{HeartbeatReceived}
-use Rattle.frames.specs.declared.HeartbeatReceived.TheVariants as beats
+use Rattle.frames.specs.declared.Heartbeat.{Heartbeat}
 use Rattle.bus_units.specs.Units.{Bus, heartbeat_got, drive_got, vote_cast, vote_framed, vote_got, received, units_cycle}
 use Rattle.bus_units.specs.Carried.{Came, on_both, on_a, on_b, on_none, HeartbeatSent, sends_heartbeat, is_some, sends_vote, heartbeat_kind, Carries}
 use Rattle.bus_units.specs.Recorded.{Sound, lost_of, missed_of, is_heard, beat_heard, vote_taken, ruled_at, record_of, Served, Untouched}
@@ -157,7 +157,7 @@ module _ (C : Config) (count : ℕ) (few : C.nodes ≤ 64) (counted : count < 64
             let y = sound.beats p q 1 lp lq o (lit< tt) in
             let k = if_sent (sends_heartbeat (at r p)) (left x || left y) (λ channel z h. beat_speaks count p (sound.drive p lp) channel z (at r p) h) (of_copies x y) in
             heard (left x || left y) (at r p) (heartbeat_got quiet count bus.heartbeats q p) (beat-came C count few counted bus c p q lp (sound.drive p lp) (at r p) (left x || left y) (formed-at p lp) k).0
-            ∙ ap (λ (b : Bool). cond b (heartbeat_kind (at r p)) beats.Missed) (sym (reaches-by N (λ x. sends_heartbeat (ruled_at stop start row x)) (beat_heard quiet count bus) p q lp lq o
+            ∙ ap (λ (b : Bool). cond b (heartbeat_kind (at r p)) std.None) (sym (reaches-by N (λ x. sends_heartbeat (ruled_at stop start row x)) (beat_heard quiet count bus) p q lp lq o
             ∙ ap (λ (s : State). not (sends_heartbeat s && not (beat_heard quiet count bus q p))) (sym (now-is p lp))));
         ballots = λ p q lp lq d.
             let x = sound.ballots p q 0 lp lq d (lit< tt) in
@@ -169,11 +169,11 @@ module _ (C : Config) (count : ℕ) (few : C.nodes ≤ 64) (counted : count < 64
             ∙ ap (λ (s : State). not (sends_vote C count bus.heartbeats p s && not (vote_taken N count bus q p))) (sym (now-is p lp))));
       }
     where
-      heard : (t : Bool) (s : State) (got : HeartbeatReceived) → got ≡ cond t (heartbeat_kind s) beats.Missed
-          → got ≡ cond (not (sends_heartbeat s && not (is_heard got))) (heartbeat_kind s) beats.Missed
-      heard t s got e = subst (λ (x : HeartbeatReceived). x ≡ cond (not (sends_heartbeat s && not (is_heard x))) (heartbeat_kind s) beats.Missed) (sym e) (go t s)
+      heard : (t : Bool) (s : State) (got : std.Option Heartbeat) → got ≡ cond t (heartbeat_kind s) std.None
+          → got ≡ cond (not (sends_heartbeat s && not (is_heard got))) (heartbeat_kind s) std.None
+      heard t s got e = subst (λ (x : std.Option Heartbeat). x ≡ cond (not (sends_heartbeat s && not (is_heard x))) (heartbeat_kind s) std.None) (sym e) (go t s)
         where
-          go : (t : Bool) (s : State) → cond t (heartbeat_kind s) beats.Missed ≡ cond (not (sends_heartbeat s && not (is_heard (cond t (heartbeat_kind s) beats.Missed)))) (heartbeat_kind s) beats.Missed
+          go : (t : Bool) (s : State) → cond t (heartbeat_kind s) std.None ≡ cond (not (sends_heartbeat s && not (is_heard (cond t (heartbeat_kind s) std.None)))) (heartbeat_kind s) std.None
           go true (Out z) = refl
           go true Joining = refl
           go true (Member g true) = refl
@@ -201,7 +201,7 @@ module _ (C : Config) (count : ℕ) (few : C.nodes ≤ 64) (counted : count < 64
       let g = beat-came C count few counted bus c p q lp (sound.drive p lp) (at r p) (left x || left y) (formed-at p lp) k in
       g.1 ∙ ap (λ (b : Bool). cond b (sound.drive p lp) []) (sym (ap is_heard g.0 ∙ go (left x || left y) (at r p)))
     where
-      go : (t : Bool) (s : State) → is_heard (cond t (heartbeat_kind s) beats.Missed) ≡ (sends_heartbeat s && t)
+      go : (t : Bool) (s : State) → is_heard (cond t (heartbeat_kind s) std.None) ≡ (sends_heartbeat s && t)
       go true (Out z) = refl
       go true Joining = refl
       go true (Member g true) = refl

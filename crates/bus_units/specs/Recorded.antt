@@ -1,14 +1,13 @@
 -- Nobody on a press knows the fault record: the record that says what came, computed from what came; and the buses of which it says all.
 -- Assumes nothing.
-use Rattle.std.specs.Prelude.{◌≡◌, ◌⊎◌, Bool, true, false, not, ◌&&◌, List, ℕ, ◌<◌, eqb}
+use Rattle.std.specs.Prelude.{◌≡◌, ◌⊎◌, Option, None, Some, Bool, true, false, not, ◌&&◌, List, ℕ, ◌<◌, eqb}
 use Rattle.sets.specs.Sets.{has, those, any}
 use Rattle.state.specs.declared.State.{State}
 use Rattle.rules.specs.declared.Faults.{Faults}
 use Rattle.rules.specs.declared.Config.{Config}
 use Rattle.rules.specs.OneCycle.{stop_and_start}
 use Rattle.rules.specs.Faults.{Row, at, tabulate}
-use Rattle.frames.specs.declared.HeartbeatReceived.{HeartbeatReceived}
-use Rattle.frames.specs.declared.HeartbeatReceived.TheVariants.{Missed, Alive, Join, Request}
+use Rattle.frames.specs.declared.Heartbeat.{Heartbeat}
 use Rattle.bus_units.specs.Units.{Bus, heartbeat_got, vote_got, received}
 use Rattle.bus_units.specs.Carried.{HeartbeatSent, HeartbeatRefused, VoteSent, VoteRefused, sends_heartbeat, is_some, sends_vote}
 
@@ -34,11 +33,9 @@ missed_of N sent got q = those N (λ p. not (eqb p q) && sent p && not (got q p)
 
 -- ---- the record that says what came: who sent is by the states after rule 1, who voted also by what it heard; `stop` and `start` are who is stopped and who is started
 
-abbrev pub is_heard : HeartbeatReceived → Bool
-is_heard Missed = false
-is_heard Alive = true
-is_heard Join = true
-is_heard Request = true
+abbrev pub is_heard : Option Heartbeat → Bool
+is_heard None = false
+is_heard (Some h) = true
 
 abbrev pub beat_heard : (quiet : Bool) → (count : ℕ) → Bus → (q p : ℕ) → Bool
 beat_heard quiet count bus q p = is_heard (heartbeat_got quiet count bus.heartbeats q p)

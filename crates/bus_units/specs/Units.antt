@@ -1,6 +1,7 @@
 -- Paper 01, "One cycle" and "Frames", with request 3: a unit's part of a cycle, from the frames that come to it, in the order of the rules; and one cycle of all units.
 -- Assumes nothing.
-use Rattle.std.specs.Prelude.{Bool, true, false, not, ◌&&◌, cond, List, ℕ, eqb, ltb}
+use Rattle.std.specs.Prelude as std
+use Rattle.std.specs.Prelude.{Bool, true, false, None, Some, not, ◌&&◌, cond, List, ℕ, eqb, ltb}
 use Rattle.std.proofs.Math.Option.{Option, none, some}
 use Rattle.sets.specs.Sets.{those}
 use Rattle.state.specs.declared.Group.{Group}
@@ -11,12 +12,10 @@ use Rattle.rules.specs.declared.Faults.{Faults}
 use Rattle.rules.specs.declared.Config.{Config}
 use Rattle.rules.specs.OneCycle.{Ballots, view_of, called, will_vote, member_decides, silent_decides, joiner_decides}
 use Rattle.rules.specs.Faults.{Row, at, tabulate, rule_one}
-use Rattle.frames.specs.declared.HeartbeatReceived.{HeartbeatReceived}
-use Rattle.frames.specs.declared.HeartbeatReceived.TheVariants as beats
-use Rattle.frames.specs.declared.VoteReceived.{VoteReceived}
-use Rattle.frames.specs.declared.VoteReceived.TheVariants as votes
+use Rattle.frames.specs.declared.Heartbeat.{Heartbeat}
+use Rattle.frames.specs.declared.Heartbeat.TheVariants.{Alive, Join, Request}
 use Rattle.frames.specs.Written.{heartbeat_frame, vote_frame}
-use Rattle.frames.specs.Read.{read_vote, receive_heartbeat, drive_heard, receive_vote}
+use Rattle.frames.specs.Read.{read_vote, receive_heartbeat, heard_in, drive_heard, receive_vote}
 
 -- ---- a bus: what comes to the units in one cycle
 
@@ -38,33 +37,33 @@ heartbeat_sent sync startup drive count q (Member g a) channel = some (heartbeat
 
 -- ---- "A unit reads both channels.": what unit q makes of the two copies of the heartbeat of p, and the drive bytes that it finds there
 
-abbrev pub heartbeat_got : (quiet : Bool) → (count : ℕ) → Copies → (q p : ℕ) → HeartbeatReceived
-heartbeat_got quiet count h q p = (receive_heartbeat quiet p count (h p q 0) (h p q 1)).heard
+abbrev pub heartbeat_got : (quiet : Bool) → (count : ℕ) → Copies → (q p : ℕ) → std.Option Heartbeat
+heartbeat_got quiet count h q p = heard_in (receive_heartbeat quiet p count (h p q 0) (h p q 1))
 
 abbrev pub drive_got : (quiet : Bool) → (count : ℕ) → Copies → (q p : ℕ) → List ℕ
 drive_got quiet count h q p = drive_heard quiet p count (h p q 0) (h p q 1)
 
 -- heard with join 0, with join 1, and with join 0 and a request
-abbrev pub is_alive : HeartbeatReceived → Bool
-is_alive beats.Missed = false
-is_alive beats.Alive = true
-is_alive beats.Join = false
-is_alive beats.Request = true
+abbrev pub is_alive : std.Option Heartbeat → Bool
+is_alive None = false
+is_alive (Some Alive) = true
+is_alive (Some Join) = false
+is_alive (Some Request) = true
 
-abbrev pub is_join : HeartbeatReceived → Bool
-is_join beats.Missed = false
-is_join beats.Alive = false
-is_join beats.Join = true
-is_join beats.Request = false
+abbrev pub is_join : std.Option Heartbeat → Bool
+is_join None = false
+is_join (Some Alive) = false
+is_join (Some Join) = true
+is_join (Some Request) = false
 
-abbrev pub is_request : HeartbeatReceived → Bool
-is_request beats.Missed = false
-is_request beats.Alive = false
-is_request beats.Join = false
-is_request beats.Request = true
+abbrev pub is_request : std.Option Heartbeat → Bool
+is_request None = false
+is_request (Some Alive) = false
+is_request (Some Join) = false
+is_request (Some Request) = true
 
 -- the other units of which unit q receives a heartbeat of the given kind: a unit does not listen to itself
-unfoldable pub unit_hears : Config → (count : ℕ) → Copies → (HeartbeatReceived → Bool) → (q : ℕ) → ℕ
+unfoldable pub unit_hears : Config → (count : ℕ) → Copies → (std.Option Heartbeat → Bool) → (q : ℕ) → ℕ
 unit_hears C count h kind q = those C.nodes (λ p. not (eqb p q) && kind (heartbeat_got C.quiet count h q p))
 
 -- ---- rules 3 and 4: its view and its vote, "G, M, B and V. Joining nodes do not vote.", and the vote frame for a channel
@@ -90,12 +89,12 @@ vote_sent C count h q s channel = vote_framed count q (vote_cast C count h q s) 
 
 -- ---- the votes of the others that unit q reads, on both channels
 
-abbrev pub vote_got : (N count : ℕ) → Copies → (q p : ℕ) → VoteReceived
+abbrev pub vote_got : (N count : ℕ) → Copies → (q p : ℕ) → std.Option Vote
 vote_got N count v q p = receive_vote (read_vote N p count 0 (v p q 0)) (read_vote N p count 1 (v p q 1))
 
-abbrev pub received : VoteReceived → Option Vote
-received votes.Missed = none
-received (votes.Whole v) = some v
+abbrev pub received : std.Option Vote → Option Vote
+received None = none
+received (Some v) = some v
 
 unfoldable pub unit_ballots : (N count : ℕ) → Copies → (q : ℕ) → Ballots
 unit_ballots N count v q p = cond (ltb p N && not (eqb p q)) (received (vote_got N count v q p)) none
