@@ -1,13 +1,14 @@
 -- Numbers written in k bytes and read back, for every k. Assumes nothing.
 use mathlib.Core.Path.{◌≡◌, refl, sym, ap, ap₂, ◌∙◌, subst}
 use mathlib.Core.List.{List, [], ◌∷◌, ◌++◌, append_assoc}
-use Prim.Native.Nat.{ℕ, zero, suc, ◌+◌, ◌*◌, ◌/◌, ◌%◌, ◌^◌, ◌≤◌, ◌<◌}
-use native.Mathlib.Nat.{pow-suc, pow-succ', div-one, div-div-eq-div-mul, div-add-mod', div-lt_iff_lt-mul, add-suc, add-zero, add_assoc, mul_assoc, add-mul}
+use Prim.Native.Nat.{ℕ, zero, suc, ◌+◌, ◌-◌, ◌*◌, ◌/◌, ◌%◌, ◌^◌, ◌≤◌, ◌<◌}
+use native.Mathlib.Nat.{pow-suc, pow-succ', div-one, div-div-eq-div-mul, div-add-mod', div-lt_iff_lt-mul, add-suc, add-zero, lt_of_lt_of_le, pow-le-pow_right, add_assoc, mul_assoc, add-mul}
+use native.Mathlib.Numerals.{add-one}
 use native.Mathlib.Omega.{arith}
 use lib.Dec.{lit<}
 use lib.Arith.{lt-one, digits_lt, digits_div, digits_mod}
-use lib.ListN.{length, get_or, take, drop, take-append-drop, length-drop}
-use lib.Seq.{get_or-append-add, get_or_at, get_or-drop, take-suc, drop-drop}
+use lib.ListN.{length, get_or, take, drop, set, replicate, take-append-drop, length-drop, length-replicate, drop_of_length-le}
+use lib.Seq.{get_or-append-add, get_or_at, get_or-drop, take-suc, drop-drop, drop_at, length-take-le, set_split}
 use Rattle.bigendian.specs.BigEndian.{bytes_of, number_at}
 
 -- every element is a byte
@@ -81,3 +82,43 @@ number_join s i j (suc k) =
   where
     regroup : (a m b y : ℕ) → (a * m + b) * 256 + y ≡ a * (m * 256) + (b * 256 + y)
     regroup a m b y = ap (λ (z : ℕ). z + y) (add-mul (a * m) b 256) ∙ ap (λ (z : ℕ). (z + b * 256) + y) (mul_assoc a m 256) ∙ add_assoc (a * (m * 256)) (b * 256) y
+
+-- ---- for the loop that writes, from the last byte of k to the first
+
+-- none of them is written
+pub none_written : (k x : ℕ) → (length (replicate {A = ℕ} k 0) ≡ k) × (x ≡ x / 256 ^ (k - k)) × (drop k (replicate {A = ℕ} k 0) ≡ bytes_of (k - k) x)
+unfolding bytes_of
+none_written k x =
+    let e : k - k ≡ 0 = omega arith in
+    let l : length (replicate {A = ℕ} k 0) ≡ k = length-replicate {A = ℕ} k 0 in
+    rw e (l, sym (div-one x), drop_of_length-le (replicate {A = ℕ} k 0) (omega arith))
+
+-- what is left to be written before the byte i
+pub one_moved : (k i rest x : ℕ) → 0 < i → i ≤ k → rest ≡ x / 256 ^ (k - i) → rest / 256 ≡ x / 256 ^ (k - (i - 1))
+one_moved k i rest x h l e =
+    let s : k - (i - 1) ≡ suc (k - i) = omega arith in
+    rw (s, pow-suc) (ap (λ (a : ℕ). a / 256) e ∙ div-div-eq-div-mul x (256 ^ (k - i)) 256)
+
+-- the byte before those that are written
+pub one_written : (k i rest x : ℕ) (bytes : List ℕ) → 0 < i → i ≤ k → length bytes ≡ k → rest ≡ x / 256 ^ (k - i) → drop i bytes ≡ bytes_of (k - i) x
+    → drop (i - 1) (set bytes (i - 1) (rest % 256)) ≡ bytes_of (k - (i - 1)) x
+unfolding bytes_of
+one_written k i rest x bytes h l w e d =
+    let s : k - (i - 1) ≡ suc (k - i) = omega arith in
+    let u : suc (i - 1) ≡ i = omega arith in
+    let some : i - 1 ≤ length bytes = omega arith in
+    rw s
+    (ap (drop (i - 1)) (set_split bytes (i - 1) (rest % 256) (omega arith))
+    ∙ drop_at (take (i - 1) bytes) (rest % 256 ∷ drop (suc (i - 1)) bytes) (i - 1) (length-take-le (i - 1) bytes some)
+    ∙ ap₂ (λ (a : ℕ) (t : List ℕ). a % 256 ∷ t) e (ap (λ (j : ℕ). drop j bytes) u ∙ d))
+
+-- ---- for the loop that reads
+
+-- one byte more, and an eight-byte word has room for it
+pub byte_fits : (n b i : ℕ) → n < 256 ^ i → b < 256 → n * 256 + b < 256 ^ (i + 1)
+byte_fits n b i f g = rw (add-one, pow-suc) (digits_lt f g)
+
+pub room_for_byte : (n b i : ℕ) → i < 8 → n < 256 ^ i → b < 256 → n * 256 + b < 256 ^ 8
+room_for_byte n b i h f g =
+    let k : i + 1 ≤ 8 = omega arith in
+    lt_of_lt_of_le (byte_fits n b i f g) (pow-le-pow_right {n = 256} (lit< tt) k)

@@ -1,55 +1,32 @@
-// Numbers of four and eight bytes, highest byte first.
+// Numbers of several bytes, highest byte first.
 #![tactic(auto)]
 
-ghost use Rattle.std.specs.Prelude.{◌≡◌, ◌+◌, ◌≤◌, ◌<◌, length};
+ghost use Rattle.std.specs.Prelude.{◌≡◌, ◌+◌, ◌^◌, ◌≤◌, ◌<◌, length};
 ghost use Rattle.bigendian.specs.BigEndian.{bytes_of, number_at};
 
-pub fn write4(x: u32) -> [u8; 4]
-    ensures { result ≡ bytes_of 4 x }
+// The lowest K bytes of x.
+pub fn write<const K: usize>(x: u64) -> [u8; K]
+    ensures { result ≡ bytes_of K x }
 {
-    [
-        (x / 16777216 % 256) as u8,
-        (x / 65536 % 256) as u8,
-        (x / 256 % 256) as u8,
-        (x % 256) as u8,
-    ]
+    let mut bytes = [0; K];
+    let mut rest = x;
+    for i in (0..K).rev() {
+        bytes[i] = (rest % 256) as u8;
+        rest /= 256;
+    }
+    bytes
 }
 
-pub fn write8(x: u64) -> [u8; 8]
-    ensures { result ≡ bytes_of 8 x }
+// The number in the K bytes of s from `at` on.
+pub fn read<const K: usize>(s: &[u8], at: usize) -> u64
+    requires k_bound { K ≤ 8 }
+    requires within { at + K ≤ length s.now }
+    ensures value { result ≡ number_at s.now at K }
+    ensures upper_bound { result < 256 ^ K }
 {
-    [
-        (x / 72057594037927936 % 256) as u8,
-        (x / 281474976710656 % 256) as u8,
-        (x / 1099511627776 % 256) as u8,
-        (x / 4294967296 % 256) as u8,
-        (x / 16777216 % 256) as u8,
-        (x / 65536 % 256) as u8,
-        (x / 256 % 256) as u8,
-        (x % 256) as u8,
-    ]
-}
-
-// A cast of its own, so that a read asks for its index alone.
-pub fn wide(x: u8) -> u32
-    ensures value { result ≡ x }
-    ensures upper_bound { result < 256 }
-{
-    x as u32
-}
-
-pub fn read4(s: &[u8], at: usize) -> u32
-    requires { at + 4 ≤ length s.now }
-    ensures { result ≡ number_at s.now at 4 }
-{
-    ((wide(s[at]) * 256 + wide(s[at + 1])) * 256 + wide(s[at + 2])) * 256 + wide(s[at + 3])
-}
-
-pub fn read8(s: &[u8], at: usize) -> u64
-    requires { at + 8 ≤ length s.now }
-    ensures { result ≡ number_at s.now at 8 }
-{
-    let high = read4(s, at) as u64;
-    let low = read4(s, at + 4) as u64;
-    high * 4294967296 + low
+    let mut number = 0;
+    for i in 0..K {
+        number = number * 256 + u64::from(s[at + i]);
+    }
+    number
 }
