@@ -2,12 +2,12 @@
 use mathlib.Core.Path.{◌≡◌, refl, sym, ap, ap₂, ◌∙◌, subst}
 use mathlib.Core.List.{List, [], ◌∷◌, ◌++◌, append_assoc}
 use Prim.Native.Nat.{ℕ, zero, suc, ◌+◌, ◌-◌, ◌*◌, ◌/◌, ◌%◌, ◌^◌, ◌≤◌, ◌<◌}
-use native.Mathlib.Nat.{pow-suc, pow-succ', div-one, div-div-eq-div-mul, div-add-mod', div-lt_iff_lt-mul, add-suc, add-zero, lt_of_lt_of_le, pow-le-pow_right, add_assoc, mul_assoc, add-mul}
-use native.Mathlib.Numerals.{add-one}
+use native.Mathlib.Nat.{pow-suc, pow-succ', div-one, div-div-eq-div-mul, div-add-mod', div-lt_iff_lt-mul, add-suc, add-zero, lt_of_lt_of_le, pow-le-pow_right, mul-le-mul_right, mod-eq_of_lt, add_assoc, mul_assoc, add-mul}
 use native.Mathlib.Omega.{arith}
 use lib.Dec.{lit<}
 use lib.Arith.{lt-one, digits_lt, digits_div, digits_mod}
 use lib.ListN.{length, get_or, take, drop, set, replicate, take-append-drop, length-drop, length-replicate, drop_of_length-le}
+use lib.Pow.{pow-add}
 use lib.Seq.{get_or-append-add, get_or_at, get_or-drop, take-suc, drop-drop, drop_at, length-take-le, set_split}
 use Rattle.bigendian.specs.BigEndian.{bytes_of, number_at}
 
@@ -112,13 +112,60 @@ one_written k i rest x bytes h l w e d =
     ∙ drop_at (take (i - 1) bytes) (rest % 256 ∷ drop (suc (i - 1)) bytes) (i - 1) (length-take-le (i - 1) bytes some)
     ∙ ap₂ (λ (a : ℕ) (t : List ℕ). a % 256 ∷ t) e (ap (λ (j : ℕ). drop j bytes) u ∙ d))
 
--- ---- for the loop that reads
+-- ---- for the loop that reads, from the last byte to the first
 
--- one byte more, and an eight-byte word has room for it
-pub byte_fits : (n b i : ℕ) → n < 256 ^ i → b < 256 → n * 256 + b < 256 ^ (i + 1)
-byte_fits n b i f g = rw (add-one, pow-suc) (digits_lt f g)
+eight_bits : (m : ℕ) → 2 ^ (8 * m) ≡ 256 ^ m
+eight_bits zero = refl
+eight_bits (suc m) =
+    let e : 8 * suc m ≡ 8 * m + 8 = omega arith in
+    ap (λ (j : ℕ). 2 ^ j) e ∙ pow-add 2 (8 * m) 8 ∙ ap (λ (a : ℕ). a * 256) (eight_bits m) ∙ sym (pow-suc 256 m)
 
-pub room_for_byte : (n b i : ℕ) → i < 8 → n < 256 ^ i → b < 256 → n * 256 + b < 256 ^ 8
-room_for_byte n b i h f g =
-    let k : i + 1 ≤ 8 = omega arith in
-    lt_of_lt_of_le (byte_fits n b i f g) (pow-le-pow_right {n = 256} (lit< tt) k)
+-- nothing is read
+pub none_read : (s : List ℕ) (i k : ℕ) → (0 ≡ number_at s i (k - k)) × (0 < 256 ^ (k - k))
+unfolding number_at
+none_read s i k =
+    let e : k - k ≡ 0 = omega arith in
+    rw e (refl, lit< tt)
+
+byte_below : (n b j : ℕ) → n < 256 ^ j → b < 256 → n + b * 256 ^ j < 256 ^ suc j
+byte_below n b j f g =
+    let most : (b + 1) * 256 ^ j ≤ 256 * 256 ^ j = mul-le-mul_right (256 ^ j) (omega arith) in
+    let parts : (b + 1) * 256 ^ j ≡ b * 256 ^ j + 1 * 256 ^ j = add-mul b 1 (256 ^ j) in
+    rw pow-succ' (omega arith)
+
+module _ (k i b n : ℕ) (some : 0 < i) (inside : i ≤ k) (few : k ≤ 8) (byte : b < 256) (below : n < 256 ^ (k - i)) where
+  abbrev shifted : ℕ
+  shifted = b * 2 ^ (8 * (k - 1 - (i - 1))) % 2 ^ 64
+
+  -- the byte, moved up by those behind it, and the number n of these
+  fits : n + b * 256 ^ (k - i) < 256 ^ (k - (i - 1))
+  fits =
+      let e : k - (i - 1) ≡ suc (k - i) = omega arith in
+      rw e (byte_below n b (k - i) below byte)
+
+  fits_word : n + b * 256 ^ (k - i) < 2 ^ 64
+  fits_word =
+      let u : k - (i - 1) ≤ 8 = omega arith in
+      lt_of_lt_of_le fits (pow-le-pow_right {n = 256} (lit< tt) u)
+
+  -- no bit of it is cut off
+  moved_up : shifted ≡ b * 256 ^ (k - i)
+  moved_up =
+      let e : k - 1 - (i - 1) ≡ k - i = omega arith in
+      let room : b * 256 ^ (k - i) < 2 ^ 64 = omega (arith, fits_word) in
+      rw (e, eight_bits (k - i)) (mod-eq_of_lt room)
+
+  pub room_for_byte : n + shifted < 2 ^ 64
+  room_for_byte = rw moved_up fits_word
+
+  pub byte_fits : n + shifted < 256 ^ (k - (i - 1))
+  byte_fits = rw moved_up fits
+
+  pub byte_before : (s : List ℕ) (at : ℕ) → n ≡ number_at s (at + i) (k - i) → b ≡ get_or s (at + (i - 1)) 0
+      → n + shifted ≡ number_at s (at + (i - 1)) (k - (i - 1))
+  unfolding number_at
+  byte_before s at e d =
+      let u : k - (i - 1) ≡ 1 + (k - i) = omega arith in
+      let v : at + (i - 1) + 1 ≡ at + i = omega arith in
+      let w : number_at s (at + (i - 1)) 1 ≡ b = rw (add-zero, d) (omega arith) in
+      rw (moved_up, u, number_join s (at + (i - 1)) 1 (k - i), v, w, sym e) (omega arith)

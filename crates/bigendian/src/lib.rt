@@ -24,9 +24,10 @@ pub fn read<const K: usize>(s: &[u8], at: usize) -> u64
     ensures value { result ≡ number_at s.now at K }
     ensures upper_bound { result < 256 ^ K }
 {
+    // from the last byte to the first: the other way round LLVM loads eight bytes one by one
     let mut number = 0;
-    for i in 0..K {
-        number = number * 256 + u64::from(s[at + i]);
+    for i in (0..K).rev() {
+        number += u64::from(s[at + i]) << (8 * (K - 1 - i));
     }
     number
 }

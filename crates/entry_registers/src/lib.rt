@@ -128,7 +128,7 @@ pub fn read(mode: u32, block: &[u8], address: u32, value: &mut u32) -> u32
     if 63 < address {
         return 14;
     }
-    *value = bigendian::wide(block[address as usize]);
+    *value = u32::from(block[address as usize]);
     0
 }
 

@@ -17,10 +17,10 @@ fn slot_vote(votes: &[u8], p: usize) -> Vote
     ensures { result ≡ slot_vote votes.now p }
 {
     let at = 28 * p;
-    let number = bigendian::read4(votes, at);
-    let set = bigendian::read8(votes, at + 4);
-    let base = bigendian::read8(votes, at + 12);
-    let view = bigendian::read8(votes, at + 20);
+    let number = bigendian::read::<4>(votes, at) as u32;
+    let set = bigendian::read::<8>(votes, at + 4);
+    let base = bigendian::read::<8>(votes, at + 12);
+    let view = bigendian::read::<8>(votes, at + 20);
     Vote {
         group: Group { number, set, base },
         view,

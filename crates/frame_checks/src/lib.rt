@@ -13,9 +13,7 @@ fn header_of(s: &[u8]) -> u64
     requires { 5 ≤ length s.now }
     ensures { result ≡ number_at s.now 0 5 }
 {
-    let first = s[0] as u64;
-    let rest = bigendian::read4(s, 1) as u64;
-    first * 4294967296 + rest
+    bigendian::read::<5>(s, 0)
 }
 
 // Whether the header check of a frame whose header is h fails.
@@ -36,8 +34,7 @@ fn wrong_frame(channel: u32, s: &[u8]) -> bool
 {
     let at = s.len() - 3;
     let check = crc::frame_check(crc::channel_start(channel), &s[..at]);
-    // the last three of four bytes
-    bigendian::read4(s, at - 1) % 16777216 != check
+    bigendian::read::<3>(s, at) != u64::from(check)
 }
 
 // Refusals 5 to 9, of several the lowest.

@@ -90,11 +90,11 @@ fn vote_content(n: usize, q: u32, s: &[u8]) -> VoteRead
 {
     let v = Vote {
         group: Group {
-            number: bigendian::read4(s, 5),
-            set: bigendian::read8(s, 9),
-            base: bigendian::read8(s, 17),
+            number: bigendian::read::<4>(s, 5) as u32,
+            set: bigendian::read::<8>(s, 9),
+            base: bigendian::read::<8>(s, 17),
         },
-        view: bigendian::read8(s, 25),
+        view: bigendian::read::<8>(s, 25),
     };
     if formed_vote(n, q as usize, v) {
         VoteRead::Whole(v)

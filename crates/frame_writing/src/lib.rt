@@ -88,10 +88,10 @@ pub fn vote_payload(v: Vote) -> [u8; 28]
 {
     let group = v.group;
     let mut r = [0u8; 28];
-    parts::put(&mut r, 0, &bigendian::write4(group.number));
-    parts::put(&mut r, 4, &bigendian::write8(group.set));
-    parts::put(&mut r, 12, &bigendian::write8(group.base));
-    parts::put(&mut r, 20, &bigendian::write8(v.view));
+    parts::put(&mut r, 0, &bigendian::write::<4>(u64::from(group.number)));
+    parts::put(&mut r, 4, &bigendian::write::<8>(group.set));
+    parts::put(&mut r, 12, &bigendian::write::<8>(group.base));
+    parts::put(&mut r, 20, &bigendian::write::<8>(v.view));
     r
 }
 

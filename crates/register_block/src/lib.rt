@@ -13,14 +13,14 @@ fn zero4(s: &[u8], at: usize) -> bool
     requires { at + 4 ≤ length s.now }
     ensures { result ≡ all_zero (take 4 (drop at s.now)) }
 {
-    bigendian::read4(s, at) == 0
+    bigendian::read::<4>(s, at) == 0
 }
 
 fn zero8(s: &[u8], at: usize) -> bool
     requires { at + 8 ≤ length s.now }
     ensures { result ≡ all_zero (take 8 (drop at s.now)) }
 {
-    bigendian::read8(s, at) == 0
+    bigendian::read::<8>(s, at) == 0
 }
 
 // Whether bytes 27 to 63 are 0.

@@ -34,9 +34,9 @@ fn group_at(s: &[u8]) -> Group
     ensures { result ≡ group_at s.now }
 {
     Group {
-        number: bigendian::read4(s, 4),
-        set: bigendian::read8(s, 8),
-        base: bigendian::read8(s, 16),
+        number: bigendian::read::<4>(s, 4) as u32,
+        set: bigendian::read::<8>(s, 8),
+        base: bigendian::read::<8>(s, 16),
     }
 }
 

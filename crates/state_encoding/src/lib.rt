@@ -38,9 +38,9 @@ pub fn no_group() -> Group
 fn image(kind: u8, reason: u8, id: u8, n: u8, g: Group) -> [u8; 24]
     ensures { result ≡ layout kind reason id n g }
 {
-    let g4 = bigendian::write4(g.number);
-    let m8 = bigendian::write8(g.set);
-    let b8 = bigendian::write8(g.base);
+    let g4 = bigendian::write::<4>(u64::from(g.number));
+    let m8 = bigendian::write::<8>(g.set);
+    let b8 = bigendian::write::<8>(g.base);
     [
         kind, reason, id, n, g4[0], g4[1], g4[2], g4[3], m8[0], m8[1], m8[2], m8[3], m8[4], m8[5],
         m8[6], m8[7], b8[0], b8[1], b8[2], b8[3], b8[4], b8[5], b8[6], b8[7],

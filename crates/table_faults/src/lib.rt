@@ -26,7 +26,7 @@ pub fn cycle_missed(s: &[u8], heartbeats: &mut [u64; 64], votes: &mut [u64; 64])
     let mut i: usize = 0;
     while i < count {
         let first = s[36 + 9 * i];
-        let mask = bigendian::read8(s, 37 + 9 * i);
+        let mask = bigendian::read::<8>(s, 37 + 9 * i);
         note(heartbeats, 0, first, mask);
         note(votes, 2, first, mask);
         i += 1;
@@ -39,10 +39,10 @@ pub fn marks_at(s: &[u8]) -> Marks
     ensures { result ≡ marks_at s.now }
 {
     Marks {
-        stop: bigendian::read8(s, 3),
-        start: bigendian::read8(s, 11),
-        heartbeat_lost: bigendian::read8(s, 19),
-        vote_lost: bigendian::read8(s, 27),
+        stop: bigendian::read::<8>(s, 3),
+        start: bigendian::read::<8>(s, 11),
+        heartbeat_lost: bigendian::read::<8>(s, 19),
+        vote_lost: bigendian::read::<8>(s, 27),
     }
 }
 

@@ -48,7 +48,7 @@ pub fn start_founding(s: &[u8]) -> u64
     requires { 12 ≤ length s.now }
     ensures { result ≡ founding_at s.now }
 {
-    bigendian::read8(s, 4)
+    bigendian::read::<8>(s, 4)
 }
 
 // 1 for a number of nodes other than 2 to 64.

@@ -50,7 +50,7 @@ fn entry_fits(n: usize, s: &[u8], i: usize) -> bool
     if !place_fits(n, first) {
         return false;
     }
-    let missed = bigendian::read8(s, 37 + 9 * i);
+    let missed = bigendian::read::<8>(s, 37 + 9 * i);
     if !mask_fits(n, (first % 64) as usize, missed) {
         return false;
     }
@@ -78,16 +78,16 @@ fn masks_beyond(n: usize, s: &[u8]) -> bool
     requires { (n ≤ 64) × (36 ≤ length s.now) }
     ensures { result ≡ masks_beyond n s.now }
 {
-    if table_first::is_beyond(n, bigendian::read8(s, 3)) {
+    if table_first::is_beyond(n, bigendian::read::<8>(s, 3)) {
         return true;
     }
-    if table_first::is_beyond(n, bigendian::read8(s, 11)) {
+    if table_first::is_beyond(n, bigendian::read::<8>(s, 11)) {
         return true;
     }
-    if table_first::is_beyond(n, bigendian::read8(s, 19)) {
+    if table_first::is_beyond(n, bigendian::read::<8>(s, 19)) {
         return true;
     }
-    table_first::is_beyond(n, bigendian::read8(s, 27))
+    table_first::is_beyond(n, bigendian::read::<8>(s, 27))
 }
 
 // What 13 stands for in a record that is all there; its count is looked at before.

@@ -1,26 +1,24 @@
-use mathlib.Core.Path.{refl}
-use native.Mathlib.Numerals.{add-one}
+use Prim.Native.Nat.{◌+◌, ◌<◌}
 use native.Mathlib.Omega.{arith}
-use lib.Dec.{lit<}
-use Rattle.bigendian.specs.BigEndian.{number_at}
-use Rattle.bigendian.proofs.Laws.{byte_fits, room_for_byte}
+use Rattle.bigendian.proofs.Laws.{none_read, room_for_byte, byte_fits, byte_before}
 use Rattle.bigendian.proofs.read.Goals as goal
 
 pub loop-i-init : goal.loop-i-init
-unfolding number_at
-loop-i-init g c = record { value = refl; fits = lit< tt }
-
-pub overflow_mul-number : goal.overflow_mul-number
-overflow_mul-number g c = omega (arith, room_for_byte c.loop-i.number 0 c.loop-i.i (omega arith) c.loop-i.invariant.fits (lit< tt))
+loop-i-init g c =
+    let h = none_read c.args.s.now (c.args.at + g.row.K) g.row.K in record { value = h.0; fits = h.1 }
 
 pub overflow_add-number : goal.overflow_add-number
-overflow_add-number g c = omega (arith, room_for_byte c.loop-i.number c.from.result c.loop-i.i (omega arith) c.loop-i.invariant.fits (omega arith))
+overflow_add-number g c =
+    let l = c.loop-i in
+    omega (arith, room_for_byte g.row.K l.i c.from.result l.number (omega arith) (omega arith) (omega arith) (omega arith) l.invariant.fits)
 
 pub loop-i-preserved : goal.loop-i-preserved
-unfolding number_at
 loop-i-preserved g c =
     let l = c.loop-i in
+    let k = g.row.K in
+    let b = c.from.result in
+    let byte : b < 256 = omega arith in
     let h = l.invariant in record {
-      value = rw (add-one, h.value, c.from.ensures);
-      fits = byte_fits l.number c.from.result l.i h.fits (omega arith);
+      value = byte_before k l.i b l.number (omega arith) (omega arith) (omega arith) byte h.fits c.args.s.now c.args.at h.value c.from.ensures;
+      fits = byte_fits k l.i b l.number (omega arith) (omega arith) (omega arith) byte h.fits;
     }
