@@ -4,3 +4,4 @@ pub mod Payloads
 pub mod Headers
 pub mod RoundTrip
 pub mod TwoChannels
+pub mod Refused

@@ -3,6 +3,8 @@
 
 ghost use Rattle.std.specs.Prelude.{◌≡◌, true, ◌<◌};
 
+use refusal::Refusal;
+
 // The two kinds of frame.
 #[derive(Clone, Copy, Debug, PartialEq, Eq)]
 pub enum Kind {
@@ -19,6 +21,24 @@ pub enum Fault {
     NullFrame,
     NotDue,
     Content,
+}
+
+// So that `?` gives the refusal that a call of the product answers.
+impl From<Fault> for Refusal {
+    ghost use Rattle.frames.specs.Refused.{refusal_of};
+
+    ghost from_gives = { λ f r. r ≡ refusal_of f };
+
+    fn from(f: Fault) -> Refusal {
+        match f {
+            Fault::Length => Refusal::FrameLength,
+            Fault::HeaderCheck => Refusal::HeaderCheck,
+            Fault::FrameCheck => Refusal::FrameCheck,
+            Fault::NullFrame => Refusal::NullFrame,
+            Fault::NotDue => Refusal::NotDue,
+            Fault::Content => Refusal::Content,
+        }
+    }
 }
 
 // What a heartbeat says: a member's, a joining node's, or that of a member that requests.
