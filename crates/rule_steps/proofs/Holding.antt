@@ -1,30 +1,18 @@
--- Votes compared whatever the mask says, and the mask taken once for all slots. Assumes nothing.
+-- The mask of the slots that hold a vote, taken once for all slots. Assumes nothing.
 use mathlib.Core.Path.{◌≡◌, refl, sym, ap, ◌∙◌}
 use mathlib.Core.Bool.{Bool, true, false, ◌&&◌}
 use mathlib.Core.List.{List}
 use Prim.Native.Nat.{ℕ}
 use lib.Dec.{ltb}
-use lib.ListN.{get_or}
 use Rattle.sets.specs.Sets.{has, ◌∩◌, those}
 use Rattle.sets.proofs.Membership.{has_inter, set_ext}
 use Rattle.sets.proofs.Nodes.{has-those}
-use Rattle.state.specs.declared.Group.{Group}
 use Rattle.rules.specs.declared.Vote.{Vote}
 use Rattle.rules.specs.OneCycle.{same_vote, is}
-use Rattle.rules.specs.Ballots.{group_at, vote_at, ballots_of, equal_to}
-use Rattle.rules.proofs.Slots.{slot-full, is-slot-test}
+use Rattle.rules.specs.Ballots.{vote_at, ballots_of, equal_to}
+use Rattle.rules.proofs.Slots.{is-slot-test}
 
 module _ (numbers sets bases views : List ℕ) (v : Vote) where
-  -- by the group that was read from the slot
-  pub holds-slot : (p : ℕ) (g : Group) (b : Bool) → b ≡ same_vote v (record { group = g; view = get_or views p 0 }) → g ≡ group_at numbers sets bases p
-      → b ≡ same_vote v (vote_at numbers sets bases views p)
-  holds-slot p g b e k = e ∙ ap (λ (h : Group). same_vote v (record { group = h; view = get_or views p 0 })) k
-
-  -- of a slot in the mask that is its vote
-  pub holds-full : (present p : ℕ) (g : Group) (b r : Bool) → b ≡ same_vote v (record { group = g; view = get_or views p 0 }) → g ≡ group_at numbers sets bases p → r ≡ has p present → r ≡ true
-      → b ≡ is v (ballots_of numbers sets bases views present p)
-  holds-full present p g b r e k f t = holds-slot p g b e k ∙ sym (ap (is v) (slot-full numbers sets bases views present p (sym f ∙ t)))
-
   -- the mask taken once is the mask taken of each slot
   pub masked : (n present m r : ℕ) → m ≡ those n (λ x. same_vote v (vote_at numbers sets bases views x)) → r ≡ present ∩ m → r ≡ equal_to numbers sets bases views n present v
   unfolding same_vote

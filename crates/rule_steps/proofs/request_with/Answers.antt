@@ -1,15 +1,15 @@
-use borrow.Author.Tests.{not-true, not-false, eq-eqb, ne_eqb}
+use borrow.Author.Tests.{eq-eqb, ne_eqb}
 use Rattle.rules.specs.OneCycle.{request_with}
 use Rattle.rule_steps.proofs.request_with.Goals as goal
 
-pub returns-then-not-config : goal.returns-then-not-config
+pub returns-then-v : goal.returns-then-v
 unfolding request_with
-returns-then-not-config c = simp (not-true c.args.config.quiet c.if-not-config.true)
+returns-then-v c = simp (c.if-config.true, ne_eqb _ _ c.if-v.true)
 
-pub returns-then-v-g : goal.returns-then-v-g
+pub returns-else-v : goal.returns-else-v
 unfolding request_with
-returns-then-v-g c = simp (not-false c.args.config.quiet c.if-not-config.false, ne_eqb _ _ c.if-v-g.true)
+returns-else-v c = simp (c.if-config.true, eq-eqb _ _ c.if-v.false)
 
-pub returns : goal.returns
+pub returns-else-config : goal.returns-else-config
 unfolding request_with
-returns c = simp (not-false c.args.config.quiet c.if-not-config.false, eq-eqb _ _ c.if-v-g.false)
+returns-else-config c = simp c.if-config.false

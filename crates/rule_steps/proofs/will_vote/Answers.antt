@@ -14,6 +14,6 @@ pub returns-then-own : goal.returns-then-own
 unfolding will_vote called
 returns-then-own c = simp (c.if-not-config.false, eq-eqb _ _ c.if-view-set.false, c.if-own.true)
 
-pub returns : goal.returns
+pub returns-else-own : goal.returns-else-own
 unfolding will_vote called
-returns c = simp (c.if-not-config.false, eq-eqb _ _ c.if-view-set.false, c.if-own.false, c.intersection.ensures)
+returns-else-own c = simp (c.if-not-config.false, eq-eqb _ _ c.if-view-set.false, c.if-own.false, c.intersection.ensures)
