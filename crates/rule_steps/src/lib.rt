@@ -1,11 +1,12 @@
 // Rules 1 to 4 of one node, whether it votes, and the group that a vote gives. Votes are lent as their groups and an array of views, a slot for each sender, and the mask of the slots that hold one.
 #![tactic(auto)]
 
-ghost use Rattle.std.specs.Prelude.{◌≡◌, true, false, ◌&&◌, ◌<◌, ◌≤◌};
+ghost use Rattle.std.specs.Prelude.{◌≡◌, cond, ◌<◌, ◌≤◌};
 ghost use Rattle.sets.specs.Sets.{◌∪◌, ◌∖◌};
 ghost use Rattle.rules.specs.OneCycle.{wrong_mode, quiet_in, stop_and_start, sends_member, sends_join, asks as does_ask, view_of, called, will_vote, is, group_with, request_with};
 ghost use Rattle.rules.specs.Ballots.{vote_at, ballots_of, equal_to};
 
+use refusal::Refusal;
 use rules::{Config, Groups, Heard, Vote};
 use state::{Group, Reason, State};
 
@@ -23,15 +24,22 @@ pub fn is_quiet(mode: u32) -> bool
     mode == 1
 }
 
+// The mode of a press, by its number: whether it is quiet, or refusal 2.
+pub fn check_mode(mode: u32) -> Result<bool, Refusal>
+    ensures { result ≡ cond (wrong_mode mode) (Err Refusal.Number) (Ok (quiet_in mode)) }
+{
+    match mode {
+        0 => Ok(false),
+        1 => Ok(true),
+        _ => Err(Refusal::Number),
+    }
+}
+
 // Rule 1: the stop comes before the start.
 pub fn stop_and_start(stop: bool, start: bool, s: State) -> State
     ensures { result ≡ stop_and_start stop start s }
 {
-    let after = if stop {
-        State::Out(Reason::Stopped)
-    } else {
-        s
-    };
+    let after = if stop { State::Out(Reason::Stopped) } else { s };
     match after {
         State::Out(_) => if start { State::Joining } else { after },
         State::Joining | State::Member(_, _) => after,
