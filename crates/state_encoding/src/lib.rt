@@ -1,39 +1,10 @@
 // A node's 24-byte image, written.
 #![tactic(auto)]
 
-ghost use Rattle.std.specs.Prelude.{◌≡◌, cond};
-ghost use Rattle.state.specs.State.{reason_code};
-ghost use Rattle.state.specs.Image.{kind_code, reason_byte, group_bytes, layout, image_of, no_group};
+ghost use Rattle.std.specs.Prelude.{◌≡◌};
+ghost use Rattle.state.specs.Image.{kind_code, reason_byte, group_bytes, layout, image_of};
 
-use state::{Group, Node, Reason, State};
-
-pub fn reason_code(r: Reason) -> u8
-    ensures { result ≡ reason_code r }
-{
-    match r {
-        Reason::Stopped => 0,
-        Reason::NoQuorum => 1,
-        Reason::Outvoted => 2,
-    }
-}
-
-// The reason byte of a member: whether it requests.
-pub fn request_code(asks: bool) -> u8
-    ensures { result ≡ cond asks 1 0 }
-{
-    if asks { 1 } else { 0 }
-}
-
-// What stands in the image of a node with no group.
-pub fn no_group() -> Group
-    ensures { result ≡ no_group }
-{
-    Group {
-        number: 0,
-        set: 0,
-        base: 0,
-    }
-}
+use state::{Group, Node, State};
 
 fn image(kind: u8, reason: u8, id: u8, n: u8, g: Group) -> [u8; 24]
     ensures { result ≡ layout kind reason id n g }
@@ -48,7 +19,7 @@ fn image(kind: u8, reason: u8, id: u8, n: u8, g: Group) -> [u8; 24]
 }
 
 // What an image says of a state: kind, reason and group. Each is one number or struct, so that the bytes are written once, by one way.
-fn kind_code(s: State) -> u8
+pub fn kind_code(s: State) -> u8
     ensures { result ≡ kind_code s }
 {
     match s {
@@ -58,24 +29,24 @@ fn kind_code(s: State) -> u8
     }
 }
 
-fn reason_byte(s: State) -> u8
+// Of a member, whether it requests.
+pub fn reason_byte(s: State) -> u8
     ensures { result ≡ reason_byte s }
 {
     match s {
-        State::Out(r) => reason_code(r),
+        State::Out(reason) => u8::from(reason),
         State::Joining => 0,
-        State::Member(_, asks) => request_code(asks),
+        State::Member(_, asks) => u8::from(asks),
     }
 }
 
-// The group that a node in this state holds, zeros where it holds none.
+// Zeros where none is held.
 pub fn group_held(s: State) -> Group
     ensures { result ≡ group_bytes s }
 {
     match s {
-        State::Out(_) => no_group(),
-        State::Joining => no_group(),
-        State::Member(g, _) => g,
+        State::Out(_) | State::Joining => Group::default(),
+        State::Member(group, _) => group,
     }
 }
 
