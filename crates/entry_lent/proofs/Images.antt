@@ -1,58 +1,53 @@
 -- What reading a lent image says of its length and of the node in it, and the refusals of a call that is lent an image and another buffer. Assumes nothing.
-use mathlib.Core.Path.{◌≡◌, refl, ap, ◌∙◌}
-use mathlib.Core.Bool.{Bool, true, false, not, cond, or-false, or-true}
-use mathlib.Core.List.{List}
-use Prim.Native.Nat.{ℕ, ◌≤◌, ◌<◌}
-use native.Mathlib.Omega.{arith}
-use lib.Dec.{eqb}
-use lib.ListN.{length}
-use borrow.Author.Tests.{eq-eqb, ne_eqb}
+use Rattle.std.proofs.Common.{◌≡◌, ℕ, ◌<◌, ◌≤◌, Bool, true, false, not, cond, eqb, List, length, refl, ap, ◌∙◌, Result, Ok, Err, eq-eqb, ne_eqb}
+use mathlib.Core.Bool.{or-false, or-true}
 use Rattle.bigendian.proofs.Laws.{Bytes}
 use Rattle.state.specs.declared.Node.{Node}
-use Rattle.state.specs.declared.Decoded.{Decoded}
-use Rattle.state.specs.declared.Decoded.TheVariants.{Good, WrongLength, Malformed}
 use Rattle.state.specs.State.{formed, formed_place, formed_state}
 use Rattle.state.specs.Image.{decoded, refusal, well_formed, node_at}
 use Rattle.state.proofs.Fields.{place_bounds}
 use Rattle.state.proofs.RoundTrip.{decoded-formed}
 use Rattle.sets.proofs.Booleans.{and_l}
+use Rattle.refusal.specs.declared.Refusal.{Refusal}
+use Rattle.refusal.specs.declared.Refusal.TheVariants.{Number, Length, Image}
+use Rattle.refusal.specs.Codes.{status_of}
 use Rattle.refusal.specs.Refusal.{first}
 use Rattle.rules.specs.OneCycle.{wrong_mode, quiet_in}
 use Rattle.entry_lent.specs.Refusals.{wrong_length, lent_conditions}
-use Rattle.entry_lent.specs.declared.Lent.{Lent}
-use Rattle.entry_lent.specs.declared.Lent.TheVariants.{Holds, Refused}
-use Rattle.entry_lent.specs.Found.{in_image, lent_state, status_of, image_status}
+use Rattle.entry_lent.specs.Found.{mode_in, lent_state, image_status}
 use Rattle.entry_lent.proofs.Bounds.{length-is}
 
+-- what holds of a node, of a malformed image and of one of another length holds of what reading an image finds
+pub by_decoded : (quiet : Bool) (s : List ℕ) (P : Result Node Refusal → Type 0) → P (Ok (node_at s)) → P (Err Image) → P (Err Length) → P (decoded quiet s)
+unfolding decoded
+by_decoded quiet s P good malformed short = go (eqb (length s) 24) (well_formed quiet s)
+  where
+    go : (b c : Bool) → P (cond b (cond c (Ok (node_at s)) (Err Image)) (Err Length))
+    go true true = good
+    go true false = malformed
+    go false c = short
+
 -- the length of a lent image, by what reading it finds
-abbrev pub is_wrong : Decoded → Bool
-is_wrong (Good n) = false
-is_wrong WrongLength = true
-is_wrong Malformed = false
+abbrev pub is_wrong : Result Node Refusal → Bool
+is_wrong d = eqb (status_of d) 3
 
 pub length_read : (quiet : Bool) (s : List ℕ) → wrong_length 24 s ≡ is_wrong (decoded quiet s)
 unfolding decoded
 length_read quiet s = go (eqb (length s) 24) (well_formed quiet s)
   where
-    go : (b c : Bool) → not b ≡ is_wrong (cond b (cond c (Good (node_at s)) Malformed) WrongLength)
+    go : (b c : Bool) → not b ≡ is_wrong (cond b (cond c (Ok (node_at s)) (Err Image)) (Err Length))
     go true true = refl
     go true false = refl
     go false c = refl
 
-pub good_length : (quiet : Bool) (s : List ℕ) (n : Node) → decoded quiet s ≡ Good n → length s ≡ 24
+pub good_length : (quiet : Bool) (s : List ℕ) (n : Node) → decoded quiet s ≡ Ok n → length s ≡ 24
 good_length quiet s n e = length-is 24 s (length_read quiet s ∙ ap is_wrong e)
 
 -- the node that is found is the one of its bytes
-pub good_node : (quiet : Bool) (s : List ℕ) (n : Node) → decoded quiet s ≡ Good n → node_at s ≡ n
-unfolding decoded
-good_node quiet s n = go (eqb (length s) 24) (well_formed quiet s)
-  where
-    go : (b c : Bool) → cond b (cond c (Good (node_at s)) Malformed) WrongLength ≡ Good n → node_at s ≡ n
-    go true true e = cc
-    go true false e = absurd (let z : ◌≡◌ {A = ℕ} 0 1 = cc in omega arith)
-    go false c e = absurd (let z : ◌≡◌ {A = ℕ} 0 1 = cc in omega arith)
+pub good_node : (quiet : Bool) (s : List ℕ) (n : Node) → decoded quiet s ≡ Ok n → node_at s ≡ n
+good_node quiet s n = by_decoded quiet s (λ (d : Result Node Refusal). d ≡ Ok n → node_at s ≡ n) (λ e. cc) (λ e. cc) (λ e. cc)
 
-pub good_place : (quiet : Bool) (s : List ℕ) (n : Node) → Bytes s → decoded quiet s ≡ Good n → (n.nodes ≤ 64) × (n.id < n.nodes)
+pub good_place : (quiet : Bool) (s : List ℕ) (n : Node) → Bytes s → decoded quiet s ≡ Ok n → (n.nodes ≤ 64) × (n.id < n.nodes)
 unfolding formed
 good_place quiet s n b e =
     let p = place_bounds n.id n.nodes (and_l (formed_place n.id n.nodes) (formed_state quiet n.id n.nodes n.state) (decoded-formed quiet s n b e)) in
@@ -65,46 +60,40 @@ other_length quiet s f k h = simp (ne_eqb (length f) k h, or-true)
 -- past the other buffer the image decides
 pub by_image : (quiet : Bool) (s f : List ℕ) (k : ℕ) → length f ≡ k → refusal (decoded quiet s) ≡ first (lent_conditions quiet s k f)
 unfolding first
-by_image quiet s f k l = simp (eq-eqb (length f) k l, or-false, length_read quiet s) (by (decoded quiet s))
+by_image quiet s f k l =
+    simp (eq-eqb (length f) k l, or-false, length_read quiet s)
+    (by_decoded quiet s (λ (d : Result Node Refusal). status_of d ≡ cond (is_wrong d) 3 (cond (eqb (status_of d) 4) 4 0)) refl refl refl)
+
+-- what a mode says, and of what is none
+pub mode_found : (mode : ℕ) (quiet : Bool) → Ok quiet ≡ mode_in mode → (wrong_mode mode ≡ false) × (quiet ≡ quiet_in mode)
+mode_found mode quiet = go (wrong_mode mode)
   where
-    by : (d : Decoded) → refusal d ≡ cond (is_wrong d) 3 (cond (eqb (refusal d) 4) 4 0)
-    by (Good n) = refl
-    by WrongLength = refl
-    by Malformed = refl
+    go : (b : Bool) → Ok quiet ≡ cond b (Err Number) (Ok (quiet_in mode)) → (b ≡ false) × (quiet ≡ quiet_in mode)
+    go true e = cc
+    go false e = (refl, cc)
+
+pub mode_refused : (mode : ℕ) (r : Refusal) → Err r ≡ mode_in mode → (wrong_mode mode ≡ true) × (r ≡ Number)
+mode_refused mode r = go (wrong_mode mode)
+  where
+    go : (b : Bool) → Err r ≡ cond b (Err Number) (Ok (quiet_in mode)) → (b ≡ true) × (r ≡ Number)
+    go true e = (refl, cc)
+    go false e = cc
 
 -- a call that is lent a state alone finds a node in a mode that there is
-pub found_state : (mode : ℕ) (s : List ℕ) (n : Node) → lent_state mode s ≡ Holds n → (wrong_mode mode ≡ false) × (decoded (quiet_in mode) s ≡ Good n)
+pub found_state : (mode : ℕ) (s : List ℕ) (n : Node) → lent_state mode s ≡ Ok n → (wrong_mode mode ≡ false) × (decoded (quiet_in mode) s ≡ Ok n)
 unfolding lent_state
-found_state mode s n = go (wrong_mode mode) (decoded (quiet_in mode) s)
+found_state mode s n = go (wrong_mode mode)
   where
-    other : (r : ℕ) → Refused r ≡ Holds n → ⊥
-    other r e = let z : ◌≡◌ {A = ℕ} 0 1 = cc in omega arith
-
-    go : (b : Bool) (d : Decoded) → cond b (Refused 2) (in_image d) ≡ Holds n → (b ≡ false) × (d ≡ Good n)
-    go true d e = absurd (other 2 e)
-    go false (Good m) e = let z : m ≡ n = cc in (refl, ap Good z)
-    go false WrongLength e = absurd (other 3 e)
-    go false Malformed e = absurd (other 4 e)
-
--- a refusal has a number
-pub state_numbered : (mode : ℕ) (s : List ℕ) (r : ℕ) → lent_state mode s ≡ Refused r → r ≡ 0 → ⊥
-unfolding lent_state
-state_numbered mode s r e z = go (wrong_mode mode) (decoded (quiet_in mode) s) e
-  where
-    some : (k : ℕ) → (k ≡ 0 → ⊥) → Refused k ≡ Refused r → ⊥
-    some k never e = let w : k ≡ r = cc in never (w ∙ z)
-
-    go : (b : Bool) (d : Decoded) → cond b (Refused 2) (in_image d) ≡ Refused r → ⊥
-    go true d h = some 2 (λ z. omega arith) h
-    go false (Good m) h = let w : ◌≡◌ {A = ℕ} 0 1 = cc in omega arith
-    go false WrongLength h = some 3 (λ z. omega arith) h
-    go false Malformed h = some 4 (λ z. omega arith) h
+    go : (b : Bool) → cond b (Err Number) (decoded (quiet_in mode) s) ≡ Ok n → (b ≡ false) × (decoded (quiet_in mode) s ≡ Ok n)
+    go true e = cc
+    go false e = (refl, e)
 
 -- what is left of such a call is what it was before, if it is that where nothing is found
-pub state_kept : {A : Type 0} (left : Lent → A) (before : A) (mode : ℕ) (s : List ℕ) → ((r : ℕ) → left (Refused r) ≡ before) → (image_status mode s ≡ 0 → ⊥) → left (lent_state mode s) ≡ before
+pub state_kept : {A : Type 0} (left : Result Node Refusal → A) (before : A) (mode : ℕ) (s : List ℕ) → ((r : Refusal) → left (Err r) ≡ before)
+    → (image_status mode s ≡ 0 → ⊥) → left (lent_state mode s) ≡ before
 unfolding image_status
 state_kept left before mode s kept refused = by (lent_state mode s) refused
   where
-    by : (d : Lent) → (status_of d ≡ 0 → ⊥) → left d ≡ before
-    by (Holds n) refused = absurd (refused refl)
-    by (Refused r) refused = kept r
+    by : (d : Result Node Refusal) → (status_of d ≡ 0 → ⊥) → left d ≡ before
+    by (Ok n) refused = absurd (refused refl)
+    by (Err r) refused = kept r

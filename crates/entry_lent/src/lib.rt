@@ -1,84 +1,90 @@
 // The numbers, buffers and states that a C host passes: how they are refused, as definitions, tests of the numbers, and the node of a lent state.
 #![tactic(auto)]
 
-ghost use Rattle.std.specs.Prelude.{◌≡◌, ◌||◌};
+ghost use Rattle.std.specs.Prelude.{◌≡◌, false, cond, ◌||◌, eqb};
+ghost use Rattle.refusal.specs.Codes.{status_of};
 ghost use Rattle.entry_lent.specs.Refusals.{wrong_count, wrong_node, wrong_cycle, wrong_channel, wrong_indicators};
-ghost use Rattle.entry_lent.specs.Found.{in_image, lent_node, lent_state};
+ghost use Rattle.entry_lent.specs.Found.{mode_in, lent_node, lent_state};
 
-use state::{Decoded, Node};
-
-// A state image that is lent: the node that it holds, or the number of a refusal.
-#[derive(Clone, Copy)]
-pub enum Lent {
-    Holds(Node),
-    Refused(u32),
-}
-
-fn in_image(d: Decoded) -> Lent
-    ensures { result ≡ in_image d }
-{
-    match d {
-        Decoded::Good(n) => Lent::Holds(n),
-        Decoded::WrongLength => Lent::Refused(3),
-        Decoded::Malformed => Lent::Refused(4),
-    }
-}
+use refusal::Refusal;
+use state::Node;
 
 // Refusal 1.
-pub fn wrong_count(n: u32) -> bool
-    ensures { result ≡ wrong_count n }
+#[tactic(auto, unfolding(crate::specs::Refusals::wrong_count))]
+pub fn check_count(n: u32) -> Result<(), Refusal>
+    ensures { status_of result ≡ cond (wrong_count n) 1 0 }
 {
-    if n < 2 {
-        return true;
+    match n {
+        2..=64 => Ok(()),
+        _ => Err(Refusal::NodeCount),
     }
-    64 < n
+}
+
+// Refusal 2, of a mode; of one that there is, whether it is that of a quiet press.
+pub fn check_mode(mode: u32) -> Result<bool, Refusal>
+    ensures { result ≡ mode_in mode }
+{
+    match mode {
+        0 => Ok(false),
+        1 => Ok(true),
+        _ => Err(Refusal::Number),
+    }
+}
+
+// Refusal 2, of a cycle count and a channel.
+pub fn check_cycle(cycle: u32, channel: u32) -> Result<(), Refusal>
+    ensures { status_of result ≡ cond (wrong_cycle cycle || wrong_channel channel) 2 0 }
+{
+    if 63 < cycle || 1 < channel {
+        return Err(Refusal::Number);
+    }
+    Ok(())
 }
 
 // Refusal 2, of a node, a cycle count and a channel.
-pub fn wrong_slot(n: u32, node: u32, cycle: u32, channel: u32) -> bool
-    ensures { result ≡ (wrong_node n node || wrong_cycle cycle || wrong_channel channel) }
+pub fn check_slot(n: u32, node: u32, cycle: u32, channel: u32) -> Result<(), Refusal>
+    ensures { status_of result ≡ cond (wrong_node n node || wrong_cycle cycle || wrong_channel channel) 2 0 }
 {
     if n <= node {
-        return true;
+        return Err(Refusal::Number);
     }
-    if 63 < cycle {
-        return true;
-    }
-    1 < channel
+    check_cycle(cycle, channel)
 }
 
 // Refusal 2, of indicators to be written.
-pub fn wrong_indicators(sync: u32, startup: u32) -> bool
-    ensures { result ≡ wrong_indicators sync startup }
+#[tactic(auto, unfolding(crate::specs::Refusals::wrong_indicators))]
+pub fn check_indicators(sync: u32, startup: u32) -> Result<(), Refusal>
+    ensures { status_of result ≡ cond (wrong_indicators sync startup) 2 0 }
 {
-    if 1 < sync {
-        return true;
+    if 1 < sync || 1 < startup || sync < startup {
+        return Err(Refusal::Number);
     }
-    if 1 < startup {
-        return true;
+    Ok(())
+}
+
+// Refusal 3, of a buffer of `given` bytes where `due` are.
+pub fn check_length(given: usize, due: usize) -> Result<(), Refusal>
+    ensures { status_of result ≡ cond (eqb given due) 0 3 }
+{
+    if given != due {
+        return Err(Refusal::Length);
     }
-    sync < startup
+    Ok(())
 }
 
 // The node of a call that is lent a state alone.
-pub fn lent_state(mode: u32, state: &[u8]) -> Lent
+#[tactic(auto, unfolding(crate::specs::Found::lent_state))]
+pub fn lent_state(mode: u32, state: &[u8]) -> Result<Node, Refusal>
     ensures { result ≡ lent_state mode state.now }
 {
-    if rule_steps::wrong_mode(mode) {
-        return Lent::Refused(2);
-    }
-    in_image(state_decoding::decode(rule_steps::is_quiet(mode), state))
+    state_decoding::decode(check_mode(mode)?, state)
 }
 
-// The node of a call in a quiet press or not, whose numbers are `wrong` or not, and that is lent `given` bytes where `due` are.
-pub fn lent_node(quiet: bool, wrong: bool, state: &[u8], given: usize, due: usize) -> Lent
-    ensures { result ≡ lent_node quiet wrong state.now given due }
+// The node of a call in a quiet press or not, whose numbers are not wrong, and that is lent `given` bytes where `due` are.
+#[tactic(auto, unfolding(crate::specs::Found::lent_node))]
+pub fn lent_node(quiet: bool, state: &[u8], given: usize, due: usize) -> Result<Node, Refusal>
+    ensures { result ≡ lent_node quiet false state.now given due }
 {
-    if wrong {
-        return Lent::Refused(2);
-    }
-    if given != due {
-        return Lent::Refused(3);
-    }
-    in_image(state_decoding::decode(quiet, state))
+    check_length(given, due)?;
+    state_decoding::decode(quiet, state)
 }
