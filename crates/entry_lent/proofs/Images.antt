@@ -14,7 +14,7 @@ use Rattle.refusal.specs.Codes.{status_of}
 use Rattle.refusal.specs.Refusal.{first}
 use Rattle.rules.specs.OneCycle.{wrong_mode, quiet_in}
 use Rattle.entry_lent.specs.Refusals.{wrong_length, lent_conditions}
-use Rattle.entry_lent.specs.Found.{mode_in, lent_state, image_status}
+use Rattle.entry_lent.specs.Found.{lent_state, image_status}
 use Rattle.entry_lent.proofs.Bounds.{length-is}
 
 -- what holds of a node, of a malformed image and of one of another length holds of what reading an image finds
@@ -65,14 +65,14 @@ by_image quiet s f k l =
     (by_decoded quiet s (λ (d : Result Node Refusal). status_of d ≡ cond (is_wrong d) 3 (cond (eqb (status_of d) 4) 4 0)) refl refl refl)
 
 -- what a mode says, and of what is none
-pub mode_found : (mode : ℕ) (quiet : Bool) → Ok quiet ≡ mode_in mode → (wrong_mode mode ≡ false) × (quiet ≡ quiet_in mode)
+pub mode_found : (mode : ℕ) (quiet : Bool) → Ok quiet ≡ cond (wrong_mode mode) (Err Number) (Ok (quiet_in mode)) → (wrong_mode mode ≡ false) × (quiet ≡ quiet_in mode)
 mode_found mode quiet = go (wrong_mode mode)
   where
     go : (b : Bool) → Ok quiet ≡ cond b (Err Number) (Ok (quiet_in mode)) → (b ≡ false) × (quiet ≡ quiet_in mode)
     go true e = cc
     go false e = (refl, cc)
 
-pub mode_refused : (mode : ℕ) (r : Refusal) → Err r ≡ mode_in mode → (wrong_mode mode ≡ true) × (r ≡ Number)
+pub mode_refused : (mode : ℕ) (r : Refusal) → Err r ≡ cond (wrong_mode mode) (Err Number) (Ok (quiet_in mode)) → (wrong_mode mode ≡ true) × (r ≡ Number)
 mode_refused mode r = go (wrong_mode mode)
   where
     go : (b : Bool) → Err r ≡ cond b (Err Number) (Ok (quiet_in mode)) → (b ≡ true) × (r ≡ Number)

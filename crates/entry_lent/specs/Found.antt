@@ -1,16 +1,12 @@
 -- What a call finds that is lent a state image and a buffer: a node, or a refusal.
 -- Assumes nothing.
-use Rattle.std.specs.Prelude.{Bool, cond, List, ℕ, eqb, Result, Ok, Err}
+use Rattle.std.specs.Prelude.{Bool, cond, List, ℕ, eqb, Result, Err}
 use Rattle.refusal.specs.declared.Refusal.{Refusal}
 use Rattle.refusal.specs.declared.Refusal.TheVariants.{Number, Length}
 use Rattle.refusal.specs.Codes.{status_of}
 use Rattle.state.specs.declared.Node.{Node}
 use Rattle.state.specs.Image.{decoded}
 use Rattle.rules.specs.OneCycle.{wrong_mode, quiet_in}
-
--- what a mode says, if it is one
-abbrev pub mode_in : ℕ → Result Bool Refusal
-mode_in mode = cond (wrong_mode mode) (Err Number) (Ok (quiet_in mode))
 
 -- "of several the lowest": 2 where a number is wrong, 3 where the buffer has another length than is due, then what the image gives
 unfoldable pub lent_node : Bool → Bool → List ℕ → ℕ → ℕ → Result Node Refusal

@@ -4,7 +4,7 @@
 ghost use Rattle.std.specs.Prelude.{◌≡◌, false, cond, ◌||◌, eqb};
 ghost use Rattle.refusal.specs.Codes.{status_of};
 ghost use Rattle.entry_lent.specs.Refusals.{wrong_count, wrong_node, wrong_cycle, wrong_channel, wrong_indicators};
-ghost use Rattle.entry_lent.specs.Found.{mode_in, lent_node, lent_state};
+ghost use Rattle.entry_lent.specs.Found.{lent_node, lent_state};
 
 use refusal::Refusal;
 use state::Node;
@@ -17,17 +17,6 @@ pub fn check_count(n: u32) -> Result<(), Refusal>
     match n {
         2..=64 => Ok(()),
         _ => Err(Refusal::NodeCount),
-    }
-}
-
-// Refusal 2, of a mode; of one that there is, whether it is that of a quiet press.
-pub fn check_mode(mode: u32) -> Result<bool, Refusal>
-    ensures { result ≡ mode_in mode }
-{
-    match mode {
-        0 => Ok(false),
-        1 => Ok(true),
-        _ => Err(Refusal::Number),
     }
 }
 
@@ -77,7 +66,7 @@ pub fn check_length(given: usize, due: usize) -> Result<(), Refusal>
 pub fn lent_state(mode: u32, state: &[u8]) -> Result<Node, Refusal>
     ensures { result ≡ lent_state mode state.now }
 {
-    state_decoding::decode(check_mode(mode)?, state)
+    state_decoding::decode(rule_steps::check_mode(mode)?, state)
 }
 
 // The node of a call in a quiet press or not, whose numbers are not wrong, and that is lent `given` bytes where `due` are.
