@@ -1,4 +1,4 @@
-// Rule 5 of one member, and what one decides that did not vote. Votes are lent as four arrays, a slot for each sender, and the mask of the slots that hold one.
+// Rule 5 of one member, and what one decides that did not vote. Votes are lent as their groups and an array of views, a slot for each sender, and the mask of the slots that hold one.
 #![tactic(auto)]
 
 ghost use Rattle.std.specs.Prelude.{◌≡◌, false, cond, ◌<◌, ◌≤◌};
@@ -6,7 +6,7 @@ ghost use Rattle.sets.specs.Sets.{has, single as the_single, ◌∪◌, ◌∩�
 ghost use Rattle.rules.specs.OneCycle.{wins, with_own, member_decides, rests, silent_decides};
 ghost use Rattle.rules.specs.Ballots.{ballots_of, OneVote};
 
-use rules::{Config, Vote};
+use rules::{Config, Groups, Vote};
 use state::{Group, Reason, State};
 
 // Rule 5 of a member whose own vote has no quorum: it halts, with reason 2 if the others' votes give some V one, else with reason 1.
@@ -14,29 +14,18 @@ pub fn halts(
     config: Config,
     q: usize,
     own: Vote,
-    numbers: &[u32; 64],
-    sets: &[u64; 64],
-    bases: &[u64; 64],
+    groups: &Groups,
     views: &[u64; 64],
     lead: u64,
     present: u64,
 ) -> State
     requires nodes_bound { (config.nodes ≤ 64) × (q < 64) }
-    requires one_vote { OneVote numbers.now sets.now bases.now views.now config.nodes present lead }
-    requires own_value { wins config.nodes (with_own q own (ballots_of numbers.now sets.now bases.now views.now present)) own ≡ false }
-    ensures { result ≡ member_decides config q own (ballots_of numbers.now sets.now bases.now views.now present) }
+    requires one_vote { OneVote groups.now.numbers groups.now.sets groups.now.bases views.now config.nodes present lead }
+    requires own_value { wins config.nodes (with_own q own (ballots_of groups.now.numbers groups.now.sets groups.now.bases views.now present)) own ≡ false }
+    ensures { result ≡ member_decides config q own (ballots_of groups.now.numbers groups.now.sets groups.now.bases views.now present) }
 {
     let theirs = sets::difference(present, sets::single(q));
-    if rule_tally::any_agreed(
-        config.nodes,
-        numbers,
-        sets,
-        bases,
-        views,
-        lead,
-        theirs,
-        own.group,
-    ) {
+    if rule_tally::any_agreed(config.nodes, groups, views, lead, theirs, own.group) {
         State::Out(Reason::Outvoted)
     } else {
         State::Out(Reason::NoQuorum)
@@ -59,19 +48,17 @@ pub fn silent_decides(
     config: Config,
     q: usize,
     group: Group,
-    numbers: &[u32; 64],
-    sets: &[u64; 64],
-    bases: &[u64; 64],
+    groups: &Groups,
     views: &[u64; 64],
     lead: u64,
     present: u64,
 ) -> State
     requires nodes_bound { (config.nodes ≤ 64) × (q < 64) }
-    requires one_vote { OneVote numbers.now sets.now bases.now views.now config.nodes present lead }
-    ensures { result ≡ silent_decides config q group (ballots_of numbers.now sets.now bases.now views.now present) }
+    requires one_vote { OneVote groups.now.numbers groups.now.sets groups.now.bases views.now config.nodes present lead }
+    ensures { result ≡ silent_decides config q group (ballots_of groups.now.numbers groups.now.sets groups.now.bases views.now present) }
 {
     let came = sets::difference(present, sets::single(q));
-    if rule_tally::any_agreed(config.nodes, numbers, sets, bases, views, lead, came, group) {
+    if rule_tally::any_agreed(config.nodes, groups, views, lead, came, group) {
         return State::Out(Reason::Outvoted);
     }
     State::Member(resting(group), false)
@@ -90,22 +77,20 @@ pub fn member_decides(
     config: Config,
     q: usize,
     own: Vote,
-    numbers: &[u32; 64],
-    sets: &[u64; 64],
-    bases: &[u64; 64],
+    groups: &Groups,
     views: &[u64; 64],
     present: u64,
 ) -> State
     requires { (config.nodes ≤ 64) × (q < config.nodes) }
-    ensures { result ≡ member_decides config q own (ballots_of numbers.now sets.now bases.now views.now present) }
+    ensures { result ≡ member_decides config q own (ballots_of groups.now.numbers groups.now.sets groups.now.bases views.now present) }
 {
     let g = own.group;
     let others = sets::difference(present, sets::single(q));
-    let alike = rule_steps::equal_votes(config.nodes, numbers, sets, bases, views, others, own);
+    let alike = rule_steps::equal_votes(config.nodes, groups, views, others, own);
     let mine = with_own(alike, g.set, q);
     if sets::is_quorum(mine, g.base) {
         rule_steps::member_on(config, own, mine)
     } else {
-        halts(config, q, own, numbers, sets, bases, views, 0, present)
+        halts(config, q, own, groups, views, 0, present)
     }
 }

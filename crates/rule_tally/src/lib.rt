@@ -1,4 +1,4 @@
-// Whether some V has a quorum of the votes with a group. Votes are lent as four arrays, a slot for each sender, and the mask of the slots that hold one.
+// Whether some V has a quorum of the votes with a group. Votes are lent as their groups and an array of views, a slot for each sender, and the mask of the slots that hold one.
 #![tactic(auto)]
 
 ghost use Rattle.std.specs.Prelude.{◌≡◌, ◌&&◌, cond, ◌<◌, ◌≤◌, eqb};
@@ -7,7 +7,7 @@ ghost use Rattle.sets.specs.Quorum.{quorum};
 ghost use Rattle.rules.specs.OneCycle.{rival};
 ghost use Rattle.rules.specs.Ballots.{ballots_of, OneVote};
 
-use rules::Vote;
+use rules::{Groups, Vote};
 use state::Group;
 
 // The lowest node of m, of those in `lead` if there are any.
@@ -30,40 +30,36 @@ fn known(lead: u64, p: usize) -> u64
 fn completes(counted: bool, m: u64, base: u64) -> bool
     ensures { result ≡ (counted && quorum m base) }
 {
-    if counted {
-        sets::is_quorum(m, base)
-    } else {
-        false
-    }
+    counted && sets::is_quorum(m, base)
 }
 
 // Whether some V has a quorum of the votes with the group. Each V is tallied once, and a sender whose V has none is left out; senders that could make a
 // quorum are left at the end only where one was found. The slots of `lead` hold one vote, which is looked at once for all of them, and first.
 pub fn any_agreed(
     n: usize,
-    numbers: &[u32; 64],
-    sets: &[u64; 64],
-    bases: &[u64; 64],
+    groups: &Groups,
     views: &[u64; 64],
     lead: u64,
     present: u64,
     group: Group,
 ) -> bool
     requires n_bound { n ≤ 64 }
-    requires one_vote { OneVote numbers.now sets.now bases.now views.now n present lead }
-    ensures { result ≡ any n (λ p. rival n (ballots_of numbers.now sets.now bases.now views.now present) group (ballots_of numbers.now sets.now bases.now views.now present p)) }
+    requires one_vote { OneVote groups.now.numbers groups.now.sets groups.now.bases views.now n present lead }
+    ensures { result ≡ any n (λ p. rival n (ballots_of groups.now.numbers groups.now.sets groups.now.bases views.now present) group (ballots_of groups.now.numbers groups.now.sets groups.now.bases views.now present p)) }
 {
     let mut left = sets::below(n, sets::intersection(present, group.set));
     'found: while sets::is_quorum(left, group.base) {
         let k = first_of(left, lead);
-        let view = views[k];
-        let v = Vote { group, view };
+        let v = Vote {
+            group,
+            view: views[k],
+        };
         let mut m: u64 = 0;
         let mut rest = left;
         while rest != 0 {
             let p = sets::lowest(rest) as usize;
             let these = sets::intersection(known(lead, p), rest);
-            let counted = rule_steps::equals_at(numbers, sets, bases, views, present, v, p);
+            let counted = rule_steps::equals_at(groups, views, present, v, p);
             m = sets::union(m, sets::pick(counted, these, 0));
             if completes(counted, m, group.base) {
                 break 'found;

@@ -14,4 +14,5 @@ returns-then-contains c =
 pub returns-else-contains : goal.returns-else-contains
 returns-else-contains c =
     let a = c.args in
-    sym (and_left _ _ (ap (has a.q) (sym c.difference.ensures) ∙ sym c.contains.ensures ∙ c.if-contains.false))
+    c.if-contains.false
+    ∙ sym (and_left _ _ (ap (has a.q) (sym c.difference.ensures) ∙ sym c.contains.ensures ∙ c.if-contains.false))
