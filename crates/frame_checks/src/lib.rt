@@ -6,15 +6,7 @@ ghost use Rattle.bigendian.specs.BigEndian.{number_at};
 ghost use Rattle.frames.specs.Read.{wrong_header, wrong_frame, fault_of};
 ghost use Rattle.frames.specs.Looked.{words_due, indicators_of, looked};
 
-use frames::{Fault, Looked};
-
-// The five header bytes as one number.
-fn header_of(s: &[u8]) -> u64
-    requires { 5 ≤ length s.now }
-    ensures { result ≡ number_at s.now 0 5 }
-{
-    bigendian::read::<5>(s, 0)
-}
+use frames::{Fault, Kind};
 
 // Whether the header check of a frame whose header is h fails.
 fn wrong_header(h: u64) -> bool
@@ -28,8 +20,9 @@ fn wrong_header(h: u64) -> bool
     check != crc::header_check(sync, startup, number, words)
 }
 
+// Whether the frame check fails.
 fn wrong_frame(channel: u32, s: &[u8]) -> bool
-    requires { 4 ≤ length s.now }
+    requires { 3 ≤ length s.now }
     ensures { result ≡ wrong_frame channel s.now }
 {
     let at = s.len() - 3;
@@ -38,21 +31,21 @@ fn wrong_frame(channel: u32, s: &[u8]) -> bool
 }
 
 // Refusals 5 to 9, of several the lowest.
-pub fn look(number: u32, cycle: u32, heartbeat: bool, channel: u32, s: &[u8]) -> Looked
-    ensures { result ≡ looked (fault_of number cycle (words_due heartbeat s.now) (indicators_of heartbeat s.now) channel s.now) }
+pub fn look(number: u32, cycle: u32, kind: Kind, channel: u32, s: &[u8]) -> Result<(), Fault>
+    ensures { result ≡ looked (fault_of number cycle (words_due kind s.now) (indicators_of kind s.now) channel s.now) }
 {
     if s.len() < 8 {
-        return Looked::Refused(Fault::Length);
+        return Err(Fault::Length);
     }
-    let h = header_of(s);
+    let h = bigendian::read::<5>(s, 0);
     if s.len() as u64 != 8 + 2 * (h / 131072 % 128) {
-        return Looked::Refused(Fault::Length);
+        return Err(Fault::Length);
     }
     if wrong_header(h) {
-        return Looked::Refused(Fault::HeaderCheck);
+        return Err(Fault::HeaderCheck);
     }
     if wrong_frame(channel, s) {
-        return Looked::Refused(Fault::FrameCheck);
+        return Err(Fault::FrameCheck);
     }
-    frame_due::null_or_due(number, cycle, heartbeat, h)
+    frame_due::null_or_due(number, cycle, kind, h)
 }

@@ -7,37 +7,34 @@ ghost use Rattle.bigendian.specs.BigEndian.{number_at};
 ghost use Rattle.frames.specs.Read.{is_due};
 ghost use Rattle.frames.specs.Looked.{words_due, indicators_of, due_fault, looked};
 
-use frames::{Fault, Looked};
+use frames::{Fault, Kind};
 
 // The length of a frame whose header is h: of a heartbeat one word at least, of a vote 14.
-fn words_due(heartbeat: bool, h: u64) -> bool
-    ensures { (s : List ℕ) → number_at s 0 5 ≡ h → result ≡ words_due heartbeat s }
+fn words_due(kind: Kind, h: u64) -> bool
+    ensures { (s : List ℕ) → number_at s 0 5 ≡ h → result ≡ words_due kind s }
 {
     let words = h / 131072 % 128;
-    if heartbeat {
-        return words != 0;
+    match kind {
+        Kind::Heartbeat => words != 0,
+        Kind::Vote => words == 14,
     }
-    words == 14
 }
 
 // The indicators of a frame whose header is h: of a heartbeat startup only with sync, of a vote both 0.
-fn indicators(heartbeat: bool, h: u64) -> bool
-    ensures { (s : List ℕ) → number_at s 0 5 ≡ h → result ≡ indicators_of heartbeat s }
+fn indicators(kind: Kind, h: u64) -> bool
+    ensures { (s : List ℕ) → number_at s 0 5 ≡ h → result ≡ indicators_of kind s }
 {
     let sync = h / 68719476736 % 2;
     let startup = h / 34359738368 % 2;
-    if heartbeat {
-        return startup <= sync;
+    match kind {
+        Kind::Heartbeat => startup <= sync,
+        Kind::Vote => sync == 0 && startup == 0,
     }
-    if sync != 0 {
-        return false;
-    }
-    startup == 0
 }
 
 // Whether a frame whose header is h is the one due.
-fn is_due(number: u32, cycle: u32, heartbeat: bool, h: u64) -> bool
-    ensures { (s : List ℕ) → number_at s 0 5 ≡ h → result ≡ (is_due number cycle s && words_due heartbeat s && indicators_of heartbeat s) }
+fn is_due(number: u32, cycle: u32, kind: Kind, h: u64) -> bool
+    ensures { (s : List ℕ) → number_at s 0 5 ≡ h → result ≡ (is_due number cycle s && words_due kind s && indicators_of kind s) }
 {
     if h / 549755813888 % 2 != 0 {
         return false;
@@ -45,29 +42,26 @@ fn is_due(number: u32, cycle: u32, heartbeat: bool, h: u64) -> bool
     if h / 274877906944 % 2 != 0 {
         return false;
     }
-    if h / 16777216 % 2048 != number as u64 {
+    if h / 16777216 % 2048 != u64::from(number) {
         return false;
     }
-    if h % 64 != cycle as u64 {
+    if h % 64 != u64::from(cycle) {
         return false;
     }
-    if !words_due(heartbeat, h) {
-        return false;
-    }
-    indicators(heartbeat, h)
+    words_due(kind, h) && indicators(kind, h)
 }
 
 // Refusals 8 and 9 of a frame whose header is h.
-pub fn null_or_due(number: u32, cycle: u32, heartbeat: bool, h: u64) -> Looked
-    ensures { (s : List ℕ) → number_at s 0 5 ≡ h → result ≡ looked (due_fault number cycle (words_due heartbeat s) (indicators_of heartbeat s) s) }
+pub fn null_or_due(number: u32, cycle: u32, kind: Kind, h: u64) -> Result<(), Fault>
+    ensures { (s : List ℕ) → number_at s 0 5 ≡ h → result ≡ looked (due_fault number cycle (words_due kind s) (indicators_of kind s) s) }
 {
     let sent = h / 137438953472 % 2 != 0;
-    let due = is_due(number, cycle, heartbeat, h);
+    let due = is_due(number, cycle, kind, h);
     if !sent {
-        return Looked::Refused(Fault::NullFrame);
+        return Err(Fault::NullFrame);
     }
     if !due {
-        return Looked::Refused(Fault::NotDue);
+        return Err(Fault::NotDue);
     }
-    Looked::Due
+    Ok(())
 }

@@ -33,25 +33,25 @@ overflow_add-h c = omega arith
 
 pub returns-then-s-h : goal.returns-then-s-h
 returns-then-s-h c =
-    let headed : number_at c.args.s.now 0 5 ≡ c.header_of-h.result = sym c.header_of-h.ensures in
+    let headed : number_at c.args.s.now 0 5 ≡ c.read-h.result = sym c.read-h.ensures.value in
     sym (ap looked (by_length _ _ _ _ _ _ (uneven _ _ (headed) c.if-s-lt8.false c.if-s-h.true)))
 
 pub returns-then-wrong_header : goal.returns-then-wrong_header
 returns-then-wrong_header c =
-    let headed : number_at c.args.s.now 0 5 ≡ c.header_of-h.result = sym c.header_of-h.ensures in
+    let headed : number_at c.args.s.now 0 5 ≡ c.read-h.result = sym c.read-h.ensures.value in
     let sized : wrong_length c.args.s.now ≡ false = even _ _ (headed) c.if-s-lt8.false c.if-s-h.false in
     sym (ap looked (by-header _ _ _ _ _ _ (sized) (sym (c.wrong_header.ensures _ (headed)) ∙ c.if-wrong_header.true)))
 
 pub returns-then-wrong_frame : goal.returns-then-wrong_frame
 returns-then-wrong_frame c =
-    let headed : number_at c.args.s.now 0 5 ≡ c.header_of-h.result = sym c.header_of-h.ensures in
+    let headed : number_at c.args.s.now 0 5 ≡ c.read-h.result = sym c.read-h.ensures.value in
     let sized : wrong_length c.args.s.now ≡ false = even _ _ (headed) c.if-s-lt8.false c.if-s-h.false in
     let checked : wrong_header c.args.s.now ≡ false = sym (c.wrong_header.ensures _ (headed)) ∙ c.if-wrong_header.false in
     sym (ap looked (by-frame _ _ _ _ _ _ (sized) (checked) (sym c.wrong_frame.ensures ∙ c.if-wrong_frame.true)))
 
 pub returns : goal.returns
 returns c =
-    let headed : number_at c.args.s.now 0 5 ≡ c.header_of-h.result = sym c.header_of-h.ensures in
+    let headed : number_at c.args.s.now 0 5 ≡ c.read-h.result = sym c.read-h.ensures.value in
     let sized : wrong_length c.args.s.now ≡ false = even _ _ (headed) c.if-s-lt8.false c.if-s-h.false in
     let checked : wrong_header c.args.s.now ≡ false = sym (c.wrong_header.ensures _ (headed)) ∙ c.if-wrong_header.false in
     let framed : wrong_frame c.args.channel c.args.s.now ≡ false = sym c.wrong_frame.ensures ∙ c.if-wrong_frame.false in

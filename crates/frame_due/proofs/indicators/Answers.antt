@@ -3,14 +3,14 @@ use borrow.Author.Tests.{eq-eqb, ne_eqb}
 use Rattle.frames.specs.Looked.{indicators_of}
 use Rattle.frame_due.proofs.indicators.Goals as goal
 
-pub returns-then-heartbeat : goal.returns-then-heartbeat
+pub returns-in-Heartbeat : goal.returns-in-Heartbeat
 unfolding indicators_of
-returns-then-heartbeat c = λ s e. simp (c.if-heartbeat.true, e)
+returns-in-Heartbeat c = λ s e. simp (c.in-Heartbeat.is, e)
 
-pub returns-then-sync-ne0 : goal.returns-then-sync-ne0
+pub returns-then-sync-eq0 : goal.returns-then-sync-eq0
 unfolding indicators_of
-returns-then-sync-ne0 c = λ s e. simp (c.if-heartbeat.false, e, ne_eqb _ _ c.if-sync-ne0.true)
+returns-then-sync-eq0 c = λ s e. simp (c.in-Vote.is, e, eq-eqb _ _ c.if-sync-eq0.true)
 
-pub returns : goal.returns
+pub returns-else-sync-eq0 : goal.returns-else-sync-eq0
 unfolding indicators_of
-returns c = λ s e. simp (c.if-heartbeat.false, e, eq-eqb _ _ c.if-sync-ne0.false)
+returns-else-sync-eq0 c = λ s e. simp (c.in-Vote.is, e, ne_eqb _ _ c.if-sync-eq0.false)

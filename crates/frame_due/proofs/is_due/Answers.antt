@@ -13,20 +13,21 @@ pub returns-then-h-ne0-2 : goal.returns-then-h-ne0-2
 unfolding is_due
 returns-then-h-ne0-2 c = λ s e. simp (e, eq-eqb _ _ c.if-h-ne0.false, ne_eqb _ _ c.if-h-ne0-2.true)
 
-pub returns-then-h-number : goal.returns-then-h-number
+pub returns-then-h-from : goal.returns-then-h-from
 unfolding is_due
-returns-then-h-number c = λ s e. simp (e, eq-eqb _ _ c.if-h-ne0.false, eq-eqb _ _ c.if-h-ne0-2.false, ne_eqb _ _ c.if-h-number.true)
+returns-then-h-from c = λ s e. simp (e, eq-eqb _ _ c.if-h-ne0.false, eq-eqb _ _ c.if-h-ne0-2.false, ne_eqb _ _ (λ n. c.if-h-from.true (n ∙ sym c.from.ensures)))
 
-pub returns-then-h-cycle : goal.returns-then-h-cycle
+pub returns-then-h-from-2 : goal.returns-then-h-from-2
 unfolding is_due
-returns-then-h-cycle c = λ s e. simp (e, div-one, eq-eqb _ _ c.if-h-ne0.false, eq-eqb _ _ c.if-h-ne0-2.false, eq-eqb _ _ c.if-h-number.false, ne_eqb _ _ c.if-h-cycle.true)
+returns-then-h-from-2 c =
+    λ s e. simp (e, div-one, eq-eqb _ _ c.if-h-ne0.false, eq-eqb _ _ c.if-h-ne0-2.false, eq-eqb _ _ (c.if-h-from.false ∙ c.from.ensures), ne_eqb _ _ (λ n. c.if-h-from-2.true (n ∙ sym c.from-2.ensures)))
 
-pub returns-then-not-words_due : goal.returns-then-not-words_due
+pub returns-else-words_due : goal.returns-else-words_due
 unfolding is_due
-returns-then-not-words_due c =
-    λ s e. simp (e, div-one, eq-eqb _ _ c.if-h-ne0.false, eq-eqb _ _ c.if-h-ne0-2.false, eq-eqb _ _ c.if-h-number.false, eq-eqb _ _ c.if-h-cycle.false, sym (c.words_due.ensures s e) ∙ c.if-not-words_due.true)
+returns-else-words_due c =
+    λ s e. simp (e, div-one, eq-eqb _ _ c.if-h-ne0.false, eq-eqb _ _ c.if-h-ne0-2.false, eq-eqb _ _ (c.if-h-from.false ∙ c.from.ensures), eq-eqb _ _ (c.if-h-from-2.false ∙ c.from-2.ensures), c.if-words_due.false, sym (c.words_due.ensures s e) ∙ c.if-words_due.false)
 
-pub returns : goal.returns
+pub returns-then-words_due : goal.returns-then-words_due
 unfolding is_due
-returns c =
-    λ s e. simp (e, div-one, eq-eqb _ _ c.if-h-ne0.false, eq-eqb _ _ c.if-h-ne0-2.false, eq-eqb _ _ c.if-h-number.false, eq-eqb _ _ c.if-h-cycle.false, sym (c.words_due.ensures s e) ∙ c.if-not-words_due.false, c.indicators.ensures s e)
+returns-then-words_due c =
+    λ s e. simp (e, div-one, eq-eqb _ _ c.if-h-ne0.false, eq-eqb _ _ c.if-h-ne0-2.false, eq-eqb _ _ (c.if-h-from.false ∙ c.from.ensures), eq-eqb _ _ (c.if-h-from-2.false ∙ c.from-2.ensures), sym (c.words_due.ensures s e) ∙ c.if-words_due.true, c.indicators.ensures s e)

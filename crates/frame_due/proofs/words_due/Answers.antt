@@ -2,10 +2,10 @@
 use Rattle.frames.specs.Looked.{words_due}
 use Rattle.frame_due.proofs.words_due.Goals as goal
 
-pub returns-then-heartbeat : goal.returns-then-heartbeat
+pub returns-in-Heartbeat : goal.returns-in-Heartbeat
 unfolding words_due
-returns-then-heartbeat c = λ s e. simp (c.if-heartbeat.true, e)
+returns-in-Heartbeat c = λ s e. simp (c.in-Heartbeat.is, e)
 
-pub returns : goal.returns
+pub returns-in-Vote : goal.returns-in-Vote
 unfolding words_due
-returns c = λ s e. simp (c.if-heartbeat.false, e)
+returns-in-Vote c = λ s e. simp (c.in-Vote.is, e)
