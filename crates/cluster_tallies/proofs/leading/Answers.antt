@@ -10,14 +10,14 @@ use Rattle.cluster_tallies.proofs.leading.Goals as goal
 pub returns-then-voting-eq0 : goal.returns-then-voting-eq0
 returns-then-voting-eq0 c =
     let a = c.args in
-    none_alike a.numbers.now a.sets.now a.bases.now a.views.now a.n a.voting
+    none_alike a.groups.now.numbers a.groups.now.sets a.groups.now.bases a.views.now a.n a.voting
 
 pub vote_at-v-requires : goal.vote_at-v-requires
 vote_at-v-requires c =
-    let found : (c.lowest-p.result < c.args.n) × (has c.lowest-p.result c.args.voting ≡ true) = lowest_node c.args.n c.args.voting c.lowest-p.result c.requires.n_bound c.requires.below c.if-voting-eq0.false c.lowest-p.ensures in
+    let found : (c.lowest.result < c.args.n) × (has c.lowest.result c.args.voting ≡ true) = lowest_node c.args.n c.args.voting c.lowest.result c.requires.n_bound c.requires.below c.if-voting-eq0.false c.lowest.ensures in
     omega (arith, (found).0, c.requires.n_bound)
 
 pub returns : goal.returns
 returns c =
     let a = c.args in
-    equal-alike a.numbers.now a.sets.now a.bases.now a.views.now a.n a.voting c.equal_votes.result c.vote_at-v.result c.equal_votes.ensures
+    equal-alike a.groups.now.numbers a.groups.now.sets a.groups.now.bases a.views.now a.n a.voting c.equal_votes.result c.vote_at-v.result c.equal_votes.ensures
