@@ -1,13 +1,22 @@
--- A row of which the first i entries are gathered, or replaced: what holds at a walk's test. Assumes nothing.
+-- A row whose entries from some place on are still to gather, and one of which the first are replaced: what holds at a walk's test. Assumes nothing.
 use mathlib.Core.Path.{◌≡◌, refl, sym, ap, ◌∙◌}
+use mathlib.Core.Logic.{◌⊎◌, inl, inr}
+use mathlib.Core.Bool.{Bool, true, false, cond}
 use mathlib.Core.List.{List, [], ◌∷◌}
-use Prim.Native.Nat.{ℕ, zero, suc, ◌+◌, ◌<◌}
+use Rattle.std.specs.Prelude.{Option, Some, None}
+use Prim.Native.Nat.{ℕ, zero, suc, ◌+◌, ◌<◌, ◌≤◌, min}
 use native.Mathlib.Nat.{not-suc-le-zero, le_of_suc-le-suc, add-zero, add-suc, suc-add, zero-add}
 use native.Mathlib.Numerals.{add-one}
-use lib.ListN.{length, get_or, set}
+use native.Mathlib.Omega.{arith}
+use lib.ListN.{length, get_or, set, drop, drop_of_length-le}
+use lib.Seq.{drop-cons}
+use lib.Dec.{ltb}
+use borrow.Author.Tests.{lt-ltb, le-ltb, ltb-true, ltb-false}
+use Rattle.sets.proofs.Booleans.{bool}
 use Rattle.state.specs.declared.Node.{Node}
-use Rattle.row.specs.declared.Gathered.{Gathered}
-use Rattle.row.specs.Gathered.{push_of, gathered, each}
+use Rattle.cluster_states.specs.declared.States.{States}
+use Rattle.row.specs.Row.{in_place}
+use Rattle.row.specs.Gathered.{with_node, push_of, gathered, each}
 
 -- a place after q, from the place after q
 pub one_on : (q i : ℕ) → q + suc i ≡ suc q + i
@@ -65,37 +74,52 @@ module _ (f : ℕ → Node → Node) where
   each-length q [] = refl
   each-length q (y ∷ ys) = ap suc (each-length (suc q) ys)
 
--- ---- the first i entries gathered, from place q on
-unfoldable pub gathered_to : ℕ → Gathered → ℕ → ℕ → List Node → Gathered
-gathered_to n g q zero ys = g
-gathered_to n g q (suc i) [] = g
-gathered_to n g q (suc i) (y ∷ ys) = gathered_to n (push_of n g q y) (suc q) i ys
+-- ---- a row of which the entries from place q on are still to gather, s being the states of those before
+pub gathered_none : (n q : ℕ) (ys : List Node) → gathered n None q ys ≡ None
+unfolding gathered push_of
+gathered_none n q [] = refl
+gathered_none n q (y ∷ ys) = gathered_none n (suc q) ys
 
-pub gathered_none : (n : ℕ) (g : Gathered) (ys : List Node) → gathered_to n g 0 0 ys ≡ g
-unfolding gathered_to
-gathered_none n g ys = refl
+module _ (n q : ℕ) (s : States) (ys : List Node) (x : Node) (l : q < length ys) (low : q < 64) (e : x ≡ get_or ys q x) where
+  next : gathered n (Some s) q (drop q ys) ≡ gathered n (cond (in_place true n q x) (Some (with_node s q x.state)) None) (suc q) (drop (suc q) ys)
+  unfolding gathered push_of
+  next =
+      ap (gathered n (Some s) q) (drop-cons ys q x l)
+      ∙ ap (λ (y : Node). gathered n (push_of n (Some s) q y) (suc q) (drop (suc q) ys)) (sym e)
+      ∙ ap (λ (b : Bool). gathered n (cond b (cond (in_place true n q x) (Some (with_node s q x.state)) None) (Some s)) (suc q) (drop (suc q) ys)) (lt-ltb q 64 low)
 
-push_next : (n : ℕ) (g : Gathered) (q i : ℕ) (ys : List Node) (d : Node) → i < length ys
-    → push_of n (gathered_to n g q i ys) (q + i) (get_or ys i d) ≡ gathered_to n g q (suc i) ys
-unfolding gathered_to
-push_next n g q i [] d l = absurd (not-suc-le-zero l)
-push_next n g q zero (y ∷ ys) d l = ap (λ (p : ℕ). push_of n g p y) (add-zero q)
-push_next n g q (suc i) (y ∷ ys) d l =
-    ap (λ (p : ℕ). push_of n (gathered_to n (push_of n g q y) (suc q) i ys) p (get_or ys i d)) (one_on q i)
-    ∙ push_next n (push_of n g q y) (suc q) i ys d (le_of_suc-le-suc l)
+  -- entry x, of place q, is gathered
+  pub gathered_next : in_place true n q x ≡ true → (s' : States) → s' ≡ with_node s q x.state
+      → gathered n (Some s) q (drop q ys) ≡ gathered n (Some s') (q + 1) (drop (q + 1) ys)
+  gathered_next b s' w =
+      next ∙ ap (λ (c : Bool). gathered n (cond c (Some (with_node s q x.state)) None) (suc q) (drop (suc q) ys)) b
+      ∙ ap (λ (t : States). gathered n (Some t) (suc q) (drop (suc q) ys)) (sym w)
+      ∙ ap (λ (p : ℕ). gathered n (Some s') p (drop p ys)) (sym (add-one q))
 
--- one more is gathered
-pub gathered_next : (n : ℕ) (g : Gathered) (i : ℕ) (ys : List Node) (d : Node) → i < length ys
-    → push_of n (gathered_to n g 0 i ys) i (get_or ys i d) ≡ gathered_to n g 0 (i + 1) ys
-gathered_next n g i ys d l =
-    ap (λ (p : ℕ). push_of n (gathered_to n g 0 i ys) p (get_or ys i d)) (sym (zero-add i)) ∙ push_next n g 0 i ys d l
-    ∙ ap (λ (p : ℕ). gathered_to n g 0 p ys) (sym (add-one i))
+  -- it is not the node of its place
+  pub gathered_stop : in_place true n q x ≡ false → gathered n (Some s) q (drop q ys) ≡ None
+  gathered_stop b =
+      next ∙ ap (λ (c : Bool). gathered n (cond c (Some (with_node s q x.state)) None) (suc q) (drop (suc q) ys)) b
+      ∙ gathered_none n (suc q) (drop (suc q) ys)
 
-gathered-whole : (n : ℕ) (g : Gathered) (q : ℕ) (ys : List Node) → gathered_to n g q (length ys) ys ≡ gathered n g q ys
-unfolding gathered_to gathered
-gathered-whole n g q [] = refl
-gathered-whole n g q (y ∷ ys) = gathered-whole n (push_of n g q y) (suc q) ys
+-- past the last place there is nothing to gather
+pub gathered_past : (n : ℕ) (g : Option States) (q : ℕ) (ys : List Node) → 64 ≤ q → gathered n g q ys ≡ g
+unfolding gathered push_of
+gathered_past n g q [] l = refl
+gathered_past n g q (y ∷ ys) l = gathered_past n (push_of n g q y) (suc q) ys (omega arith) ∙ past g
+  where
+    past : (g : Option States) → push_of n g q y ≡ g
+    past None = refl
+    past (Some s) = ap (λ (b : Bool). cond b (cond (in_place true n q y) (Some (with_node s q y.state)) None) (Some s)) (le-ltb q 64 l)
 
--- all are gathered
-pub gathered_all : (n : ℕ) (g : Gathered) (i : ℕ) (ys : List Node) → i ≡ length ys → gathered_to n g 0 i ys ≡ gathered n g 0 ys
-gathered_all n g i ys e = ap (λ (p : ℕ). gathered_to n g 0 p ys) e ∙ gathered-whole n g 0 ys
+-- where q is behind the end, or past the last place, all are gathered
+pub gathered_all : (n : ℕ) (g : Option States) (q : ℕ) (ys : List Node) → min (length ys) 64 ≤ q → gathered n g q (drop q ys) ≡ g
+unfolding gathered
+gathered_all n g q ys l = go (bool (ltb q 64))
+  where
+    end : length ys ≤ q → gathered n g q (drop q ys) ≡ g
+    end e = ap (gathered n g q) (drop_of_length-le ys e)
+
+    go : (ltb q 64 ≡ true) ⊎ (ltb q 64 ≡ false) → gathered n g q (drop q ys) ≡ g
+    go (inl b) = let low : q < 64 = ltb-true q 64 b in end (omega arith)
+    go (inr b) = gathered_past n g q (drop q ys) (ltb-false q 64 b)

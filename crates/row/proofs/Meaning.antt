@@ -20,11 +20,11 @@ use Rattle.rules.specs.Faults.{Row, at, tabulate}
 use Rattle.rules.proofs.Counting.{no}
 use Rattle.rules.proofs.Rows.{get-tabulate, length-tabulate, tabulate-ext}
 use Rattle.cluster_states.specs.declared.States.{States}
-use Rattle.cluster_states.specs.States.{roles_of, state_at, row_of}
+use Rattle.cluster_states.specs.States.{state_at, row_of}
 use Rattle.cluster_states.proofs.Deciding.{Holds, holds_none, holds_next, holds_state}
-use Rattle.row.specs.declared.Gathered.{Gathered}
+use Rattle.std.specs.Prelude.{Option, Some, None}
 use Rattle.row.specs.Row.{states_in, nodes_of, in_place, in_order}
-use Rattle.row.specs.Gathered.{with_node, nothing_of, push_of, gathered, ordered, node_of, each}
+use Rattle.row.specs.Gathered.{with_node, no_states, nothing_of, push_of, gathered, ordered, node_of, each}
 use Rattle.row.proofs.Lists.{one_on}
 
 -- node q of n in state d
@@ -121,10 +121,6 @@ and-true : (a : Bool) → (a && true) ≡ a
 and-true true = refl
 and-true false = refl
 
-pub push_in : (n : ℕ) (g : Gathered) (q : ℕ) (x : Node) → q < 64 → push_of n g q x ≡ record { states = with_node g.states q x.state; good = g.good && in_place true n q x }
-unfolding push_of
-push_in n g q x l = ap (λ (b : Bool). cond b (record { states = with_node g.states q x.state; good = g.good && in_place true n q x }) g) (ltb-true l)
-
 -- what tells the modes apart is who asks: of a state, and of an entry
 state_mode : (id n : ℕ) (s : State) → formed_state false id n s ≡ (formed_state true id n s && not (asks s))
 state_mode id n (Out r) = refl
@@ -170,25 +166,31 @@ ask_mode : (q m : ℕ) (a : Bool) → eqb (cond a (single q ∪ m) m) 0 ≡ (eqb
 ask_mode q m true = no (eqb (single q ∪ m) 0) (λ e. false≢true (sym (ap (has q) (eqb-true e) ∙ has-none q) ∙ has_union q (single q) m ∙ ap (λ (b : Bool). b || has q m) (has-single q q ∙ eqb_self q))) ∙ sym (and-false (eqb m 0))
 ask_mode q m false = sym (and-true (eqb m 0))
 
-push_ordered : (quiet : Bool) (n : ℕ) (g : Gathered) (q : ℕ) (x : Node) → q < 64 → ordered quiet (push_of n g q x) ≡ (ordered quiet g && in_place quiet n q x)
-unfolding with_node
-push_ordered quiet n g q x l = ap (ordered quiet) (push_in n g q x l) ∙ go quiet
-  where
-    shuffle : (g p a r : Bool) → ((g && p) && (a && r)) ≡ ((g && a) && (p && r))
-    shuffle true true true r = refl
-    shuffle true true false r = refl
-    shuffle true false true r = refl
-    shuffle true false false r = refl
-    shuffle false p a r = refl
+module _ (n q : ℕ) (s : States) (x : Node) (l : q < 64) where
+  -- what one more entry leaves, by whether it is in its place
+  push_in : (b : Bool) → in_place true n q x ≡ b → push_of n (Some s) q x ≡ cond b (Some (with_node s q x.state)) None
+  unfolding push_of
+  push_in b e =
+      ap (λ (t : Bool). cond t (cond (in_place true n q x) (Some (with_node s q x.state)) None) (Some s)) (ltb-true l)
+      ∙ ap (λ (t : Bool). cond t (Some (with_node s q x.state)) None) e
 
-    go : (quiet : Bool) → ordered quiet (record { states = with_node g.states q x.state; good = g.good && in_place true n q x }) ≡ (ordered quiet g && in_place quiet n q x)
-    go true = and-true (g.good && in_place true n q x) ∙ ap (λ (b : Bool). b && in_place true n q x) (sym (and-true g.good))
-    go false =
-        ap (λ (b : Bool). (g.good && in_place true n q x) && b) (ask_mode q g.states.asking (asks x.state))
-        ∙ shuffle g.good (in_place true n q x) (eqb g.states.asking 0) (not (asks x.state))
-        ∙ ap (λ (b : Bool). (g.good && eqb g.states.asking 0) && b) (sym (place_mode n q x))
+  pushed : (quiet b : Bool) → in_place true n q x ≡ b → ordered quiet (push_of n (Some s) q x) ≡ (ordered quiet (Some s) && in_place quiet n q x)
+  unfolding with_node
+  pushed true true e = ap (ordered true) (push_in true e) ∙ sym e
+  pushed true false e = ap (ordered true) (push_in false e) ∙ sym e
+  pushed false true e =
+      ap (ordered false) (push_in true e) ∙ ask_mode q s.roles.asking (asks x.state)
+      ∙ ap (λ (b : Bool). eqb s.roles.asking 0 && (b && not (asks x.state))) (sym e) ∙ ap (λ (b : Bool). eqb s.roles.asking 0 && b) (sym (place_mode n q x))
+  pushed false false e =
+      ap (ordered false) (push_in false e) ∙ sym (and-false (eqb s.roles.asking 0))
+      ∙ ap (λ (b : Bool). eqb s.roles.asking 0 && (b && not (asks x.state))) (sym e) ∙ ap (λ (b : Bool). eqb s.roles.asking 0 && b) (sym (place_mode n q x))
 
-ordered_from : (quiet : Bool) (n : ℕ) (g : Gathered) (q : ℕ) (xs : List Node) → q + length xs ≤ 64 → ordered quiet (gathered n g q xs) ≡ (ordered quiet g && in_order quiet n q xs)
+push_ordered : (quiet : Bool) (n : ℕ) (g : Option States) (q : ℕ) (x : Node) → q < 64 → ordered quiet (push_of n g q x) ≡ (ordered quiet g && in_place quiet n q x)
+unfolding push_of
+push_ordered quiet n None q x l = refl
+push_ordered quiet n (Some s) q x l = pushed n q s x l quiet (in_place true n q x) refl
+
+ordered_from : (quiet : Bool) (n : ℕ) (g : Option States) (q : ℕ) (xs : List Node) → q + length xs ≤ 64 → ordered quiet (gathered n g q xs) ≡ (ordered quiet g && in_order quiet n q xs)
 unfolding gathered in_order
 ordered_from quiet n g q [] l = sym (and-true (ordered quiet g))
 ordered_from quiet n g q (x ∷ xs) l =
@@ -204,49 +206,55 @@ gathered-ordered quiet n xs l = ordered_from quiet n nothing_of 0 xs (omega arit
     first true = refl
     first false = refl
 
--- the states s hold those of the nodes below q
+-- the states s hold those of the nodes below q; what is gathered does, if it is anything
 abbrev Has : (ℕ → State) → ℕ → States → Type 0
-Has D q s = Holds D q (roles_of s) s.numbers s.sets s.bases
+Has D q s = Holds D q s.roles s.groups.numbers s.groups.sets s.groups.bases
+
+abbrev Keeps : (ℕ → State) → ℕ → Option States → Type 0
+Keeps D q g = (s : States) → g ≡ Some s → Has D q s
 
 has-next : (D : ℕ → State) (q : ℕ) (s : States) (d : State) → q < 64 → Has D q s → d ≡ D q → Has D (q + 1) (with_node s q d)
 unfolding with_node
-has-next D q s d l h e = holds_next D q (roles_of s) (roles_of (with_node s q d)) s.numbers s.sets s.bases d _ l h e refl refl
+has-next D q s d l h e = holds_next D q s.roles (with_node s q d).roles s.groups.numbers s.groups.sets s.groups.bases d _ l h e refl refl
 
-has_from : (D : ℕ → State) (n : ℕ) (g : Gathered) (q : ℕ) (xs : List Node) → q + length xs ≤ 64 → ((i : ℕ) → i < length xs → at (states_in xs) i ≡ D (q + i))
-    → Has D q g.states → Has D (q + length xs) (gathered n g q xs).states
+keeps-next : (D : ℕ → State) (n q : ℕ) (g : Option States) (x : Node) → q < 64 → Keeps D q g → x.state ≡ D q → Keeps D (suc q) (push_of n g q x)
+unfolding push_of
+keeps-next D n q None x l h e s p = cc
+keeps-next D n q (Some t) x l h e s p = go (in_place true n q x) refl
+  where
+    go : (b : Bool) → in_place true n q x ≡ b → Has D (suc q) s
+    go true b =
+        let same : with_node t q x.state ≡ s = (let k : push_of n (Some t) q x ≡ Some (with_node t q x.state) = push_in n q t x l true b in cc) in
+        subst (Has D (suc q)) same (subst (λ (k : ℕ). Has D k (with_node t q x.state)) (add-one q) (has-next D q t x.state l (h t refl) e))
+    go false b = let k : push_of n (Some t) q x ≡ None = push_in n q t x l false b in cc
+
+keeps_from : (D : ℕ → State) (n : ℕ) (g : Option States) (q : ℕ) (xs : List Node) → q + length xs ≤ 64 → ((i : ℕ) → i < length xs → at (states_in xs) i ≡ D (q + i))
+    → Keeps D q g → Keeps D (q + length xs) (gathered n g q xs)
 unfolding gathered states_in
-has_from D n g q [] l e h = subst (λ (k : ℕ). Has D k g.states) (sym (add-zero q)) h
-has_from D n g q (x ∷ xs) l e h =
-    subst (λ (k : ℕ). Has D k (gathered n (push_of n g q x) (suc q) xs).states) (sym (one_on q (length xs)))
-    (has_from D n (push_of n g q x) (suc q) xs (omega arith) (λ i k. e (suc i) (up i k) ∙ ap D (one_on q i)) next)
+keeps_from D n g q [] l e h = subst (λ (k : ℕ). Keeps D k g) (sym (add-zero q)) h
+keeps_from D n g q (x ∷ xs) l e h =
+    subst (λ (k : ℕ). Keeps D k (gathered n (push_of n g q x) (suc q) xs)) (sym (one_on q (length xs)))
+    (keeps_from D n (push_of n g q x) (suc q) xs (omega arith) (λ i k. e (suc i) (up i k) ∙ ap D (one_on q i))
+    (keeps-next D n q g x (omega arith) h (e 0 (omega arith) ∙ ap D (add-zero q))))
   where
     up : (i : ℕ) → i < length xs → suc i < suc (length xs)
     up i k = omega arith
 
-    next : Has D (suc q) (push_of n g q x).states
-    next =
-        subst (λ (r : Gathered). Has D (suc q) r.states) (sym (push_in n g q x (omega arith)))
-        (subst (λ (k : ℕ). Has D k (with_node g.states q x.state)) (add-one q)
-        (has-next D q g.states x.state (omega arith) h (e 0 (omega arith) ∙ ap D (add-zero q))))
-
-has_nothing : (D : ℕ → State) → Has D 0 nothing_of.states
+has_nothing : (D : ℕ → State) → Keeps D 0 nothing_of
 unfolding nothing_of
-has_nothing D = holds_none D _ _ _ _ refl long long long
+has_nothing D s e = subst (Has D 0) (let same : no_states ≡ s = cc in same) (holds_none D _ _ _ _ refl long long long)
   where
     long : length (replicate {A = ℕ} 64 0) ≡ 64
     long = length-replicate {A = ℕ} 64 0
 
-pub gathered_states : (n : ℕ) (xs : List Node) → length xs ≤ 64 → row_of (length xs) (gathered n nothing_of 0 xs).states ≡ states_in xs
+pub gathered_states : (n : ℕ) (xs : List Node) (s : States) → length xs ≤ 64 → gathered n nothing_of 0 xs ≡ Some s → row_of (length xs) s ≡ states_in xs
 unfolding row_of
-gathered_states n xs l =
-    tabulate-ext (length xs) (state_at s) (at (states_in xs)) (holds_state (at (states_in xs)) (length xs) (0 + length xs) (roles_of s) s.numbers s.sets s.bases held (zero-add (length xs)))
+gathered_states n xs s l g =
+    tabulate-ext (length xs) (state_at s) (at (states_in xs)) (holds_state (at (states_in xs)) (length xs) (0 + length xs) s.roles s.groups.numbers s.groups.sets s.groups.bases held (zero-add (length xs)))
     ∙ ap (λ (k : ℕ). tabulate k (at (states_in xs))) (sym (length_states xs)) ∙ entries (states_in xs)
   where
-    s : States
-    s = (gathered n nothing_of 0 xs).states
-
     held : Has (at (states_in xs)) (0 + length xs) s
-    held = has_from (at (states_in xs)) n nothing_of 0 xs (omega arith) (λ i k. ap (at (states_in xs)) (sym (zero-add i))) (has_nothing (at (states_in xs)))
+    held = keeps_from (at (states_in xs)) n nothing_of 0 xs (omega arith) (λ i k. ap (at (states_in xs)) (sym (zero-add i))) (has_nothing (at (states_in xs))) s g
 
 -- ---- what is scattered
 each_from : (n : ℕ) (s : States) (q : ℕ) (xs : List Node) → q + length xs ≤ 64 → each (node_of n s) q xs ≡ tabulate (length xs) (λ i. node n (q + i) (state_at s (q + i)))

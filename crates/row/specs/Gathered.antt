@@ -1,59 +1,44 @@
--- What the walks over a row of node structs give.
+-- What the walk over a row gathers: the states of its entries, or none where one is not the node of its place.
 -- Assumes nothing.
-use Rattle.std.specs.Prelude.{Bool, true, ◌&&◌, ◌||◌, cond, List, [], ◌∷◌, ℕ, suc, eqb, ltb, set, replicate}
+use Rattle.std.specs.Prelude.{◌≡◌, Bool, true, false, ◌||◌, cond, Option, Some, None, List, [], ◌∷◌, ℕ, suc, ◌<◌, eqb, ltb, length, get_or}
+use Rattle.state.specs.Image.{no_group}
 use Rattle.state.specs.declared.State.{State}
 use Rattle.state.specs.declared.Node.{Node}
+use Rattle.rules.specs.Ballots.{with_group, one_group}
 use Rattle.cluster_states.specs.declared.States.{States}
 use Rattle.cluster_states.specs.Decided.{held_by, with_state}
-use Rattle.cluster_states.specs.States.{roles_of, state_at}
-use Rattle.row.specs.declared.Gathered.{Gathered}
+use Rattle.cluster_states.specs.States.{no_roles, state_at}
 use Rattle.row.specs.Row.{in_place}
 
 -- the states with that of node q put in
 unfoldable pub with_node : States → ℕ → State → States
-with_node s q d =
-    let w = with_state (roles_of s) q d in
-    record {
-      members = w.members;
-      asking = w.asking;
-      joining = w.joining;
-      no_quorum = w.no_quorum;
-      outvoted = w.outvoted;
-      numbers = set s.numbers q (held_by d).number;
-      sets = set s.sets q (held_by d).set;
-      bases = set s.bases q (held_by d).base;
-    }
+with_node s q d = record { roles = with_state s.roles q d; groups = with_group s.groups q (held_by d) }
 
 -- before the first entry
-unfoldable pub nothing_of : Gathered
-nothing_of =
-    record {
-      states =
-          record {
-            members = 0;
-            asking = 0;
-            joining = 0;
-            no_quorum = 0;
-            outvoted = 0;
-            numbers = replicate 64 0;
-            sets = replicate 64 0;
-            bases = replicate 64 0;
-          };
-      good = true;
-    }
+abbrev pub no_states : States
+no_states = record { roles = no_roles; groups = one_group no_group }
+
+unfoldable pub nothing_of : Option States
+nothing_of = Some no_states
 
 -- one more entry, that of place q; no cluster has more than 64. The walk knows no mode
-unfoldable pub push_of : ℕ → Gathered → ℕ → Node → Gathered
-push_of n g q x = cond (ltb q 64) (record { states = with_node g.states q x.state; good = g.good && in_place true n q x }) g
+unfoldable pub push_of : ℕ → Option States → ℕ → Node → Option States
+push_of n None q x = None
+push_of n (Some s) q x = cond (ltb q 64) (cond (in_place true n q x) (Some (with_node s q x.state)) None) (Some s)
 
 -- the entries from place q on
-unfoldable pub gathered : ℕ → Gathered → ℕ → List Node → Gathered
+unfoldable pub gathered : ℕ → Option States → ℕ → List Node → Option States
 gathered n g q [] = g
 gathered n g q (x ∷ xs) = gathered n (push_of n g q x) (suc q) xs
 
+-- the entries of the row, of which there are so many, are those that a call may give for their places
+abbrev pub Gives : (ℕ → Node → Type 0) → ℕ → List Node → Type 0
+Gives gives count row = (length row ≡ count) × ((q : ℕ) (x d : Node) → q < count → gives q x → x ≡ get_or row q d)
+
 -- whether every entry gathered is in its place: in a press that votes in every cycle nobody is asking
-abbrev pub ordered : Bool → Gathered → Bool
-ordered quiet g = g.good && (quiet || eqb g.states.asking 0)
+abbrev pub ordered : Bool → Option States → Bool
+ordered quiet None = false
+ordered quiet (Some s) = quiet || eqb s.roles.asking 0
 
 -- node q of n, in its state
 abbrev pub placed_node : ℕ → States → ℕ → Node

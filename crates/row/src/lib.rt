@@ -1,21 +1,24 @@
-// One entry of a row: whether it is in order, its state among those of all nodes, and the node that it becomes.
+// The entries of a row: whether each is in order, the states of all of them, and the node that each becomes.
 #![tactic(auto)]
 
-ghost use Rattle.std.specs.Prelude.{◌≡◌, ◌<◌, ◌≤◌, length, true};
+ghost use Rattle.std.specs.Prelude.{◌≡◌, ◌<◌, ◌≤◌, List, ℕ, true};
+ghost use Rattle.state.specs.declared.Node.{Node};
 ghost use Rattle.state.specs.State.{formed_state};
-ghost use Rattle.cluster_states.specs.States.{roles_of, states_of, state_at};
+ghost use Rattle.cluster_states.specs.States.{state_at};
+ghost use Rattle.cluster_states.specs.Decided.{held_by};
 ghost use Rattle.row.specs.Row.{in_place};
-ghost use Rattle.row.specs.Gathered.{with_node, placed_node};
+ghost use Rattle.row.specs.Gathered.{with_node, no_states, nothing_of, gathered, Gives, placed_node};
 
 use cluster_states::{Roles, States};
-use state::{Node, State};
+use rules::Groups;
+use state::{Group, Node, Reason, State};
 
-// What the walk over a row finds: the states of its entries, and whether each is the node of its place.
-#[derive(Clone, Copy)]
-pub struct Gathered {
-    pub states: States,
-    pub good: bool,
-}
+// A node of no place: what stands where there is none.
+pub const NOBODY: Node = Node {
+    state: State::Out(Reason::Stopped),
+    id: 0,
+    nodes: 0,
+};
 
 // Whether the state is one that a node can have, in one mode or the other.
 fn state_formed(id: u8, n: u8, s: State) -> bool
@@ -23,8 +26,7 @@ fn state_formed(id: u8, n: u8, s: State) -> bool
     ensures { result ≡ formed_state true id n s }
 {
     match s {
-        State::Out(_) => true,
-        State::Joining => true,
+        State::Out(_) | State::Joining => true,
         State::Member(g, _) => state_decoding::sets_formed(id, n, g.set, g.base),
     }
 }
@@ -33,84 +35,83 @@ fn state_formed(id: u8, n: u8, s: State) -> bool
 pub fn in_place(n: u8, q: usize, x: Node) -> bool
     ensures { result ≡ in_place true n q x }
 {
-    if !state_decoding::place_formed(x.id, x.nodes) {
-        return false;
-    }
-    let s = x.state;
-    if !state_formed(x.id, x.nodes, s) {
-        return false;
-    }
-    if x.id as usize != q {
-        return false;
-    }
-    x.nodes == n
+    state_decoding::place_formed(x.id, x.nodes)
+        && state_formed(x.id, x.nodes, x.state)
+        && usize::from(x.id) == q
+        && x.nodes == n
 }
 
-pub fn roles_of(s: States) -> Roles
-    ensures { result ≡ roles_of s }
+// The group of a state, zeros if it has none.
+fn held_by(s: State) -> Group
+    ensures { result ≡ held_by s }
 {
-    Roles {
-        members: s.members,
-        asking: s.asking,
-        joining: s.joining,
-        no_quorum: s.no_quorum,
-        outvoted: s.outvoted,
+    match s {
+        State::Member(g, _) => g,
+        State::Out(_) | State::Joining => Group {
+            number: 0,
+            set: 0,
+            base: 0,
+        },
     }
 }
 
-// The state of node q put in: the masks, and in place its group. The arrays are lent: a struct that holds them is copied at every call.
-pub fn put_state(
-    w: Roles,
-    q: usize,
-    d: State,
-    numbers: &mut [u32; 64],
-    sets: &mut [u64; 64],
-    bases: &mut [u64; 64],
-) -> Roles
-    requires { (q < 64) × (length numbers.old ≡ 64) × (length sets.old ≡ 64) × (length bases.old ≡ 64) }
-    ensures { states_of result numbers.new sets.new bases.new ≡ with_node (states_of w numbers.old sets.old bases.old) q d }
-{
-    let g = cluster_states::held_by(d);
-    numbers[q] = g.number;
-    sets[q] = g.set;
-    bases[q] = g.base;
-    cluster_states::with_state(w, q, d)
-}
-
-fn state_at<'a>(
-    w: Roles,
-    numbers: &'a [u32; 64],
-    sets: &'a [u64; 64],
-    bases: &'a [u64; 64],
-    q: usize,
-) -> State
+// The state of node q put in, in place: the states are lent, since an array is copied at every call that is given it.
+pub fn put_state(states: &mut States, q: usize, d: State)
     requires { q < 64 }
-    ensures { result ≡ state_at (states_of w numbers.now sets.now bases.now) q }
+    ensures { states.new ≡ with_node states.old q d }
 {
-    if sets::contains(w.members, q) {
-        let group = rule_steps::group_at(numbers, sets, bases, q);
-        State::Member(group, sets::contains(w.asking, q))
-    } else if sets::contains(w.joining, q) {
+    states.roles = states.roles.with_state(q, d);
+    states.groups.put(q, held_by(d));
+}
+
+// Before the first entry.
+fn no_states() -> States
+    ensures { result ≡ no_states }
+{
+    States {
+        roles: Roles::default(),
+        groups: Groups::zeros(),
+    }
+}
+
+// The states of a row of so many entries, each of which `entry` gives; None where one is not the node of its place.
+// No cluster has more than 64 nodes: what stands after them is not looked at.
+pub fn gather<F: Fn(usize) -> Node>(n: u8, count: usize, entry: F) -> Option<States>
+    requires { (q : ℕ) → q < count → F.pre entry q }
+    ensures { (row : List Node) → Gives (F.post entry) count row → result ≡ gathered n nothing_of 0 row }
+{
+    let mut states = no_states();
+    for q in 0..count.min(64) {
+        let x = entry(q);
+        if !in_place(n, q, x) {
+            return None;
+        }
+        put_state(&mut states, q, x.state);
+    }
+    Some(states)
+}
+
+fn state_at(states: &States, q: usize) -> State
+    requires { q < 64 }
+    ensures { result ≡ state_at states.now q }
+{
+    let roles = states.roles;
+    if sets::contains(roles.members, q) {
+        State::Member(states.groups.at(q), sets::contains(roles.asking, q))
+    } else if sets::contains(roles.joining, q) {
         State::Joining
     } else {
-        cluster_states::out_at(w, q)
+        roles.out_at(q)
     }
 }
 
-// Node q of a cluster of n, of masks and lent arrays.
-pub fn node_of<'a>(
-    n: u8,
-    w: Roles,
-    numbers: &'a [u32; 64],
-    sets: &'a [u64; 64],
-    bases: &'a [u64; 64],
-    q: usize,
-) -> Node
+// Node q of a cluster of n.
+pub fn node_of(n: u8, states: &States, q: usize) -> Node
     requires { q < 64 }
-    ensures { result ≡ placed_node n (states_of w numbers.now sets.now bases.now) q }
+    ensures { result ≡ placed_node n states.now q }
 {
     Node {
-        state: state_at(w, numbers, sets, bases, q),
+        state: state_at(states, q),
         id: q as u8,
         nodes: n,
     }

@@ -10,7 +10,7 @@ pub returns-then-contains : goal.returns-then-contains
 unfolding state_at
 returns-then-contains c =
     rw (sym c.contains.ensures ∙ c.if-contains.true)
-    (ap₂ (λ (g : Group) (a : Bool). Member g a) c.group_at-group.ensures c.contains-then-contains.ensures)
+    (ap₂ (λ (g : Group) (a : Bool). Member g a) c.at.ensures c.contains-then-contains.ensures)
 
 pub returns-then-contains-2 : goal.returns-then-contains-2
 unfolding state_at
