@@ -4,7 +4,7 @@ use mathlib.Core.Logic.{◌⊎◌, inl, inr}
 use mathlib.Core.Bool.{Bool, true, false, cond}
 use mathlib.Core.List.{List, [], ◌∷◌}
 use Rattle.std.specs.Prelude.{Option, Some, None}
-use Prim.Native.Nat.{ℕ, zero, suc, ◌+◌, ◌<◌, ◌≤◌, min}
+use Prim.Native.Nat.{ℕ, zero, suc, ◌+◌, ◌-◌, ◌<◌, ◌≤◌, min}
 use native.Mathlib.Nat.{not-suc-le-zero, le_of_suc-le-suc, add-zero, add-suc, suc-add, zero-add}
 use native.Mathlib.Numerals.{add-one}
 use native.Mathlib.Omega.{arith}
@@ -16,7 +16,7 @@ use Rattle.sets.proofs.Booleans.{bool}
 use Rattle.state.specs.declared.Node.{Node}
 use Rattle.cluster_states.specs.declared.States.{States}
 use Rattle.row.specs.Row.{in_place}
-use Rattle.row.specs.Gathered.{with_node, push_of, gathered, each}
+use Rattle.row.specs.Gathered.{with_node, push_of, gathered, placed_node, node_of, each}
 
 -- a place after q, from the place after q
 pub one_on : (q i : ℕ) → q + suc i ≡ suc q + i
@@ -60,19 +60,26 @@ module _ (f : ℕ → Node → Node) where
       ap (λ (p : ℕ). set (upto f 0 i ys) i (f p (get_or ys i d))) (sym (zero-add i)) ∙ set_next 0 i ys d l
       ∙ ap (λ (p : ℕ). upto f 0 p ys) (sym (add-one i))
 
-  all-replaced : (q : ℕ) (ys : List Node) → upto f q (length ys) ys ≡ each f q ys
-  unfolding upto each
-  all-replaced q [] = refl
-  all-replaced q (y ∷ ys) = ap (λ (r : List Node). f q y ∷ r) (all-replaced (suc q) ys)
-
-  -- all are replaced
-  pub upto_all : (i : ℕ) (ys : List Node) → i ≡ length ys → upto f 0 i ys ≡ each f 0 ys
-  upto_all i ys e = ap (λ (p : ℕ). upto f 0 p ys) e ∙ all-replaced 0 ys
-
   pub each-length : (q : ℕ) (ys : List Node) → length (each f q ys) ≡ length ys
   unfolding each
   each-length q [] = refl
   each-length q (y ∷ ys) = ap suc (each-length (suc q) ys)
+
+-- past the last place nothing is replaced
+each_past : (n : ℕ) (s : States) (q : ℕ) (ys : List Node) → 64 ≤ q → each (node_of n s) q ys ≡ ys
+unfolding each node_of
+each_past n s q [] l = refl
+each_past n s q (y ∷ ys) l =
+    ap (λ (b : Bool). cond b (placed_node n s q) y ∷ each (node_of n s) (suc q) ys) (le-ltb q 64 l)
+    ∙ ap (λ (r : List Node). y ∷ r) (each_past n s (suc q) ys (omega arith))
+
+-- all are replaced
+pub upto_all : (n : ℕ) (s : States) (q i : ℕ) (ys : List Node) → min (length ys) (64 - q) ≤ i → upto (node_of n s) q i ys ≡ each (node_of n s) q ys
+unfolding upto each
+upto_all n s q zero [] l = refl
+upto_all n s q zero (y ∷ ys) l = let past : 64 ≤ q = omega arith in sym (each_past n s q (y ∷ ys) past)
+upto_all n s q (suc i) [] l = refl
+upto_all n s q (suc i) (y ∷ ys) l = ap (λ (r : List Node). node_of n s q y ∷ r) (upto_all n s (suc q) i ys (omega arith))
 
 -- ---- a row of which the entries from place q on are still to gather, s being the states of those before
 pub gathered_none : (n q : ℕ) (ys : List Node) → gathered n None q ys ≡ None

@@ -5,13 +5,12 @@ ghost use Rattle.std.specs.Prelude.{◌≡◌, ◌<◌, ◌≤◌, List, ℕ, tr
 ghost use Rattle.state.specs.declared.Node.{Node};
 ghost use Rattle.state.specs.State.{formed_state};
 ghost use Rattle.cluster_states.specs.States.{state_at};
-ghost use Rattle.cluster_states.specs.Decided.{held_by};
 ghost use Rattle.row.specs.Row.{in_place};
 ghost use Rattle.row.specs.Gathered.{with_node, no_states, nothing_of, gathered, Gives, placed_node};
 
 use cluster_states::{Roles, States};
 use rules::Groups;
-use state::{Group, Node, Reason, State};
+use state::{Node, Reason, State};
 
 // A node of no place: what stands where there is none.
 pub const NOBODY: Node = Node {
@@ -41,27 +40,13 @@ pub fn in_place(n: u8, q: usize, x: Node) -> bool
         && x.nodes == n
 }
 
-// The group of a state, zeros if it has none.
-fn held_by(s: State) -> Group
-    ensures { result ≡ held_by s }
-{
-    match s {
-        State::Member(g, _) => g,
-        State::Out(_) | State::Joining => Group {
-            number: 0,
-            set: 0,
-            base: 0,
-        },
-    }
-}
-
 // The state of node q put in, in place: the states are lent, since an array is copied at every call that is given it.
 pub fn put_state(states: &mut States, q: usize, d: State)
     requires { q < 64 }
     ensures { states.new ≡ with_node states.old q d }
 {
     states.roles = states.roles.with_state(q, d);
-    states.groups.put(q, held_by(d));
+    states.groups.put(q, state_encoding::group_held(d));
 }
 
 // Before the first entry.

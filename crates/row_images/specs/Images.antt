@@ -1,12 +1,11 @@
 -- Paper 01: "The press host is written in C and calls the node end with numbers and byte buffers only. For a run the caller lends the states of all units
 -- as one row, one entry per unit." For C the row is N images of 24 bytes, one after the other.
 -- Assumes nothing.
-use Rattle.std.specs.Prelude.{true, cond, List, [], ◌∷◌, ◌++◌, ℕ, ◌*◌, ◌/◌, ◌%◌, eqb, length, take, drop}
+use Rattle.std.specs.Prelude.{true, cond, Result, Ok, Err, List, [], ◌∷◌, ◌++◌, ℕ, ◌*◌, ◌/◌, ◌%◌, eqb, length, take, drop}
+use Rattle.refusal.specs.declared.Refusal.{Refusal}
 use Rattle.state.specs.declared.Reason.TheVariants.{Stopped}
 use Rattle.state.specs.declared.State.TheVariants.{Out}
 use Rattle.state.specs.declared.Node.{Node}
-use Rattle.state.specs.declared.Decoded.{Decoded}
-use Rattle.state.specs.declared.Decoded.TheVariants.{Good, WrongLength, Malformed}
 use Rattle.state.specs.Image.{image_of, decoded}
 use Rattle.rules.specs.Faults.{tabulate}
 
@@ -14,10 +13,9 @@ use Rattle.rules.specs.Faults.{tabulate}
 abbrev pub no_node : Node
 no_node = record { state = Out Stopped; id = 0; nodes = 0 }
 
-abbrev pub node_or : Decoded → Node
-node_or (Good x) = x
-node_or WrongLength = no_node
-node_or Malformed = no_node
+abbrev pub node_or : Result Node Refusal → Node
+node_or (Ok x) = x
+node_or (Err e) = no_node
 
 -- the node of image q
 unfoldable pub node_in : List ℕ → ℕ → Node

@@ -1,11 +1,8 @@
 -- What is still to gather of a row, entry by entry, is said in `Lists`. Assumes nothing.
-use mathlib.Core.Path.{◌≡◌, sym, ap, ◌∙◌}
-use mathlib.Core.Bool.{true, false}
-use Prim.Native.Nat.{◌<◌}
+use mathlib.Core.Path.{sym, ap, ◌∙◌}
 use native.Mathlib.Omega.{arith}
 use Rattle.std.specs.Prelude.{Some}
 use Rattle.cluster_states.specs.declared.States.{States}
-use Rattle.row.specs.Row.{in_place}
 use Rattle.row.specs.Gathered.{nothing_of, gathered}
 use Rattle.row.proofs.Lists.{gathered_next, gathered_stop, gathered_all}
 use Rattle.row.proofs.gather.Goals as goal

@@ -1,5 +1,5 @@
 -- The roles by what `with_state` gives, the group by what `put` does with that of the state. Assumes nothing.
-use mathlib.Core.Path.{◌≡◌, ap, ap₂, ◌∙◌}
+use mathlib.Core.Path.{ap, ap₂, ◌∙◌}
 use Rattle.state.specs.declared.Group.{Group}
 use Rattle.rules.specs.declared.Groups.{Groups}
 use Rattle.rules.specs.Ballots.{with_group}
@@ -14,4 +14,4 @@ returns c =
     let a = c.args in
     ap₂ (λ (w : Roles) (g : Groups). let s : States = record { roles = w; groups = g } in s)
     c.with_state-states.ensures
-    (c.put.ensures ∙ ap (λ (g : Group). with_group a.states.now.groups a.q g) c.held_by.ensures)
+    (c.put.ensures ∙ ap (λ (g : Group). with_group a.states.now.groups a.q g) c.group_held.ensures)
