@@ -23,13 +23,10 @@ begin_bounds n q F s e =
     let d = none (wrong_length 24 s) 3 _ refl b.1 in
     ((count_bounds n a.0).1, leb-false n q b.0, length-is 24 s d.0)
 
-pub begun : (n q F : ℕ) (s image left : List ℕ) (t : State) → begin_status n q F s ≡ 0 → t ≡ initial 0 F q
-    → image ≡ image_of (record { state = t; id = q; nodes = n }) → left ≡ at_front image s
-    → (0 ≡ begin_status n q F s) × (left ≡ begin_left n q F s)
+pub begun : (n q F : ℕ) (s image left : List ℕ) (t : State) → 0 ≡ begin_status n q F s → t ≡ initial 0 F q
+    → image ≡ image_of (record { state = t; id = q; nodes = n }) → left ≡ at_front image s → left ≡ begin_left n q F s
 unfolding begin_left
 begun n q F s image left t e i m l =
-    let w : length image ≡ 24 = ap length m ∙ image_length _ in (
-      sym e,
-      l ∙ whole 24 image s w (begin_bounds n q F s e).2 ∙ m ∙ ap (λ (x : State). image_of (record { state = x; id = q; nodes = n })) i
-          ∙ sym (unless-done (begin_status n q F s) _ s e),
-    )
+    let w : length image ≡ 24 = ap length m ∙ image_length _ in
+    l ∙ whole 24 image s w (begin_bounds n q F s (sym e)).2 ∙ m ∙ ap (λ (x : State). image_of (record { state = x; id = q; nodes = n })) i
+    ∙ sym (unless-done (begin_status n q F s) _ s (sym e))

@@ -1,41 +1,29 @@
 // The entry that puts a node at the beginning.
 #![tactic(auto)]
 
-ghost use Rattle.std.specs.Prelude.{◌≡◌, ◌≤◌, ◌<◌};
+ghost use Rattle.std.specs.Prelude.{◌≡◌, ◌<◌};
+ghost use Rattle.refusal.specs.Codes.{status_of};
 ghost use Rattle.state.specs.State.{initial as the_initial};
-ghost use Rattle.entry_lent.specs.Refusals.{wrong_founding};
 ghost use Rattle.entry_begin.specs.Begin.{begin_status, begin_left};
 
-use entry_lent::wrong_count;
+use entry_lent::{check_count, check_length};
+use refusal::Refusal;
 use state::{Group, Node, Reason, State};
 
-// Refusal 13.
-fn wrong_founding(n: u32, founding: u64) -> bool
-    requires { n ≤ 64 }
-    ensures { result ≡ wrong_founding n founding }
+// The numbers and the buffer, in the order of the refusals.
+#[tactic(auto, unfolding(crate::specs::Begin::begin_status, refusal::specs::Refusal::first, entry_lent::specs::Refusals::wrong_founding))]
+fn check(n: u32, node: u32, founding: u64, state: &[u8]) -> Result<(), Refusal>
+    ensures { status_of result ≡ begin_status n node founding state.now }
 {
-    if founding == 0 {
-        return true;
-    }
-    sets::below(n as usize, founding) != founding
-}
-
-fn begin_refusal(n: u32, node: u32, founding: u64, state: &[u8]) -> u32
-    ensures { result ≡ begin_status n node founding state.now }
-{
-    if wrong_count(n) {
-        return 1;
-    }
+    check_count(n)?;
     if n <= node {
-        return 2;
+        return Err(Refusal::Number);
     }
-    if state.len() != 24 {
-        return 3;
+    check_length(state.len(), 24)?;
+    if founding == 0 || sets::below(n as usize, founding) != founding {
+        return Err(Refusal::Limit);
     }
-    if wrong_founding(n, founding) {
-        return 13;
-    }
-    0
+    Ok(())
 }
 
 // What a node is at the beginning.
@@ -56,19 +44,16 @@ fn initial(founding: u64, node: usize) -> State
 }
 
 // Puts a node at the beginning.
-pub fn begin(n: u32, node: u32, founding: u64, state: &mut [u8]) -> u32
-    ensures value { result ≡ begin_status n node founding state.old }
+pub fn begin(n: u32, node: u32, founding: u64, state: &mut [u8]) -> Result<(), Refusal>
+    ensures value { status_of result ≡ begin_status n node founding state.old }
     ensures state_after { state.new ≡ begin_left n node founding state.old }
 {
-    let status = begin_refusal(n, node, founding, state);
-    if status != 0 {
-        return status;
-    }
+    check(n, node, founding, state)?;
     let image = state_encoding::encode(Node {
         state: initial(founding, node as usize),
         id: node as u8,
         nodes: n as u8,
     });
     parts::copy(&image, state);
-    0
+    Ok(())
 }

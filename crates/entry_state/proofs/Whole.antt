@@ -8,10 +8,12 @@ use Rattle.state.specs.declared.Node.{Node}
 use Rattle.state.specs.Image.{layout, image_of}
 use Rattle.state.proofs.RoundTrip.{image_back}
 use Rattle.rules.specs.OneCycle.{quiet_in}
-use Rattle.entry_lent.specs.declared.Lent.{Lent}
-use Rattle.entry_lent.specs.declared.Lent.TheVariants.{Holds, Refused}
-use Rattle.entry_lent.specs.Found.{lent_state, status_of, image_status}
-use Rattle.entry_lent.proofs.Images.{found_state, state_numbered, state_kept}
+use Rattle.std.specs.Prelude.{Result, Ok, Err}
+use Rattle.refusal.specs.declared.Refusal.{Refusal}
+use Rattle.refusal.specs.Codes.{status_of}
+use Rattle.refusal.proofs.Codes.{numbered}
+use Rattle.entry_lent.specs.Found.{lent_state, image_status}
+use Rattle.entry_lent.proofs.Images.{found_state, state_kept}
 use Rattle.entry_state.specs.Apart.{of_node, kind_left, reason_left, node_left, count_left, number_left, set_left, base_left}
 
 -- the numbers that a call leaves, where these stood before, in the order of an image
@@ -25,9 +27,9 @@ pub whole_again : (mode : ℕ) (s : List ℕ) (kind reason node n : ℕ) (g : Gr
 unfolding image_status kind_left reason_left node_left count_left number_left set_left base_left image_of
 whole_again mode s kind reason node n g b accepted = go (lent_state mode s) refl
   where
-    go : (d : Lent) → lent_state mode s ≡ d → laid_out mode s kind reason node n g ≡ s
-    go (Holds found) e = simp e (image_back (quiet_in mode) s found b (found_state mode s found e).1)
-    go (Refused r) e = absurd (state_numbered mode s r e (sym (ap status_of e) ∙ accepted))
+    go : (d : Result Node Refusal) → lent_state mode s ≡ d → laid_out mode s kind reason node n g ≡ s
+    go (Ok found) e = simp e (image_back (quiet_in mode) s found b (found_state mode s found e).1)
+    go (Err r) e = absurd (numbered r (sym (ap status_of e) ∙ accepted))
 
 -- of every image that is refused each number is the one that stood there
 pub refused_kept : (mode : ℕ) (s : List ℕ) (kind reason node n number set base : ℕ) → (image_status mode s ≡ 0 → ⊥)
@@ -36,5 +38,5 @@ pub refused_kept : (mode : ℕ) (s : List ℕ) (kind reason node n number set ba
 unfolding kind_left reason_left node_left count_left number_left set_left base_left
 refused_kept mode s kind reason node n number set base refused =
     let stays : (f : Node → ℕ) (before : ℕ) → of_node f (lent_state mode s) before ≡ before =
-    λ f before. state_kept (λ (d : Lent). of_node f d before) before mode s (λ r. refl) refused in
+    λ f before. state_kept (λ (d : Result Node Refusal). of_node f d before) before mode s (λ r. refl) refused in
     (stays _ kind, stays _ reason, stays _ node, stays _ n, stays _ number, stays _ set, stays _ base)

@@ -1,16 +1,15 @@
 -- What the entry that takes a state apart leaves: the numbers that its image lays out (`layout`).
 -- Assumes nothing.
-use Rattle.std.specs.Prelude.{List, ℕ}
+use Rattle.std.specs.Prelude.{List, ℕ, Result, Ok, Err}
 use Rattle.state.specs.declared.Node.{Node}
 use Rattle.state.specs.Image.{kind_code, reason_byte, group_bytes}
-use Rattle.entry_lent.specs.declared.Lent.{Lent}
-use Rattle.entry_lent.specs.declared.Lent.TheVariants.{Holds, Refused}
+use Rattle.refusal.specs.declared.Refusal.{Refusal}
 use Rattle.entry_lent.specs.Found.{lent_state}
 
 -- a number of the node whose image is lent; as it came in where the image is refused
-abbrev pub of_node : (Node → ℕ) → Lent → ℕ → ℕ
-of_node f (Holds n) before = f n
-of_node f (Refused r) before = before
+abbrev pub of_node : (Node → ℕ) → Result Node Refusal → ℕ → ℕ
+of_node f (Ok n) before = f n
+of_node f (Err r) before = before
 
 -- "kind (0 out, 1 joining, 2 member), reason, node, N, G in 4, M in 8, B in 8"
 unfoldable pub kind_left : ℕ → List ℕ → ℕ → ℕ

@@ -9,30 +9,24 @@ use Rattle.state.specs.declared.Node.{Node}
 use Rattle.state.specs.Image.{image_of}
 use Rattle.state.proofs.RoundTrip.{image_length}
 use Rattle.rules.specs.OneCycle.{quiet_in}
-use Rattle.entry_lent.specs.declared.Lent.{Lent}
-use Rattle.entry_lent.specs.declared.Lent.TheVariants.{Holds, Refused}
-use Rattle.entry_lent.specs.Found.{lent_state, status_of, image_status}
+use Rattle.std.specs.Prelude.{Result, Ok}
+use Rattle.refusal.specs.declared.Refusal.{Refusal}
+use Rattle.entry_lent.specs.Found.{lent_state, image_status}
 use Rattle.parts.proofs.Copies.{whole}
 use Rattle.entry_lent.proofs.Images.{good_length, found_state, state_kept}
 use Rattle.entry_stop_start.specs.StopStart.{stopped_and_started, rule_one_of, stop_left, start_left}
 
 module _ (mode : ℕ) (stop· start· : Bool) (s : List ℕ) where
-  pub ruled : (image left : List ℕ) (n m : Node) → lent_state mode s ≡ Holds n → m ≡ stopped_and_started stop· start· n → image ≡ image_of m
-      → left ≡ at_front image s → (0 ≡ image_status mode s) × (left ≡ rule_one_of stop· start· (lent_state mode s) s)
-  unfolding image_status
+  pub ruled : (image left : List ℕ) (n m : Node) → Ok n ≡ lent_state mode s → m ≡ stopped_and_started stop· start· n → image ≡ image_of m
+      → left ≡ at_front image s → left ≡ rule_one_of stop· start· (lent_state mode s) s
   ruled image left n m g t e l =
       let w : length image ≡ 24 = ap length e ∙ image_length m in
-      (sym (ap status_of g), l ∙ whole 24 image s w (good_length (quiet_in mode) s n (found_state mode s n g).1) ∙ e ∙ ap image_of t ∙ sym (ap (λ (d : Lent). rule_one_of stop· start· d s) g))
-
-  -- where no node is found the image is left as it was
-  pub kept : (r : ℕ) → lent_state mode s ≡ Refused r → (r ≡ image_status mode s) × (s ≡ rule_one_of stop· start· (lent_state mode s) s)
-  unfolding image_status
-  kept r g = (sym (ap status_of g), sym (ap (λ (d : Lent). rule_one_of stop· start· d s) g))
+      l ∙ whole 24 image s w (good_length (quiet_in mode) s n (found_state mode s n (sym g)).1) ∙ e ∙ ap image_of t ∙ ap (λ (d : Result Node Refusal). rule_one_of stop· start· d s) g
 
 -- both leave every image that is refused as it came
 pub refused_kept : (mode : ℕ) (s : List ℕ) → (image_status mode s ≡ 0 → ⊥) → (stop_left mode s ≡ s) × (start_left mode s ≡ s)
 unfolding stop_left start_left
 refused_kept mode s refused =
     let stays : (stop start : Bool) → rule_one_of stop start (lent_state mode s) s ≡ s =
-    λ stop start. state_kept (λ (d : Lent). rule_one_of stop start d s) s mode s (λ r. refl) refused in
+    λ stop start. state_kept (λ (d : Result Node Refusal). rule_one_of stop start d s) s mode s (λ r. refl) refused in
     (stays true false, stays false true)

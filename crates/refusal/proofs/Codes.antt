@@ -5,7 +5,8 @@ use borrow.Author.Tests.{eqb-false}
 use Rattle.refusal.specs.declared.Refusal.{Refusal}
 use Rattle.refusal.specs.declared.Refusal.TheVariants.{NodeCount, Number, Length, Image, FrameLength, HeaderCheck, FrameCheck, NullFrame, NotDue, Content, CutRecord, Record, Limit, Address}
 use Rattle.refusal.specs.Codes.{code_of, status_of}
-use Rattle.refusal.specs.Refusal.{Condition, when, first}
+use Rattle.refusal.specs.Refusal.{Condition, when, first, unless}
+use Rattle.refusal.proofs.Laws.{unless-refused}
 
 -- a refusal has a number
 pub numbered : (r : Refusal) → code_of r ≡ 0 → ⊥
@@ -42,3 +43,7 @@ passed false k h e = refl
 pub refused-first : (r : Refusal) (b : Bool) (k : ℕ) (cs : List Condition) → code_of r ≡ cond b k 0 → code_of r ≡ first (when b k ∷ cs)
 unfolding first
 refused-first r b k cs e = let h = refused r b k e in simp h.0 h.1
+
+-- what is left after a refusal
+pub unless_err : {A : Type 0} (r : Refusal) (status : ℕ) (result before : A) → code_of r ≡ status → before ≡ unless status result before
+unless_err r status result before e = sym (unless-refused status result before (λ z. numbered r (e ∙ z)))
