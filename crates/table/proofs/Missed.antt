@@ -3,7 +3,7 @@ use mathlib.Core.Path.{◌≡◌, refl, sym, ap, ◌∙◌}
 use mathlib.Core.Logic.{◌⊎◌, inl, inr}
 use mathlib.Core.Bool.{Bool, true, false, cond}
 use mathlib.Core.List.{List}
-use Prim.Native.Nat.{ℕ, suc, ◌+◌, ◌/◌, ◌%◌, ◌≤◌, ◌<◌}
+use Prim.Native.Nat.{ℕ, suc, ◌+◌, ◌/◌, ◌%◌, ◌<◌}
 use native.Mathlib.Omega.{arith}
 use native.Mathlib.Numerals.{add-one}
 use lib.Dec.{eqb}
@@ -106,12 +106,11 @@ pub vote-turn : (s l t : List ℕ) (i b m : ℕ) → l ≡ tabulate 64 (λ q. mi
 vote-turn s l t i b m = turn (λ q. 128 + q) 2 s l t i b m (λ q h. (omega arith, omega arith)) (λ b h. omega arith)
 
 -- after the last entry they are those of the fault record
-pub missed_end : (s : List ℕ) (i : ℕ) (h v : List ℕ) → i ≤ entries_at s → entries_at s ≤ i
+pub missed_end : (s : List ℕ) (i : ℕ) (h v : List ℕ) → i ≡ entries_at s
     → h ≡ tabulate 64 (λ q. missed_of s i q) → v ≡ tabulate 64 (λ q. missed_of s i (128 + q))
     → (h ≡ (faults_at s).heartbeat_missed) × (v ≡ (faults_at s).vote_missed)
 unfolding faults_at
-missed_end s i h v l m kh kv =
-    let same : i ≡ entries_at s = omega arith in
+missed_end s i h v same kh kv =
     (kh ∙ ap (λ (x : ℕ). tabulate 64 (λ q. missed_of s x q)) same, kv ∙ ap (λ (x : ℕ). tabulate 64 (λ q. missed_of s x (128 + q))) same)
 
 -- and with the four masks it is that record

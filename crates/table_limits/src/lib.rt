@@ -1,19 +1,18 @@
 // The limits of a record of kind 2: its masks, its entries and its place in the table.
 #![tactic(auto)]
 
-ghost use Rattle.std.specs.Prelude.{◌≡◌, not, ◌&&◌, ◌||◌, ◌+◌, ◌-◌, ◌*◌, ◌/◌, ◌%◌, ◌≤◌, ◌<◌, eqb, ltb, length};
+ghost use Rattle.std.specs.Prelude.{◌≡◌, not, ◌&&◌, ◌||◌, ◌-◌, ◌/◌, ◌%◌, ◌≤◌, ◌<◌, eqb, ltb};
 ghost use Rattle.sets.specs.Sets.{has, every};
 ghost use Rattle.table.specs.Records.{beyond};
-ghost use Rattle.table.specs.Records.{entries_at, cycle_length, place_at, good_entry, masks_beyond, wrong_cycle};
+ghost use Rattle.table.specs.Records.{entries_at, place_at, good_entry, masks_beyond, wrong_cycle};
+
+use table::CycleRecord;
 
 // An entry's first byte: bit 6 zero, and a receiver below n.
 fn place_fits(n: usize, first: u8) -> bool
     ensures { result ≡ (eqb (first / 64 % 2) 0 && ltb (first % 64) n) }
 {
-    if first / 64 % 2 != 0 {
-        return false;
-    }
-    ((first % 64) as usize) < n
+    first / 64 % 2 == 0 && usize::from(first % 64) < n
 }
 
 // An entry's mask: not empty, no bit at n or above, and not its own receiver.
@@ -21,85 +20,53 @@ fn mask_fits(n: usize, receiver: usize, missed: u64) -> bool
     requires { (n ≤ 64) × (receiver < 64) }
     ensures { result ≡ (not (eqb missed 0) && not (beyond n missed) && not (has receiver missed)) }
 {
-    if missed == 0 {
-        return false;
-    }
-    if table_first::is_beyond(n, missed) {
-        return false;
-    }
-    !sets::contains(missed, receiver)
+    missed != 0 && !table_first::is_beyond(n, missed) && !sets::contains(missed, receiver)
 }
 
 // Entry i stands after the one before it.
-fn ascends(s: &[u8], i: usize) -> bool
-    requires { 36 + 9 * i < length s.now }
-    ensures { result ≡ (eqb i 0 || ltb (place_at s.now (i - 1)) (place_at s.now i)) }
+fn ascends(cycle: CycleRecord, i: usize) -> bool
+    requires { i < entries_at cycle.bytes.now }
+    ensures { result ≡ (eqb i 0 || ltb (place_at cycle.entry.bytes.now (i - 1)) (place_at cycle.entry.bytes.now i)) }
 {
-    if i == 0 {
-        return true;
-    }
-    s[36 + 9 * (i - 1)] < s[36 + 9 * i]
+    i == 0 || cycle.entry(i - 1).first < cycle.entry(i).first
 }
 
 // Whether entry i keeps every limit.
-fn entry_fits(n: usize, s: &[u8], i: usize) -> bool
-    requires { (n ≤ 64) × (45 + 9 * i ≤ length s.now) }
-    ensures { result ≡ good_entry n s.now i }
+#[tactic(auto, unfolding(table::specs::Records::good_entry))]
+fn entry_fits(n: usize, cycle: CycleRecord, i: usize) -> bool
+    requires { (n ≤ 64) × (i < entries_at cycle.bytes.now) }
+    ensures { result ≡ good_entry n cycle.entry.bytes.now i }
 {
-    let first = s[36 + 9 * i];
-    if !place_fits(n, first) {
-        return false;
-    }
-    let missed = bigendian::read::<8>(s, 37 + 9 * i);
-    if !mask_fits(n, (first % 64) as usize, missed) {
-        return false;
-    }
-    ascends(s, i)
+    let entry = cycle.entry(i);
+    place_fits(n, entry.first) && mask_fits(n, entry.receiver(), entry.missed) && ascends(cycle, i)
 }
 
 // Whether every entry keeps every limit.
-fn entries_fit(n: usize, s: &[u8]) -> bool
-    requires { (n ≤ 64) × (36 ≤ length s.now) × (cycle_length s.now ≤ length s.now) }
-    ensures { result ≡ every (entries_at s.now) (good_entry n s.now) }
+fn entries_fit(n: usize, cycle: CycleRecord) -> bool
+    requires { n ≤ 64 }
+    ensures { result ≡ every (entries_at cycle.entry.bytes.now) (good_entry n cycle.entry.bytes.now) }
 {
-    let count = s[35] as usize;
-    let mut i: usize = 0;
-    while i < count {
-        if !entry_fits(n, s, i) {
-            return false;
-        }
-        i += 1;
-    }
-    true
+    (0..usize::from(cycle.entries())).all(|i| entry_fits(n, cycle, i))
 }
 
 // Whether one of the four masks has a bit at n or above.
-fn masks_beyond(n: usize, s: &[u8]) -> bool
-    requires { (n ≤ 64) × (36 ≤ length s.now) }
-    ensures { result ≡ masks_beyond n s.now }
+#[tactic(auto, unfolding(table::specs::Records::masks_beyond, table::specs::Records::faults_at))]
+fn masks_beyond(n: usize, cycle: CycleRecord) -> bool
+    requires { n ≤ 64 }
+    ensures { result ≡ masks_beyond n cycle.entry.bytes.now }
 {
-    if table_first::is_beyond(n, bigendian::read::<8>(s, 3)) {
-        return true;
-    }
-    if table_first::is_beyond(n, bigendian::read::<8>(s, 11)) {
-        return true;
-    }
-    if table_first::is_beyond(n, bigendian::read::<8>(s, 19)) {
-        return true;
-    }
-    table_first::is_beyond(n, bigendian::read::<8>(s, 27))
+    let marks = cycle.marks();
+    table_first::is_beyond(n, marks.stop)
+        || table_first::is_beyond(n, marks.start)
+        || table_first::is_beyond(n, marks.heartbeat_lost)
+        || table_first::is_beyond(n, marks.vote_lost)
 }
 
-// What 13 stands for in a record that is all there; its count is looked at before.
-pub fn is_wrong_cycle(n: usize, k: u64, s: &[u8]) -> bool
-    requires { (n ≤ 64) × (36 ≤ length s.now) × (cycle_length s.now ≤ length s.now) × (entries_at s.now ≤ 128) }
-    ensures { result ≡ wrong_cycle n k s.now }
+// What 13 stands for in a record of a cycle.
+#[tactic(auto, unfolding(table::specs::Records::wrong_cycle))]
+pub fn is_wrong_cycle(n: usize, k: u64, cycle: CycleRecord) -> bool
+    requires { n ≤ 64 }
+    ensures { result ≡ wrong_cycle n k cycle.entry.bytes.now }
 {
-    if k > 4294967295 {
-        return true;
-    }
-    if masks_beyond(n, s) {
-        return true;
-    }
-    !entries_fit(n, s)
+    k > 4294967295 || masks_beyond(n, cycle) || cycle.entries() > 128 || !entries_fit(n, cycle)
 }

@@ -1,32 +1,16 @@
-use mathlib.Core.Path.{sym, ◌∙◌}
-use native.Mathlib.Omega.{arith}
-use Rattle.table.proofs.Refusals.{every-none, every-next, every_fails, every_end}
+use mathlib.Core.Path.{◌∙◌, ap}
+use Prim.Native.Nat.{ℕ}
+use Rattle.std.proofs.Common.{rules, arith}
+use borrow.Author.Tests.{tests}
+use Rattle.std.proofs.lemmas.Iterator.{YieldsList-from_range}
+use Rattle.std.proofs.lemmas.Iterator.Search.{all_from_yields_List}
+use Rattle.sets.specs.Sets.{every}
+use Rattle.table.specs.Records.{good_entry}
+use Rattle.table.proofs.Refusals.{list_all-every}
 use Rattle.table_limits.proofs.entries_fit.Goals as goal
 
-pub bounds-s-35 : goal.bounds-s-35
-bounds-s-35 c = omega arith
-
-pub overflow_cast-count : goal.overflow_cast-count
-overflow_cast-count c = omega (arith, c.type_inv.s 35)
-
-pub loop-i-init : goal.loop-i-init
-loop-i-init c = (omega arith, every-none _)
-
-pub entry_fits-requires : goal.entry_fits-requires
-entry_fits-requires c = omega arith
-
-pub returns-then-not-entry_fits : goal.returns-then-not-entry_fits
-returns-then-not-entry_fits c = every_fails _ c.loop-i.i _ c.loop-i-test.true (sym c.entry_fits.ensures ∙ c.if-not-entry_fits.true)
-
-pub overflow_add-i : goal.overflow_add-i
-overflow_add-i c = omega arith
-
-pub loop-i-smaller : goal.loop-i-smaller
-loop-i-smaller c = omega arith
-
-pub loop-i-preserved : goal.loop-i-preserved
-loop-i-preserved c =
-    (omega arith, every-next _ _ c.loop-i.invariant.1 (sym c.entry_fits.ensures ∙ c.if-not-entry_fits.false))
-
 pub returns : goal.returns
-returns c = every_end _ c.loop-i.i _ c.loop-i.invariant.1 c.loop-i.invariant.0 c.loop-i-test.false
+returns c =
+    let good = good_entry c.args.n c.args.cycle.bytes.now in
+    all_from_yields_List good _ _ _ c.all.ensures.ran (YieldsList-from_range 0 c.from.result c.from.result (cc) (omega arith)) (λ x b q k. search (rules, tests))
+    ∙ list_all-every c.from.result good ∙ ap (λ (n : ℕ). every n good) (c.from.ensures ∙ c.entries.ensures)
