@@ -4,15 +4,16 @@ use mathlib.Core.Bool.{Bool, true, false, cond, true≢false}
 use mathlib.Core.List.{List, []}
 use Prim.Native.Nat.{ℕ, ◌≤◌, ◌<◌}
 use native.Mathlib.Omega.{arith}
-use lib.Dec.{ltb}
+use lib.Dec.{eqb, ltb}
 use lib.ListN.{length}
 use borrow.Author.Tests.{lt-ltb, le-ltb, ltb-true, ltb-false}
 use Rattle.print_text.specs.Text.{ascii}
 use Rattle.print_options.specs.declared.Asked.{Asked}
 use Rattle.print_options.specs.declared.Asked.TheVariants.{Run, Help, Version, Wrong}
+use Rattle.std.specs.Cmp.Lexicographic.{pointwise}
 use Rattle.parts.specs.Compared.{same_bytes}
 use Rattle.print_options.specs.Options.{asked_by_one, asked_by, argument_room, Known}
-use Rattle.parts.proofs.Compared.{equal_same, same_equal, other_length}
+use Rattle.parts.proofs.Compared.{pointwise_same, equal_same, same_equal, other_length}
 
 pub none-given : (count : ℕ) (first : List ℕ) → count < 2 → asked_by count first ≡ Run
 unfolding asked_by
@@ -25,6 +26,10 @@ several_given count first h l = rw (le-ltb count 2 h, lt-ltb 2 count l)
 pub one_given : (count : ℕ) (first : List ℕ) → 2 ≤ count → count ≤ 2 → asked_by count first ≡ asked_by_one first
 unfolding asked_by
 one_given count first h l = rw (le-ltb count 2 h, le-ltb 2 count l)
+
+-- what a test by `==` found
+pub found : (first text : List ℕ) {s : List ℕ} {d r : Bool} → s ≡ text → r ≡ pointwise eqb first s → r ≡ d → same_bytes first text ≡ d
+found first text e p t = sym (pointwise_same first text) ∙ ap (pointwise eqb first) (sym e) ∙ sym p ∙ t
 
 module _ (first : List ℕ) where
   pub help-given : same_bytes first (ascii "--help") ≡ true → asked_by_one first ≡ Help

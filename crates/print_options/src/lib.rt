@@ -2,7 +2,7 @@
 #![tactic(auto)]
 
 ghost use Rattle.std.specs.Prelude.{◌≡◌, replicate};
-ghost use Rattle.print_options.specs.Options.{is_quiet, asked_by, argument_room, goes_aside};
+ghost use Rattle.print_options.specs.Options.{is_quiet, asked_by_one, asked_by, argument_room, goes_aside};
 
 // The programs: grouprun, for presses that vote in every cycle, and quietrun, for quiet ones.
 #[derive(Clone, Copy)]
@@ -37,23 +37,28 @@ pub fn argument_room() -> [u8; 16]
     [0; 16]
 }
 
+// What is asked for by one argument.
+fn asked_by_one(first: &[u8]) -> Asked
+    ensures { result ≡ asked_by_one first.now }
+{
+    if first == b"--help".as_slice() {
+        Asked::Help
+    } else if first == b"--version".as_slice() {
+        Asked::Version
+    } else {
+        Asked::Wrong
+    }
+}
+
 // What is asked for by so many arguments, the program's name among them, the one after the name being `first`.
 pub fn asked_by(count: usize, first: &[u8]) -> Asked
     ensures { result ≡ asked_by count first.now }
 {
-    if count < 2 {
-        return Asked::Run;
+    match count {
+        0 | 1 => Asked::Run,
+        2 => asked_by_one(first),
+        _ => Asked::Wrong,
     }
-    if count > 2 {
-        return Asked::Wrong;
-    }
-    if parts::same_bytes(first, b"--help") {
-        return Asked::Help;
-    }
-    if parts::same_bytes(first, b"--version") {
-        return Asked::Version;
-    }
-    Asked::Wrong
 }
 
 // Whether the answer goes to standard error, and not to standard output.
