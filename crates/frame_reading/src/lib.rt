@@ -3,61 +3,38 @@
 
 ghost use Rattle.std.specs.Prelude.{◌≡◌, ◌+◌, ◌≤◌, ◌<◌, length};
 ghost use Rattle.parts.specs.Parts.{at_front};
-ghost use Rattle.rules.specs.OneCycle.{same_vote};
 ghost use Rattle.frames.specs.Written.{formed_vote};
-ghost use Rattle.frames.specs.Read.{fault_code, drive_of, heartbeat_of, read_heartbeat, is_good, counted_on, same_payload, receive_heartbeat, vote_content, read_vote, receive_vote};
+ghost use Rattle.frames.specs.Read.{drive_of, heartbeat_of, read_heartbeat, same_payload, receive_heartbeat, vote_content, read_vote, receive_vote};
 
-use frames::{
-    Copy, Fault, HeartbeatCounted, HeartbeatRead, HeartbeatReceived, Looked, VoteRead, VoteReceived,
-};
+use frames::{Channel, Counted, Fault, Heartbeat, Kind};
 use rules::Vote;
 use state::Group;
 
-pub fn fault_code(f: Fault) -> u32
-    ensures { result ≡ fault_code f }
-{
-    match f {
-        Fault::Length => 5,
-        Fault::HeaderCheck => 6,
-        Fault::FrameCheck => 7,
-        Fault::NullFrame => 8,
-        Fault::NotDue => 9,
-        Fault::Content => 10,
-    }
-}
-
 // A heartbeat by its first word. The mode is looked at last: most heartbeats have no bit set.
-fn heartbeat_of(quiet: bool, a: u8, b: u8) -> HeartbeatRead
+fn heartbeat_of(quiet: bool, a: u8, b: u8) -> Result<Heartbeat, Fault>
     ensures { result ≡ heartbeat_of quiet a b }
 {
-    if b != 0 {
-        return HeartbeatRead::Refused(Fault::Content);
-    }
-    if a == 0 {
-        return HeartbeatRead::Alive;
-    }
-    if a == 128 {
-        return HeartbeatRead::Join;
-    }
-    if a != 64 {
-        return HeartbeatRead::Refused(Fault::Content);
-    }
-    if quiet {
-        HeartbeatRead::Request
-    } else {
-        HeartbeatRead::Refused(Fault::Content)
+    match (a, b) {
+        (0, 0) => Ok(Heartbeat::Alive),
+        (128, 0) => Ok(Heartbeat::Join),
+        (64, 0) if quiet => Ok(Heartbeat::Request),
+        _ => Err(Fault::Content),
     }
 }
 
 // The heartbeat of node q in a cycle, from the copy on a channel.
-pub fn read_heartbeat(quiet: bool, q: u32, cycle: u32, channel: u32, s: &[u8]) -> HeartbeatRead
+pub fn read_heartbeat(
+    quiet: bool,
+    q: u32,
+    cycle: u32,
+    channel: u32,
+    s: &[u8],
+) -> Result<Heartbeat, Fault>
     requires { q < 64 }
     ensures { result ≡ read_heartbeat quiet q cycle channel s.now }
 {
-    match frame_checks::look(q + 1, cycle, true, channel, s) {
-        Looked::Refused(f) => HeartbeatRead::Refused(f),
-        Looked::Due => heartbeat_of(quiet, s[5], s[6]),
-    }
+    frame_checks::look(q + 1, cycle, Kind::Heartbeat, channel, s)?;
+    heartbeat_of(quiet, s[5], s[6])
 }
 
 // Whether v is a vote that node q of n may cast.
@@ -67,22 +44,14 @@ pub fn formed_vote(n: usize, q: usize, v: Vote) -> bool
     ensures { result ≡ formed_vote n q v }
 {
     let g = v.group;
-    if !sets::contains(g.set, q) {
-        return false;
-    }
-    if !sets::contains(v.view, q) {
-        return false;
-    }
-    if !sets::subset(g.set, g.base) {
-        return false;
-    }
-    if sets::below(n, g.base) != g.base {
-        return false;
-    }
-    sets::below(n, v.view) == v.view
+    sets::contains(g.set, q)
+        && sets::contains(v.view, q)
+        && sets::subset(g.set, g.base)
+        && sets::below(n, g.base) == g.base
+        && sets::below(n, v.view) == v.view
 }
 
-fn vote_content(n: usize, q: u32, s: &[u8]) -> VoteRead
+fn vote_content(n: usize, q: u32, s: &[u8]) -> Result<Vote, Fault>
     requires n_bound { n ≤ 64 }
     requires q_bound { q < 64 }
     requires in_bounds { 33 ≤ length s.now }
@@ -97,57 +66,20 @@ fn vote_content(n: usize, q: u32, s: &[u8]) -> VoteRead
         view: bigendian::read::<8>(s, 25),
     };
     if formed_vote(n, q as usize, v) {
-        VoteRead::Whole(v)
+        Ok(v)
     } else {
-        VoteRead::Refused(Fault::Content)
+        Err(Fault::Content)
     }
 }
 
 // The vote of node q of n in a cycle, from the copy on a channel.
-pub fn read_vote(n: usize, q: u32, cycle: u32, channel: u32, s: &[u8]) -> VoteRead
+pub fn read_vote(n: usize, q: u32, cycle: u32, channel: u32, s: &[u8]) -> Result<Vote, Fault>
     requires n_bound { n ≤ 64 }
     requires q_lt_n { q < n }
     ensures { result ≡ read_vote n q cycle channel s.now }
 {
-    match frame_checks::look(q + 65, cycle, false, channel, s) {
-        Looked::Refused(f) => VoteRead::Refused(f),
-        Looked::Due => vote_content(n, q, s),
-    }
-}
-
-fn is_good(r: HeartbeatRead) -> bool
-    ensures { result ≡ is_good r }
-{
-    match r {
-        HeartbeatRead::Alive => true,
-        HeartbeatRead::Join => true,
-        HeartbeatRead::Request => true,
-        HeartbeatRead::Refused(_) => false,
-    }
-}
-
-// What a copy gives that is the only one, or equal to the other.
-fn counted_on(copy: Copy, r: HeartbeatRead) -> HeartbeatCounted
-    ensures { result ≡ counted_on copy r }
-{
-    match r {
-        HeartbeatRead::Alive => HeartbeatCounted {
-            heard: HeartbeatReceived::Alive,
-            copy,
-        },
-        HeartbeatRead::Join => HeartbeatCounted {
-            heard: HeartbeatReceived::Join,
-            copy,
-        },
-        HeartbeatRead::Request => HeartbeatCounted {
-            heard: HeartbeatReceived::Request,
-            copy,
-        },
-        HeartbeatRead::Refused(_) => HeartbeatCounted {
-            heard: HeartbeatReceived::Missed,
-            copy: Copy::Neither,
-        },
-    }
+    frame_checks::look(q + 65, cycle, Kind::Vote, channel, s)?;
+    vote_content(n, q, s)
 }
 
 fn same_payload(a: &[u8], b: &[u8]) -> bool
@@ -161,25 +93,24 @@ fn same_payload(a: &[u8], b: &[u8]) -> bool
 }
 
 // The heartbeat of node q in a cycle, from both copies: one good copy counts; two count if their payloads are equal.
-pub fn receive_heartbeat(quiet: bool, q: u32, cycle: u32, a: &[u8], b: &[u8]) -> HeartbeatCounted
+pub fn receive_heartbeat(quiet: bool, q: u32, cycle: u32, a: &[u8], b: &[u8]) -> Option<Counted>
     requires { q < 64 }
     ensures { result ≡ receive_heartbeat quiet q cycle a.now b.now }
 {
     let on_a = read_heartbeat(quiet, q, cycle, 0, a);
     let on_b = read_heartbeat(quiet, q, cycle, 1, b);
-    if !is_good(on_a) {
-        return counted_on(Copy::OnB, on_b);
+    match (on_a, on_b) {
+        (Ok(heartbeat), Ok(_)) => {
+            if same_payload(a, b) {
+                Some(Counted { heartbeat, channel: Channel::A })
+            } else {
+                None
+            }
+        }
+        (Ok(heartbeat), Err(_)) => Some(Counted { heartbeat, channel: Channel::A }),
+        (Err(_), Ok(heartbeat)) => Some(Counted { heartbeat, channel: Channel::B }),
+        (Err(_), Err(_)) => None,
     }
-    if !is_good(on_b) {
-        return counted_on(Copy::OnA, on_a);
-    }
-    if !same_payload(a, b) {
-        return HeartbeatCounted {
-            heard: HeartbeatReceived::Missed,
-            copy: Copy::Neither,
-        };
-    }
-    counted_on(Copy::OnA, on_a)
 }
 
 // The drive bytes of a heartbeat, at the front of a buffer; how many they are.
@@ -194,34 +125,20 @@ pub fn put_drive(s: &[u8], buffer: &mut [u8]) -> u32
     parts::copy(&s[7..end], buffer) as u32
 }
 
-// Whether two votes say the same.
-pub fn same_vote(v: Vote, w: Vote) -> bool
-    ensures { result ≡ same_vote v w }
-{
-    if rule_steps::same_group(v.group, w.group) {
-        v.view == w.view
-    } else {
-        false
-    }
-}
-
-pub fn receive_vote(a: VoteRead, b: VoteRead) -> VoteReceived
+// The vote of a node in a cycle, from what was read in both copies.
+pub fn receive_vote(a: Result<Vote, Fault>, b: Result<Vote, Fault>) -> Option<Vote>
     ensures { result ≡ receive_vote a b }
 {
-    match a {
-        VoteRead::Whole(v) => match b {
-            VoteRead::Whole(w) => {
-                if same_vote(v, w) {
-                    VoteReceived::Whole(v)
-                } else {
-                    VoteReceived::Missed
-                }
+    match (a, b) {
+        (Ok(v), Ok(w)) => {
+            if v == w {
+                Some(v)
+            } else {
+                None
             }
-            VoteRead::Refused(_) => VoteReceived::Whole(v),
-        },
-        VoteRead::Refused(_) => match b {
-            VoteRead::Whole(w) => VoteReceived::Whole(w),
-            VoteRead::Refused(_) => VoteReceived::Missed,
-        },
+        }
+        (Ok(v), Err(_)) => Some(v),
+        (Err(_), Ok(w)) => Some(w),
+        (Err(_), Err(_)) => None,
     }
 }
