@@ -102,13 +102,22 @@ pub fn receive_heartbeat(quiet: bool, q: u32, cycle: u32, a: &[u8], b: &[u8]) ->
     match (on_a, on_b) {
         (Ok(heartbeat), Ok(_)) => {
             if same_payload(a, b) {
-                Some(Counted { heartbeat, channel: Channel::A })
+                Some(Counted {
+                    heartbeat,
+                    channel: Channel::A,
+                })
             } else {
                 None
             }
         }
-        (Ok(heartbeat), Err(_)) => Some(Counted { heartbeat, channel: Channel::A }),
-        (Err(_), Ok(heartbeat)) => Some(Counted { heartbeat, channel: Channel::B }),
+        (Ok(heartbeat), Err(_)) => Some(Counted {
+            heartbeat,
+            channel: Channel::A,
+        }),
+        (Err(_), Ok(heartbeat)) => Some(Counted {
+            heartbeat,
+            channel: Channel::B,
+        }),
         (Err(_), Err(_)) => None,
     }
 }
@@ -130,13 +139,7 @@ pub fn receive_vote(a: Result<Vote, Fault>, b: Result<Vote, Fault>) -> Option<Vo
     ensures { result ≡ receive_vote a b }
 {
     match (a, b) {
-        (Ok(v), Ok(w)) => {
-            if v == w {
-                Some(v)
-            } else {
-                None
-            }
-        }
+        (Ok(v), Ok(w)) => { if v == w { Some(v) } else { None } }
         (Ok(v), Err(_)) => Some(v),
         (Err(_), Ok(w)) => Some(w),
         (Err(_), Err(_)) => None,

@@ -5,3 +5,4 @@ pub mod Headers
 pub mod RoundTrip
 pub mod TwoChannels
 pub mod Refused
+pub mod Votes

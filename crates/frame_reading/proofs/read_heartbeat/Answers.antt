@@ -29,20 +29,20 @@ module _ (quiet : Bool) (q cycle channel : ℕ) (s : List ℕ) {l : Result (Unit
 pub bounds-s-5 : goal.bounds-s-5
 bounds-s-5 c =
     let a = c.args in
-    let l = due-long a.quiet a.q a.cycle a.channel a.s.now c.look.ensures (c.in_ok-look.was tt) in
+    let l = due-long a.quiet a.q a.cycle a.channel a.s.now c.look.ensures c.in_ok-look.was in
     omega arith
 
 pub bounds-s-6 : goal.bounds-s-6
 bounds-s-6 c =
     let a = c.args in
-    let l = due-long a.quiet a.q a.cycle a.channel a.s.now c.look.ensures (c.in_ok-look.was tt) in
+    let l = due-long a.quiet a.q a.cycle a.channel a.s.now c.look.ensures c.in_ok-look.was in
     omega arith
 
 pub returns-in_err-look : goal.returns-in_err-look
 returns-in_err-look c =
     let a = c.args in
     let p = err_from_is_err_and c.from_residual.result c.from_residual.ensures.1 in
-    rw (p.1, p.2) (refused a.quiet a.q a.cycle a.channel a.s.now c.look.ensures (c.in_err-look.was tt))
+    rw (p.1, p.2) (refused a.quiet a.q a.cycle a.channel a.s.now c.look.ensures c.in_err-look.was)
 
 pub returns : goal.returns
-returns c = let a = c.args in due a.quiet a.q a.cycle a.channel a.s.now c.look.ensures (c.in_ok-look.was tt) c.heartbeat_of.ensures
+returns c = let a = c.args in due a.quiet a.q a.cycle a.channel a.s.now c.look.ensures c.in_ok-look.was c.heartbeat_of.ensures

@@ -28,14 +28,14 @@ module _ (n q cycle channel : ℕ) (s : List ℕ) {l : Result (Unit {0}) Fault} 
 pub vote_content-requires-clause-in_bounds : goal.vote_content-requires-clause-in_bounds
 vote_content-requires-clause-in_bounds c =
     let a = c.args in
-    let l = due-length a.n a.q a.cycle a.channel a.s.now c.look.ensures (c.in_ok-look.was tt) in
+    let l = due-length a.n a.q a.cycle a.channel a.s.now c.look.ensures c.in_ok-look.was in
     omega arith
 
 pub returns-in_err-look : goal.returns-in_err-look
 returns-in_err-look c =
     let a = c.args in
     let p = err_from_is_err_and c.from_residual.result c.from_residual.ensures.1 in
-    rw (p.1, p.2) (refused a.n a.q a.cycle a.channel a.s.now c.look.ensures (c.in_err-look.was tt))
+    rw (p.1, p.2) (refused a.n a.q a.cycle a.channel a.s.now c.look.ensures c.in_err-look.was)
 
 pub returns : goal.returns
-returns c = let a = c.args in due a.n a.q a.cycle a.channel a.s.now c.look.ensures (c.in_ok-look.was tt) c.vote_content.ensures
+returns c = let a = c.args in due a.n a.q a.cycle a.channel a.s.now c.look.ensures c.in_ok-look.was c.vote_content.ensures
