@@ -12,32 +12,30 @@ ghost use Rattle.crc.specs.Crc.{
   channel_start,
 };
 
-// One message bit into a register of k bits.
-fn bit_step(k: u32, poly: u32, r: u32, b: u32) -> u32
-    requires { Register k poly r }
-    ensures value { result ≡ bit_step k poly r b }
-    ensures upper_bound { result < 2 ^ k }
+// One message bit into a register of K bits.
+fn bit_step<const K: u32, const POLYNOMIAL: u32>(r: u32, b: u32) -> u32
+    requires { Register K POLYNOMIAL r }
+    ensures value { result ≡ bit_step K POLYNOMIAL r b }
+    ensures upper_bound { result < 2 ^ K }
 {
-    let moved = r * 2 % (1 << k);
-    if r >> (k - 1) == b {
+    let moved = r * 2 % (1 << K);
+    if r >> (K - 1) == b {
         moved
     } else {
-        moved ^ poly
+        moved ^ POLYNOMIAL
     }
 }
 
 // The lowest n bits of word, highest bit first.
-fn bits_step(k: u32, poly: u32, start: u32, word: u32, n: u32) -> u32
-    requires register { Register k poly start }
+fn bits_step<const K: u32, const POLYNOMIAL: u32>(start: u32, word: u32, n: u32) -> u32
+    requires register { Register K POLYNOMIAL start }
     requires n_bound { n ≤ 32 }
-    ensures value { result ≡ check k poly start (bits_of n word) }
-    ensures upper_bound { result < 2 ^ k }
+    ensures value { result ≡ check K POLYNOMIAL start (bits_of n word) }
+    ensures upper_bound { result < 2 ^ K }
 {
     let mut r = start;
-    let mut left = n;
-    while 0 < left {
-        r = bit_step(k, poly, r, (word >> (left - 1)) % 2);
-        left -= 1;
+    for i in (0..n).rev() {
+        r = bit_step::<K, POLYNOMIAL>(r, (word >> i) % 2);
     }
     r
 }
@@ -53,10 +51,10 @@ pub fn header_check(sync: u32, startup: u32, number: u32, length: u32) -> u32
 {
     // the 20 bits that the check is over, sync highest
     let word = ((sync * 2 + startup) * 2048 + number) * 128 + length;
-    bits_step(11, 0x385, 0x1A, word, 20)
+    bits_step::<11, 0x385>(0x1A, word, 20)
 }
 
-// Where the frame check starts: a frame copied to the other channel fails its check.
+// Where the frame check starts: a frame copied to the other channel fails its check. The channel is a number, as the host passes it through the C interface.
 pub fn channel_start(channel: u32) -> u32
     ensures value { result ≡ channel_start channel }
     ensures upper_bound { result < 2 ^ 24 }
@@ -71,10 +69,8 @@ pub fn frame_check(start: u32, s: &[u8]) -> u32
     ensures upper_bound { result < 2 ^ 24 }
 {
     let mut r = start;
-    let mut i = 0;
-    while i < s.len() {
-        r = bits_step(24, 0x5D6DCB, r, s[i] as u32, 8);
-        i += 1;
+    for b in s {
+        r = bits_step::<24, 0x5D6DCB>(r, u32::from(*b), 8);
     }
     r
 }
