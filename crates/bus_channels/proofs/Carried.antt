@@ -65,6 +65,3 @@ channel_none sent = refl
 pub channel_next : (n : ℕ) (sent : ℕ → Option (List ℕ)) (c r : List ℕ) → c ≡ channel_of n sent → r ≡ with_sent n (sent n) c → r ≡ channel_of (n + 1) sent
 unfolding channel_of
 channel_next n sent c r e f = f ∙ ap (with_sent n (sent n)) e ∙ ap (λ (m : ℕ). channel_of m sent) (sym (add-one n))
-
-pub channel_end : (n k : ℕ) (sent : ℕ → Option (List ℕ)) (c : List ℕ) → c ≡ channel_of n sent → n ≡ k → c ≡ channel_of k sent
-channel_end n k sent c e f = e ∙ ap (λ (m : ℕ). channel_of m sent) f

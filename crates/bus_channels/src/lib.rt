@@ -1,25 +1,26 @@
 // The two channels, and the heartbeats of a cycle run through them: what a unit hears is what it reads there.
 #![tactic(auto)]
 
-ghost use Rattle.std.specs.Prelude.{◌≡◌, true, false, cond, ℕ, ◌<◌, ◌≤◌, length, get_or};
+ghost use Rattle.std.specs.Prelude.{◌≡◌, true, false, cond, List, ℕ, ◌<◌, ◌≤◌, length, get_or};
+ghost use Rattle.std.proofs.Math.Option.{Option};
 ghost use Rattle.sets.specs.Sets.{has, ◌∩◌, ◌∖◌};
 ghost use Rattle.frames.specs.Written.{wrong_request, heartbeat_frame, run_drive};
 ghost use Rattle.bus_units.specs.Units.{is_alive, is_join, is_request};
 ghost use Rattle.bus_units.specs.Run.{frames_length};
 ghost use Rattle.parts.specs.Parts.{with_part};
 ghost use Rattle.cluster_states.specs.Decided.{view_at, voting_of};
-ghost use Rattle.bus_channels.specs.Channels.{with_frame, with_sent, channel_of, heartbeat_put, heartbeat_read, heard_read, view_read, voting_read};
+ghost use Rattle.bus_channels.specs.Channels.{with_sent, channel_of, copy_of, heartbeat_put, heartbeat_read, heard_read, view_read, voting_read};
 
 use cluster_states::Roles;
 use frames::HeartbeatReceived;
-use rules::Config;
+use rules::{Config, Heard};
 
-// The heartbeats that a unit received: those with join 0, those with join 1, and those of members that request.
+// What stands on both channels in one half of the cycle with this count: a slot of 36 bytes for each node.
 #[derive(Clone, Copy)]
-struct Heard {
-    alive: u64,
-    joining: u64,
-    requests: u64,
+pub struct Channels<'a> {
+    pub a: &'a [u8; 2304],
+    pub b: &'a [u8; 2304],
+    pub count: u32,
 }
 
 // What the heartbeats of a cycle give: the view of each node, and the members that vote.
@@ -29,33 +30,36 @@ pub struct Seen {
     pub voting: u64,
 }
 
-// A channel with the frame x in the slot of node q.
-pub fn put(channel: [u8; 2304], q: usize, x: &[u8]) -> [u8; 2304]
-    requires { (q < 64) × (length x.now ≤ 36) }
-    ensures { result ≡ with_frame q x.now channel }
+// A channel on which the first n nodes have sent, each by its `put`.
+pub fn filled<F: Fn(&mut [u8; 2304], usize)>(n: usize, put: F) -> [u8; 2304]
+    requires { (c : _) (q : ℕ) → q < n → F.pre put c q }
+    ensures { (sent : ℕ → Option (List ℕ)) → ((c : _) (q : ℕ) (d : _) → q < n → F.post put c q tt d → d.now ≡ with_sent q (sent q) c.now) → result ≡ channel_of n sent }
 {
-    let mut r = channel;
-    parts::put(&mut r, 36 * q, x);
-    r
+    let mut all = [0; 2304];
+    for q in 0..n {
+        put(&mut all, q);
+    }
+    all
+}
+
+// The copy that a unit finds of a frame of k bytes of node p: whole, or empty where the frame does not reach it.
+pub fn copy_of(channel: &[u8; 2304], k: usize, reach: u64, p: usize) -> &[u8]
+    requires { (k ≤ 36) × (p < 64) }
+    ensures { result.now ≡ copy_of k reach p channel.now }
+{
+    let len = if sets::contains(reach, p) { k } else { 0 };
+    &channel[36 * p..36 * p + len]
 }
 
 // A heartbeat of a run: sync and startup 0, and no drive bytes.
-fn run_heartbeat(q: u32, join: u32, request: u32, count: u32, channel: u32) -> [u8; 10]
+fn run_heartbeat(q: usize, join: u32, request: u32, count: u32, channel: u32) -> [u8; 10]
     requires { (q < 64) × ((join < 2) × ((request < 2) × (count < 64))) }
     ensures { result ≡ heartbeat_frame q join request 0 0 count channel run_drive }
 {
     let none = [0u8; 0];
     let mut f = [0u8; 10];
-    frame_writing::write_heartbeat(q, join, request, 0, 0, count, channel, &none, &mut f);
+    frame_writing::write_heartbeat(q as u32, join, request, 0, 0, count, channel, &none, &mut f);
     f
-}
-
-// The bit of a member's heartbeat that says whether it requests.
-fn request_bit(requests: bool) -> u32
-    ensures value { result ≡ cond requests 1 0 }
-    ensures upper_bound { result < 2 }
-{
-    if requests { 1 } else { 0 }
 }
 
 // Rule 2: the heartbeat of node q, if it sends one.
@@ -64,16 +68,10 @@ fn put_heartbeat(all: &mut [u8; 2304], w: Roles, count: u32, channel: u32, q: us
     ensures { all.new ≡ with_sent q (heartbeat_put w count channel q) all.old }
 {
     if sets::contains(w.members, q) {
-        let request = request_bit(sets::contains(w.asking, q));
-        let next = put(
-            *all,
-            q,
-            &run_heartbeat(q as u32, 0, request, count, channel),
-        );
-        *all = next;
+        let request = u32::from(sets::contains(w.asking, q));
+        parts::put(all, 36 * q, &run_heartbeat(q, 0, request, count, channel));
     } else if sets::contains(w.joining, q) {
-        let next = put(*all, q, &run_heartbeat(q as u32, 1, 0, count, channel));
-        *all = next;
+        parts::put(all, 36 * q, &run_heartbeat(q, 1, 0, count, channel));
     }
 }
 
@@ -81,134 +79,73 @@ fn heartbeats(n: usize, w: Roles, count: u32, channel: u32) -> [u8; 2304]
     requires { (n ≤ 64) × (count < 64) }
     ensures { result ≡ channel_of n (heartbeat_put w count channel) }
 {
-    let mut all = [0u8; 2304];
-    let mut q: usize = 0;
-    while q < n {
-        put_heartbeat(&mut all, w, count, channel, q);
-        q += 1;
-    }
-    all
-}
-
-// How many bytes of a frame a unit finds: all, or none where the frame does not reach it.
-pub fn copy_length(reaches: bool, k: usize) -> usize
-    ensures value { result ≡ cond reaches k 0 }
-    ensures upper_bound { result ≤ k }
-{
-    if reaches { k } else { 0 }
+    filled(n, |all, q| put_heartbeat(all, w, count, channel, q))
 }
 
 // What a unit receives of the heartbeat of node p.
-fn read_heartbeat(
-    quiet: bool,
-    count: u32,
-    reach: u64,
-    a: &[u8],
-    b: &[u8],
-    p: usize,
-) -> HeartbeatReceived
-    requires p_bound { p < 64 }
-    requires a_len { (length a.now ≡ 2304) × (length b.now ≡ 2304) }
-    ensures { result ≡ heartbeat_read quiet count reach a.now b.now p }
+fn read_heartbeat(quiet: bool, bus: Channels, reach: u64, p: usize) -> HeartbeatReceived
+    requires { p < 64 }
+    ensures { result ≡ heartbeat_read quiet bus.entry.count reach bus.entry.a.now bus.entry.b.now p }
 {
-    let at = 36 * p;
-    let end = at + copy_length(sets::contains(reach, p), 10);
     let counted = frame_reading::receive_heartbeat(
         quiet,
         p as u32,
-        count,
-        &a[at..end],
-        &b[at..end],
+        bus.count,
+        copy_of(bus.a, 10, reach, p),
+        copy_of(bus.b, 10, reach, p),
     );
     counted.heard
 }
 
-fn is_alive(r: HeartbeatReceived) -> bool
-    ensures { result ≡ is_alive r }
-{
-    match r {
-        HeartbeatReceived::Missed => false,
-        HeartbeatReceived::Alive => true,
-        HeartbeatReceived::Join => false,
-        HeartbeatReceived::Request => true,
-    }
-}
-
-fn is_join(r: HeartbeatReceived) -> bool
-    ensures { result ≡ is_join r }
-{
-    match r {
-        HeartbeatReceived::Missed => false,
-        HeartbeatReceived::Alive => false,
-        HeartbeatReceived::Join => true,
-        HeartbeatReceived::Request => false,
-    }
-}
-
-fn is_request(r: HeartbeatReceived) -> bool
-    ensures { result ≡ is_request r }
-{
-    match r {
-        HeartbeatReceived::Missed => false,
-        HeartbeatReceived::Alive => false,
-        HeartbeatReceived::Join => false,
-        HeartbeatReceived::Request => true,
-    }
-}
-
 // What a unit hears of all nodes.
-fn hear(config: Config, count: u32, reach: u64, a: &[u8], b: &[u8]) -> Heard
-    requires nodes_bound { config.nodes ≤ 64 }
-    requires a_len { (length a.now ≡ 2304) × (length b.now ≡ 2304) }
-    ensures alive_value { result.alive ≡ heard_read config count reach a.now b.now is_alive }
-    ensures joining_value { result.joining ≡ heard_read config count reach a.now b.now is_join }
-    ensures requests_value { result.requests ≡ heard_read config count reach a.now b.now is_request }
+fn hear(config: Config, bus: Channels, reach: u64) -> Heard
+    requires { config.nodes ≤ 64 }
+    ensures members_value { result.members ≡ heard_read config bus.entry.count reach bus.entry.a.now bus.entry.b.now is_alive }
+    ensures joining_value { result.joining ≡ heard_read config bus.entry.count reach bus.entry.a.now bus.entry.b.now is_join }
+    ensures requests_value { result.requests ≡ heard_read config bus.entry.count reach bus.entry.a.now bus.entry.b.now is_request }
 {
-    let mut alive: u64 = 0;
-    let mut joining: u64 = 0;
-    let mut requests: u64 = 0;
-    let mut p: usize = 0;
-    while p < config.nodes {
-        let r = read_heartbeat(config.quiet, count, reach, a, b, p);
-        alive = sets::include(alive, p, is_alive(r));
-        joining = sets::include(joining, p, is_join(r));
-        requests = sets::include(requests, p, is_request(r));
-        p += 1;
+    let mut heard = Heard {
+        members: 0,
+        joining: 0,
+        requests: 0,
+    };
+    for p in 0..config.nodes {
+        let node = sets::single(p);
+        match read_heartbeat(config.quiet, bus, reach, p) {
+            HeartbeatReceived::Missed => {}
+            HeartbeatReceived::Alive => heard.members = sets::union(node, heard.members),
+            HeartbeatReceived::Join => heard.joining = sets::union(node, heard.joining),
+            HeartbeatReceived::Request => {
+                heard.members = sets::union(node, heard.members);
+                heard.requests = sets::union(node, heard.requests);
+            }
+        }
     }
-    Heard {
-        alive,
-        joining,
-        requests,
-    }
+    heard
 }
 
 // Rule 3 of all nodes, and who votes. Views of nodes that are no members are made too, and not used.
 fn views_of(
     config: Config,
-    count: u32,
+    bus: Channels,
     w: Roles,
     sent: u64,
     missed: &[u64; 64],
     sets: &[u64; 64],
-    a: &[u8],
-    b: &[u8],
 ) -> Seen
-    requires nodes_bound { config.nodes ≤ 64 }
-    requires a_len { (length a.now ≡ 2304) × (length b.now ≡ 2304) }
-    ensures by_index { (q : ℕ) → q < config.nodes → get_or result.views q 0 ≡ view_read config count (sent ∖ get_or missed.now q 0) a.now b.now (get_or sets.now q 0) q }
-    ensures voting_value { result.voting ≡ voting_read config count w sent missed.now sets.now a.now b.now }
+    requires { config.nodes ≤ 64 }
+    ensures by_index { (q : ℕ) → q < config.nodes → get_or result.views q 0 ≡ view_read config bus.entry.count (sent ∖ get_or missed.now q 0) bus.entry.a.now bus.entry.b.now (get_or sets.now q 0) q }
+    ensures voting_value { result.voting ≡ voting_read config bus.entry.count w sent missed.now sets.now bus.entry.a.now bus.entry.b.now }
 {
-    let mut views = [0u64; 64];
-    let mut voting: u64 = 0;
-    let mut q: usize = 0;
-    while q < config.nodes {
-        let heard = hear(config, count, sets::difference(sent, missed[q]), a, b);
-        let view = rule_steps::view(config.nodes, q, sets[q], heard.alive, heard.joining);
+    let mut views = [0; 64];
+    let mut voting = 0;
+    for q in 0..config.nodes {
+        let heard = hear(config, bus, sets::difference(sent, missed[q]));
+        let view = rule_steps::view(config.nodes, q, sets[q], heard.members, heard.joining);
         let own = sets::contains(w.asking, q);
         let votes = rule_steps::will_vote(config, sets[q], view, own, heard.requests);
         views[q] = view;
         voting = sets::include(voting, q, sets::contains(w.members, q) & votes);
-        q += 1;
     }
     Seen { views, voting }
 }
@@ -236,6 +173,6 @@ pub fn heartbeat_phase(
     parts::put(frames, 0, &a);
     parts::put(frames, 2304, &b);
     let sent = sets::difference(sets::union(w.members, w.joining), lost);
-    let seen = views_of(config, count, w, sent, missed, sets, &a, &b);
-    seen
+    let bus = Channels { a: &a, b: &b, count };
+    views_of(config, bus, w, sent, missed, sets)
 }
