@@ -5,20 +5,12 @@ ghost use Rattle.std.specs.Prelude.{◌≡◌, true, ℕ, ◌≤◌, ◌<◌, le
 ghost use Rattle.state.specs.State.{formed_state};
 ghost use Rattle.table.specs.Table.{cycles_in};
 ghost use Rattle.cluster_states.specs.States.{state_at, row_of};
-ghost use Rattle.bus_units.specs.Run.{cycle_count, frames_length, frames_after};
+ghost use Rattle.bus_units.specs.Run.{frames_length, frames_after};
 ghost use Rattle.run_turns.specs.After.{row_after};
 
 use cluster_states::States;
 use rules::Config;
-
-// The cycle count of cycle k of a run, as its frames have it.
-fn cycle_count(k: u64) -> u32
-    requires { 0 < k }
-    ensures value { result ≡ cycle_count k }
-    ensures upper_bound { result < 64 }
-{
-    ((k - 1) % 64) as u32
-}
+use run_turns::Records;
 
 // A run through frames; the states are copied from cycle to cycle, which costs little beside the frames. `frames` shows those of the last cycle afterwards.
 // Free: what the row after it does not show.
@@ -30,19 +22,11 @@ pub fn run_framed(config: Config, start: States, s: &[u8], frames: &mut [u8]) ->
     ensures frames_after { frames.new ≡ frames_after config 1 (row_of config.nodes start) (cycles_in (length s.now) config.nodes 1 s.now).whole frames.old }
 {
     let mut states = start;
-    let mut cursor: usize = 0;
-    let mut k: u64 = 1;
-    while cursor < s.len() {
-        let rest = &s[cursor..];
-        states = bus_cycle::cycle(
-            config,
-            cycle_count(k),
-            states,
-            table_faults::cycle_faults(rest),
-            frames,
-        );
-        cursor += table_records::cycle_length(rest);
-        k += 1;
+    let mut count = 0;
+    for record in (Records { rest: s }) {
+        let faults = table_faults::cycle_faults(record);
+        states = bus_cycle::cycle(config, count, states, faults, frames);
+        count = (count + 1) % 64;
     }
     states
 }
