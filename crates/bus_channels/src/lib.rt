@@ -3,7 +3,7 @@
 
 ghost use Rattle.std.specs.Prelude.{◌≡◌, true, false, cond, List, ℕ, ◌<◌, ◌≤◌, length, get_or};
 ghost use Rattle.std.proofs.Math.Option.{Option};
-ghost use Rattle.sets.specs.Sets.{has, ◌∩◌, ◌∖◌};
+ghost use Rattle.sets.specs.Sets.{has, single, ◌∪◌, ◌∩◌, ◌∖◌};
 ghost use Rattle.frames.specs.Written.{wrong_request, heartbeat_frame, run_drive};
 ghost use Rattle.bus_units.specs.Units.{is_alive, is_join, is_request};
 ghost use Rattle.bus_units.specs.Run.{frames_length};
@@ -97,6 +97,27 @@ fn read_heartbeat(quiet: bool, bus: Channels, reach: u64, p: usize) -> Heartbeat
     counted.heard
 }
 
+// What a unit has heard, and now of node p too.
+fn heard_with(heard: Heard, p: usize, came: HeartbeatReceived) -> Heard
+    requires { p < 64 }
+    ensures members_value { result.members ≡ cond (is_alive came) (single p ∪ heard.members) heard.members }
+    ensures joining_value { result.joining ≡ cond (is_join came) (single p ∪ heard.joining) heard.joining }
+    ensures requests_value { result.requests ≡ cond (is_request came) (single p ∪ heard.requests) heard.requests }
+{
+    let node = sets::single(p);
+    let mut heard = heard;
+    match came {
+        HeartbeatReceived::Missed => {}
+        HeartbeatReceived::Alive => heard.members = sets::union(node, heard.members),
+        HeartbeatReceived::Join => heard.joining = sets::union(node, heard.joining),
+        HeartbeatReceived::Request => {
+            heard.members = sets::union(node, heard.members);
+            heard.requests = sets::union(node, heard.requests);
+        }
+    }
+    heard
+}
+
 // What a unit hears of all nodes.
 fn hear(config: Config, bus: Channels, reach: u64) -> Heard
     requires { config.nodes ≤ 64 }
@@ -110,16 +131,7 @@ fn hear(config: Config, bus: Channels, reach: u64) -> Heard
         requests: 0,
     };
     for p in 0..config.nodes {
-        let node = sets::single(p);
-        match read_heartbeat(config.quiet, bus, reach, p) {
-            HeartbeatReceived::Missed => {}
-            HeartbeatReceived::Alive => heard.members = sets::union(node, heard.members),
-            HeartbeatReceived::Join => heard.joining = sets::union(node, heard.joining),
-            HeartbeatReceived::Request => {
-                heard.members = sets::union(node, heard.members);
-                heard.requests = sets::union(node, heard.requests);
-            }
-        }
+        heard = heard_with(heard, p, read_heartbeat(config.quiet, bus, reach, p));
     }
     heard
 }
