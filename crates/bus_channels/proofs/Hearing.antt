@@ -7,6 +7,7 @@ use Prim.Native.Nat.{ℕ, ◌*◌, ◌≤◌, ◌<◌}
 use native.Mathlib.Omega.{arith}
 use lib.Dec.{lit<, lit≤, ltb}
 use lib.ListN.{length, take, drop, get_or}
+use Rattle.std.specs.Prelude as std
 use Rattle.sets.specs.Sets.{has, single, ◌∪◌, ◌∩◌, ◌∖◌, those, below}
 use Rattle.sets.proofs.Booleans.{ltb-true, ltb-lt}
 use Rattle.sets.proofs.Membership.{has_union, has_inter, has_diff, set_ext}
@@ -14,11 +15,10 @@ use Rattle.sets.proofs.Nodes.{has-below, has-those, those_in, those_ext}
 use Rattle.rules.specs.declared.Config.{Config}
 use Rattle.rules.specs.OneCycle.{view_of, called, will_vote}
 use Rattle.rules.proofs.States.{none-some, some_inj}
-use Rattle.frames.specs.declared.HeartbeatReceived.{HeartbeatReceived}
-use Rattle.frames.specs.declared.HeartbeatReceived.TheVariants.{Missed, Alive, Join, Request}
-use Rattle.frames.specs.declared.HeartbeatCounted.{HeartbeatCounted}
+use Rattle.frames.specs.declared.Heartbeat.{Heartbeat}
+use Rattle.frames.specs.declared.Heartbeat.TheVariants.{Alive, Join, Request}
 use Rattle.frames.specs.Written.{wrong_request, heartbeat_frame}
-use Rattle.frames.specs.Read.{read_heartbeat, is_good, receive_heartbeat}
+use Rattle.frames.specs.Read.{read_heartbeat, is_good, receive_heartbeat, heard_in}
 use Rattle.frames.proofs.Faults.{no_heartbeat}
 use Rattle.frames.proofs.Lengths.{length_heartbeat}
 use Rattle.frames.proofs.Payloads.{none_wrong}
@@ -43,8 +43,8 @@ unfolding view_of
 view_ext n q M h0 h1 k0 k1 e f = ap₂ (λ (x y : ℕ). single q ∪ (M ∩ x) ∪ (y ∖ M)) (below_ext n h0 k0 e) (below_ext n h1 k1 f)
 
 -- what a node in these masks is heard as
-abbrev heard_as : (m k : Bool) → HeartbeatReceived
-heard_as m k = cond m (cond k Request Alive) Join
+abbrev heard_as : (m k : Bool) → std.Option Heartbeat
+heard_as m k = std.Some (cond m (cond k Request Alive) Join)
 
 module _ (C : Config) (count : ℕ) (w : Roles) (few : C.nodes ≤ 64) (counted : count < 64)
     (sound : (p : ℕ) → has p w.members ≡ true → (p < C.nodes) × (wrong_request C.quiet 0 (cond (has p w.asking) 1 0) ≡ false)) where
@@ -79,7 +79,7 @@ module _ (C : Config) (count : ℕ) (w : Roles) (few : C.nodes ≤ 64) (counted 
 
   -- both copies, by what their node sends and whether it reaches the unit
   both-copies : (reach p : ℕ) → p < n → (has p reach ≡ true → (has p w.members || has p w.joining) ≡ true)
-      → heartbeat_read quiet count reach (beats 0) (beats 1) p ≡ cond (has p reach) (heard_as (has p w.members) (has p w.asking)) Missed
+      → heartbeat_read quiet count reach (beats 0) (beats 1) p ≡ cond (has p reach) (heard_as (has p w.members) (has p w.asking)) std.None
   unfolding heartbeat_read
   both-copies reach p l within = go (has p reach) (has p w.members) (has p w.joining) refl refl refl within
     where
@@ -96,7 +96,7 @@ module _ (C : Config) (count : ℕ) (w : Roles) (few : C.nodes ≤ 64) (counted 
 
       heard-as : (join request : ℕ) → join < 2 → request < 2 → wrong_request quiet join request ≡ false → has p reach ≡ true
           → ((channel : ℕ) → heartbeat_put w count channel p ≡ some (heartbeat_frame p join request 0 0 count channel []))
-          → (receive_heartbeat quiet p count (copy 0) (copy 1)).heard ≡ heard_with join request
+          → heard_in (receive_heartbeat quiet p count (copy 0) (copy 1)) ≡ heard_with join request
       heard-as join request lj lr allowed r e =
           (sent-on-a quiet p join request count [] small lj lr allowed counted none_wrong (copy 0) (copy 1) (sent 0)
           (λ g. sent-payload p join request count [] 0 (copy 0) (sent 0) ∙ sym (sent-payload p join request count [] 1 (copy 1) (sent 1)))
@@ -111,13 +111,13 @@ module _ (C : Config) (count : ℕ) (w : Roles) (few : C.nodes ≤ 64) (counted 
             copy_is channel reach p (heartbeat_frame p join request 0 0 count channel []) l r (e channel) (length_heartbeat p join request 0 0 count channel []),
           )
 
-      member : (k : Bool) → has p w.asking ≡ k → has p w.members ≡ true → has p reach ≡ true → (receive_heartbeat quiet p count (copy 0) (copy 1)).heard ≡ cond k Request Alive
+      member : (k : Bool) → has p w.asking ≡ k → has p w.members ≡ true → has p reach ≡ true → heard_in (receive_heartbeat quiet p count (copy 0) (copy 1)) ≡ std.Some (cond k Request Alive)
       member true ek em er = heard-as 0 1 (lit< tt) (lit< tt) (ap (λ (b : Bool). wrong_request quiet 0 (cond b 1 0)) (sym ek) ∙ (sound p em).1) er (λ channel. rw (em, ek))
       member false ek em er = heard-as 0 0 (lit< tt) (lit< tt) (ap (λ (b : Bool). wrong_request quiet 0 (cond b 1 0)) (sym ek) ∙ (sound p em).1) er (λ channel. rw (em, ek))
 
       go : (r m j : Bool) → has p reach ≡ r → has p w.members ≡ m → has p w.joining ≡ j → (r ≡ true → (m || j) ≡ true)
-          → (receive_heartbeat quiet p count (copy 0) (copy 1)).heard ≡ cond r (heard_as m (has p w.asking)) Missed
-      go false m j er em ej k = ap (λ (z : HeartbeatCounted). z.heard) (neither-good quiet p count (copy 0) (copy 1) (absent 0 er) (absent 1 er)).0
+          → heard_in (receive_heartbeat quiet p count (copy 0) (copy 1)) ≡ cond r (heard_as m (has p w.asking)) std.None
+      go false m j er em ej k = ap heard_in (neither-good quiet p count (copy 0) (copy 1) (absent 0 er) (absent 1 er)).0
       go true true j er em ej k = member (has p w.asking) refl em er
       go true false true er em ej k = heard-as 1 0 (lit< tt) (lit< tt) (unasked quiet 1) er (λ channel. rw (em, ej))
       go true false false er em ej k = absurd (false≢true (k refl))
@@ -133,17 +133,17 @@ module _ (C : Config) (count : ℕ) (w : Roles) (few : C.nodes ≤ 64) (counted 
     reached-is missed x = two (w.members ∪ w.joining) missed x ∙ ap (λ (b : Bool). (b && not (has x lost)) && not (has x missed)) (has_union x w.members w.joining)
 
     -- what is heard of a kind
-    abbrev heard_of : (HeartbeatReceived → Bool) → ℕ → ℕ
+    abbrev heard_of : (std.Option Heartbeat → Bool) → ℕ → ℕ
     heard_of kind missed = heard_read C count (reached missed) (beats 0) (beats 1) kind
 
-    heard : (kind : HeartbeatReceived → Bool) (missed x : ℕ) → x < n
+    heard : (kind : std.Option Heartbeat → Bool) (missed x : ℕ) → x < n
         → has x (heard_of kind missed)
-        ≡ kind (cond (((has x w.members || has x w.joining) && not (has x lost)) && not (has x missed)) (heard_as (has x w.members) (has x w.asking)) Missed)
+        ≡ kind (cond (((has x w.members || has x w.joining) && not (has x lost)) && not (has x missed)) (heard_as (has x w.members) (has x w.asking)) std.None)
     unfolding heard_read
     heard kind missed x l =
         those_in x n (λ p. kind (heartbeat_read quiet count (reached missed) (beats 0) (beats 1) p)) l
         ∙ ap kind (both-copies (reached missed) x l (λ e. sender (has x w.members || has x w.joining) (not (has x lost)) (not (has x missed)) (sym (reached-is missed x) ∙ e))
-        ∙ ap (λ (b : Bool). cond b (heard_as (has x w.members) (has x w.asking)) Missed) (reached-is missed x))
+        ∙ ap (λ (b : Bool). cond b (heard_as (has x w.members) (has x w.asking)) std.None) (reached-is missed x))
       where
         sender : (a b c : Bool) → ((a && b) && c) ≡ true → a ≡ true
         sender true b c e = refl
@@ -153,7 +153,7 @@ module _ (C : Config) (count : ℕ) (w : Roles) (few : C.nodes ≤ 64) (counted 
     alive-is missed x l =
         heard is_alive missed x l ∙ go (has x w.members) (has x w.joining) (has x w.asking) (has x lost) (has x missed) ∙ sym (two w.members missed x)
       where
-        go : (m j k u v : Bool) → is_alive (cond (((m || j) && not u) && not v) (heard_as m k) Missed) ≡ ((m && not u) && not v)
+        go : (m j k u v : Bool) → is_alive (cond (((m || j) && not u) && not v) (heard_as m k) std.None) ≡ ((m && not u) && not v)
         go true j k true v = refl
         go true j k false true = refl
         go true j true false false = refl
@@ -167,7 +167,7 @@ module _ (C : Config) (count : ℕ) (w : Roles) (few : C.nodes ≤ 64) (counted 
     join_is missed x l =
         heard is_join missed x l ∙ go (has x w.members) (has x w.joining) (has x w.asking) (has x lost) (has x missed) (apart x) ∙ sym (two w.joining missed x)
       where
-        go : (m j k u v : Bool) → (j ≡ true → m ≡ false) → is_join (cond (((m || j) && not u) && not v) (heard_as m k) Missed) ≡ ((j && not u) && not v)
+        go : (m j k u v : Bool) → (j ≡ true → m ≡ false) → is_join (cond (((m || j) && not u) && not v) (heard_as m k) std.None) ≡ ((j && not u) && not v)
         go true true k u v h = absurd (true≢false (h refl))
         go true false k true v h = refl
         go true false k false true h = refl
@@ -185,7 +185,7 @@ module _ (C : Config) (count : ℕ) (w : Roles) (few : C.nodes ≤ 64) (counted 
         R : ℕ → Bool
         R p = is_request (heartbeat_read quiet count (reached missed) (beats 0) (beats 1) p)
 
-        go : (m j k u v : Bool) → is_request (cond (((m || j) && not u) && not v) (heard_as m k) Missed) ≡ (((m && k) && not u) && not v)
+        go : (m j k u v : Bool) → is_request (cond (((m || j) && not u) && not v) (heard_as m k) std.None) ≡ (((m && k) && not u) && not v)
         go true j true true v = refl
         go true j true false true = refl
         go true j true false false = refl

@@ -1,6 +1,7 @@
 -- Paper 01, "Run through frames", with request 3: what stands on the two channels in each half of a cycle, and what a unit makes of what it reads there.
 -- Assumes nothing.
-use Rattle.std.specs.Prelude.{Bool, true, false, ◌&&◌, cond, List, ℕ, zero, suc, ◌*◌, ltb, get_or, take, drop, replicate}
+use Rattle.std.specs.Prelude as std
+use Rattle.std.specs.Prelude.{Bool, true, false, None, Some, ◌&&◌, cond, List, ℕ, zero, suc, ◌*◌, ltb, get_or, take, drop, replicate}
 use Rattle.std.proofs.Math.Option.{Option, none, some}
 use Rattle.parts.specs.Parts.{with_part}
 use Rattle.sets.specs.Sets.{has, ◌∖◌, those}
@@ -9,11 +10,9 @@ use Rattle.rules.specs.declared.Config.{Config}
 use Rattle.rules.specs.declared.Vote.{Vote}
 use Rattle.rules.specs.OneCycle.{Ballots, view_of, called, will_vote, member_decides, silent_decides, joiner_decides}
 use Rattle.rules.specs.Ballots.{group_at, vote_at}
-use Rattle.frames.specs.declared.HeartbeatReceived.{HeartbeatReceived}
-use Rattle.frames.specs.declared.VoteReceived.{VoteReceived}
-use Rattle.frames.specs.declared.VoteReceived.TheVariants as votes
+use Rattle.frames.specs.declared.Heartbeat.{Heartbeat}
 use Rattle.frames.specs.Written.{heartbeat_frame, run_drive, vote_frame}
-use Rattle.frames.specs.Read.{read_vote, receive_heartbeat, receive_vote}
+use Rattle.frames.specs.Read.{read_vote, receive_heartbeat, heard_in, receive_vote}
 use Rattle.bus_units.specs.Units.{is_alive, is_join, is_request, received}
 use Rattle.cluster_states.specs.declared.Roles.{Roles}
 use Rattle.cluster_states.specs.Decided.{out_at}
@@ -53,11 +52,11 @@ abbrev pub copy_of : ℕ → ℕ → ℕ → List ℕ → List ℕ
 copy_of k reach p channel = take (cond (has p reach) k 0) (drop (36 * p) channel)
 
 -- "A unit reads both channels."
-unfoldable pub heartbeat_read : Bool → ℕ → ℕ → List ℕ → List ℕ → ℕ → HeartbeatReceived
-heartbeat_read quiet count reach a b p = (receive_heartbeat quiet p count (copy_of 10 reach p a) (copy_of 10 reach p b)).heard
+unfoldable pub heartbeat_read : Bool → ℕ → ℕ → List ℕ → List ℕ → ℕ → std.Option Heartbeat
+heartbeat_read quiet count reach a b p = heard_in (receive_heartbeat quiet p count (copy_of 10 reach p a) (copy_of 10 reach p b))
 
 -- the nodes heard with a heartbeat of the given kind
-unfoldable pub heard_read : Config → ℕ → ℕ → List ℕ → List ℕ → (HeartbeatReceived → Bool) → ℕ
+unfoldable pub heard_read : Config → ℕ → ℕ → List ℕ → List ℕ → (std.Option Heartbeat → Bool) → ℕ
 heard_read C count reach a b kind = those C.nodes (λ p. kind (heartbeat_read C.quiet count reach a b p))
 
 -- rule 3, on what node q reads
@@ -73,17 +72,8 @@ unfoldable pub voting_read : Config → ℕ → Roles → ℕ → List ℕ → L
 voting_read C count w sent missed sets a b =
     those C.nodes (λ q. has q w.members && votes_read C count (sent ∖ get_or missed q 0) a b (get_or sets q 0) (has q w.asking) q)
 
-unfoldable pub vote_read : ℕ → ℕ → ℕ → List ℕ → List ℕ → ℕ → VoteReceived
+unfoldable pub vote_read : ℕ → ℕ → ℕ → List ℕ → List ℕ → ℕ → std.Option Vote
 vote_read n count reach a b p = receive_vote (read_vote n p count 0 (copy_of 36 reach p a)) (read_vote n p count 1 (copy_of 36 reach p b))
-
-abbrev pub is_whole : VoteReceived → Bool
-is_whole votes.Missed = false
-is_whole (votes.Whole v) = true
-
--- zeros where none was received
-abbrev pub vote_in : VoteReceived → Vote
-vote_in votes.Missed = record { group = record { number = 0; set = 0; base = 0 }; view = 0 }
-vote_in (votes.Whole v) = v
 
 unfoldable pub ballots_read : ℕ → ℕ → ℕ → List ℕ → List ℕ → Ballots
 ballots_read n count reach a b p = cond (ltb p n) (received (vote_read n count reach a b p)) none

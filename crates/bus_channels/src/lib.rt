@@ -12,7 +12,7 @@ ghost use Rattle.cluster_states.specs.Decided.{view_at, voting_of};
 ghost use Rattle.bus_channels.specs.Channels.{with_sent, channel_of, copy_of, heartbeat_put, heartbeat_read, heard_read, view_read, voting_read};
 
 use cluster_states::Roles;
-use frames::HeartbeatReceived;
+use frames::Heartbeat;
 use rules::{Config, Heard};
 
 // What stands on both channels in one half of the cycle with this count: a slot of 36 bytes for each node.
@@ -83,7 +83,7 @@ fn heartbeats(n: usize, w: Roles, count: u32, channel: u32) -> [u8; 2304]
 }
 
 // What a unit receives of the heartbeat of node p.
-fn read_heartbeat(quiet: bool, bus: Channels, reach: u64, p: usize) -> HeartbeatReceived
+fn read_heartbeat(quiet: bool, bus: Channels, reach: u64, p: usize) -> Option<Heartbeat>
     requires { p < 64 }
     ensures { result ≡ heartbeat_read quiet bus.entry.count reach bus.entry.a.now bus.entry.b.now p }
 {
@@ -94,11 +94,11 @@ fn read_heartbeat(quiet: bool, bus: Channels, reach: u64, p: usize) -> Heartbeat
         copy_of(bus.a, 10, reach, p),
         copy_of(bus.b, 10, reach, p),
     );
-    counted.heard
+    counted.map(|counted| counted.heartbeat)
 }
 
 // What a unit has heard, and now of node p too.
-fn heard_with(heard: Heard, p: usize, came: HeartbeatReceived) -> Heard
+fn heard_with(heard: Heard, p: usize, came: Option<Heartbeat>) -> Heard
     requires { p < 64 }
     ensures members_value { result.members ≡ cond (is_alive came) (single p ∪ heard.members) heard.members }
     ensures joining_value { result.joining ≡ cond (is_join came) (single p ∪ heard.joining) heard.joining }
@@ -107,10 +107,10 @@ fn heard_with(heard: Heard, p: usize, came: HeartbeatReceived) -> Heard
     let node = sets::single(p);
     let mut heard = heard;
     match came {
-        HeartbeatReceived::Missed => {}
-        HeartbeatReceived::Alive => heard.members = sets::union(node, heard.members),
-        HeartbeatReceived::Join => heard.joining = sets::union(node, heard.joining),
-        HeartbeatReceived::Request => {
+        None => {}
+        Some(Heartbeat::Alive) => heard.members = sets::union(node, heard.members),
+        Some(Heartbeat::Join) => heard.joining = sets::union(node, heard.joining),
+        Some(Heartbeat::Request) => {
             heard.members = sets::union(node, heard.members);
             heard.requests = sets::union(node, heard.requests);
         }
@@ -153,7 +153,7 @@ fn views_of(
     let mut voting = 0;
     for q in 0..config.nodes {
         let heard = hear(config, bus, sets::difference(sent, missed[q]));
-        let view = rule_steps::view(config.nodes, q, sets[q], heard.members, heard.joining);
+        let view = rule_steps::view(config.nodes, q, sets[q], heard);
         let own = sets::contains(w.asking, q);
         let votes = rule_steps::will_vote(config, sets[q], view, own, heard.requests);
         views[q] = view;
