@@ -2,7 +2,7 @@
 use mathlib.Core.Path.{◌≡◌, refl, sym, ap, ◌∙◌, subst}
 use mathlib.Core.Bool.{Bool, true, false}
 use mathlib.Core.List.{List, [], ◌∷◌}
-use Prim.Native.Nat.{ℕ, suc, ◌+◌, ◌≤◌, ◌<◌}
+use Prim.Native.Nat.{ℕ, ◌+◌, ◌≤◌, ◌<◌}
 use native.Mathlib.Omega.{arith}
 use native.Mathlib.Numerals.{add-one}
 use lib.Dec.{eqb}
@@ -17,7 +17,7 @@ use Rattle.rules.specs.Reference.{Cluster, step, after}
 use Rattle.rules.proofs.Rows.{get-tabulate}
 use Rattle.table.specs.Records.{cycle_length, cycle_refusal, faults_at}
 use Rattle.table.specs.Table.{Cycles, with_cycle, cycles_in}
-use Rattle.table.proofs.Laws.{no_cycle, accepted, cycles_end, cycles_refused, cycles_next}
+use Rattle.table.proofs.Laws.{accepted, cycles_end, cycles_refused, cycles_next}
 use Rattle.cluster_states.specs.declared.States.{States}
 use Rattle.cluster_states.specs.States.{state_at, row_of}
 use Rattle.theorem_formed.proofs.Formed.{FormedRow, cycle-formed}
