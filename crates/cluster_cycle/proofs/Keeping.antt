@@ -1,14 +1,14 @@
 -- A member that stays, and those that cast its vote and count the same. Assumes nothing.
-use mathlib.Core.Path.{◌≡◌, refl, sym, ap, ap₂, ◌∙◌}
-use mathlib.Core.Bool.{Bool, true, false, ◌&&◌, cond, false≢true}
+use mathlib.Core.Path.{◌≡◌, refl, sym, ap, ap₂, subst, ◌∙◌}
+use mathlib.Core.Bool.{Bool, true, false, ◌&&◌, cond}
 use mathlib.Core.List.{List}
 use Prim.Native.Nat.{ℕ, ◌<◌}
+use Rattle.std.specs.Prelude.{Option, None, Some, IfSome}
 use lib.Dec.{eqb}
 use lib.ListN.{get_or}
 use Rattle.sets.specs.Sets.{has}
 use Rattle.sets.specs.Quorum.{quorum}
 use Rattle.sets.proofs.Booleans.{eqb-true, and_l, and_r}
-use Rattle.sets.proofs.Membership.{has-none}
 use Rattle.state.specs.declared.Group.{Group}
 use Rattle.state.specs.declared.State.{State}
 use Rattle.state.specs.declared.State.TheVariants.{Member}
@@ -21,15 +21,22 @@ use Rattle.cluster_states.specs.declared.Roles.{Roles}
 use Rattle.cluster_cycle.specs.declared.Followed.{Followed}
 use Rattle.cluster_tallies.specs.Grouped.{Grouped, Within, spread_at, own_tally, member_with}
 use Rattle.cluster_states.specs.Decided.{decided_at, held_by}
-use Rattle.cluster_cycle.specs.Follows.{Worth, kept}
+use Rattle.cluster_cycle.specs.Follows.{follows, followed_by, Worth, kept}
 use Rattle.cluster_tallies.proofs.Tallies.{cast-it, own-wins, goes_on}
 
-module _ (numbers sets bases views : List ℕ) (C : Config) (w : Roles) (voting : ℕ) where
-  -- nobody follows where nothing is kept
-  pub worth-none : (k : Followed) → k.votes ≡ 0 → Worth numbers sets bases views C w voting k
-  worth-none k z q present l inside f =
-      absurd (false≢true (sym (ap (has q) z ∙ has-none q) ∙ and_l (has q k.votes) (eqb (own_tally k.votes k.set present q) k.counted) f))
+-- a member that is followed is the one that is kept
+pub followed-some : (kept : Option Followed) (k : Followed) (present q : ℕ) → Some k ≡ followed_by kept present q → (kept ≡ Some k) × (follows k present q ≡ true)
+followed-some None k present q e = cc
+followed-some (Some m) k present q e = go (follows m present q) refl e
+  where
+    go : (b : Bool) → follows m present q ≡ b → Some k ≡ cond b (Some m) None → (Some m ≡ Some k) × (follows k present q ≡ true)
+    go true h i = let same : k ≡ m = cc in (cc, ap (λ (x : Followed). follows x present q) same ∙ h)
+    go false h i = cc
 
+pub IfSome_at : (o : Option Followed) (k : Followed) (P : Followed → Type 0) → o ≡ Some k → IfSome o P → P k
+IfSome_at o k P e h = subst (λ (x : Option Followed). IfSome x P) e h
+
+module _ (numbers sets bases views : List ℕ) (C : Config) (w : Roles) (voting : ℕ) where
   module _ (lead : ℕ) (same : List ℕ) (grouped : Grouped numbers sets bases views C.nodes voting lead same) where
     member_is : (q present : ℕ) → has q voting ≡ true
         → decided_at numbers sets bases views C w voting present q ≡ member_decides C q (vote_at numbers sets bases views q) (ballots_of numbers sets bases views present)
@@ -80,8 +87,8 @@ module _ (numbers sets bases views : List ℕ) (C : Config) (w : Roles) (voting 
             ∙ ap (λ (z : ℕ). own_tally k.votes z others x) es
 
     -- so what is kept stays worth
-    pub kept-worth : (q present : ℕ) (d : State) (k : Followed) → q < C.nodes → Within present voting → d ≡ decided_at numbers sets bases views C w voting present q
-        → Worth numbers sets bases views C w voting k → Worth numbers sets bases views C w voting (kept q sets lead same voting present d k)
+    pub kept-worth : (q present : ℕ) (d : State) (k : Option Followed) → q < C.nodes → Within present voting → d ≡ decided_at numbers sets bases views C w voting present q
+        → IfSome k (Worth numbers sets bases views C w voting) → IfSome (kept q sets lead same voting present d k) (Worth numbers sets bases views C w voting)
     kept-worth q present d k l inside e worth = go (has q voting) (sends_member d) refl refl
       where
         it : Followed
@@ -94,7 +101,7 @@ module _ (numbers sets bases views : List ℕ) (C : Config) (w : Roles) (voting 
               request = asks d;
             }
 
-        go : (i s : Bool) → has q voting ≡ i → sends_member d ≡ s → Worth numbers sets bases views C w voting (cond (i && s) it k)
+        go : (i s : Bool) → has q voting ≡ i → sends_member d ≡ s → IfSome (cond (i && s) (Some it) k) (Worth numbers sets bases views C w voting)
         go true true i s = keeps q present d it l inside i e s refl refl refl refl refl
         go true false i s = worth
         go false s i t = worth

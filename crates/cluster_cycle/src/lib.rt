@@ -1,36 +1,32 @@
 // One cycle of all nodes of a cluster, on masks and arrays.
 #![tactic(auto)]
 
-ghost use Rattle.std.specs.Prelude.{◌≡◌, false, ℕ, ◌<◌, ◌≤◌, length, get_or};
+ghost use Rattle.std.specs.Prelude.{◌≡◌, false, ℕ, ◌<◌, ◌≤◌, get_or};
 ghost use Rattle.sets.specs.Sets.{has, ◌∖◌};
+ghost use Rattle.rules.specs.Ballots.{one_group};
 ghost use Rattle.rules.specs.Faults.{cycle as the_cycle};
-ghost use Rattle.cluster_tallies.specs.Grouped.{Grouped, Within, Below};
+ghost use Rattle.cluster_tallies.specs.Grouped.{Within, Below};
 ghost use Rattle.cluster_states.specs.States.{states_of, faults_of, state_at, row_of};
 ghost use Rattle.cluster_states.specs.Decided.{view_at, voting_of, decided_at};
-ghost use Rattle.cluster_cycle.specs.Follows.{follows as does_follow, kept, with_member, resting_roles};
+ghost use Rattle.cluster_cycle.specs.Follows.{decides, followed_by, kept, with_member, resting_roles};
 
 use cluster_states::{Roles, States};
-use rules::{Config, Faults, Marks};
+use cluster_tallies::Tallied;
+use rules::{Config, Faults, Groups, Heard, Marks};
 use state::{Group, State};
 
-// Rule 3 of all nodes, of the members and the joining nodes whose heartbeats go out. Views of nodes that are no members are made too, and not used.
-fn views_of(
-    n: usize,
-    sets: &[u64; 64],
-    members: u64,
-    joining: u64,
-    missed: &[u64; 64],
-    views: &mut [u64; 64],
-)
-    requires { (n ≤ 64) × (length views.old ≡ 64) }
-    ensures { (p : ℕ) → p < n → get_or views.new p 0 ≡ view_at n sets.now members joining missed.now p }
+// Rule 3 of all nodes, of the heartbeats that go out. Views of nodes that are no members are made too, and not used.
+fn views_of(n: usize, sets: &[u64; 64], sent: Heard, missed: &[u64; 64], views: &mut [u64; 64])
+    requires { n ≤ 64 }
+    ensures { (p : ℕ) → p < n → get_or views.new p 0 ≡ view_at n sets.now sent.members sent.joining missed.now p }
 {
-    let mut p: usize = 0;
-    while p < n {
-        let heard0 = sets::difference(members, missed[p]);
-        let heard1 = sets::difference(joining, missed[p]);
-        views[p] = rule_steps::view(n, p, sets[p], heard0, heard1);
-        p += 1;
+    for p in 0..n {
+        let heard = Heard {
+            members: sets::difference(sent.members, missed[p]),
+            joining: sets::difference(sent.joining, missed[p]),
+            ..sent
+        };
+        views[p] = rule_steps::view(n, p, sets[p], heard);
     }
 }
 
@@ -51,76 +47,40 @@ fn voting_of(
         return w.members;
     }
     let mut m: u64 = 0;
-    let mut p: usize = 0;
-    while p < config.nodes {
+    for p in 0..config.nodes {
         let heard = sets::difference(requests, missed[p]);
         let own = sets::contains(w.asking, p);
         let called = rule_steps::will_vote(config, sets[p], views[p], own, heard);
         m = sets::include(m, p, sets::contains(w.members, p) & called);
-        p += 1;
     }
     m
 }
 
 // What node q decides that does not vote, on the votes in the slots `present`.
-fn decide_silent(
-    config: Config,
-    q: usize,
-    numbers: &[u32; 64],
-    sets: &[u64; 64],
-    bases: &[u64; 64],
-    views: &[u64; 64],
-    lead: u64,
-    same: &[u64; 64],
-    w: Roles,
-    voting: u64,
-    present: u64,
-) -> State
-    requires nodes_bound { (config.nodes ≤ 64) × (q < config.nodes) × (has q voting ≡ false) }
-    requires grouped { Grouped numbers.now sets.now bases.now views.now config.nodes voting lead same.now }
-    requires within { Within present voting }
-    ensures { result ≡ decided_at numbers.now sets.now bases.now views.now config w voting present q }
+fn decide_silent(votes: &Tallied, w: Roles, q: usize, present: u64) -> State
+    requires silent { (q < votes.now.config.nodes) × (has q votes.now.voting ≡ false) }
+    requires within { Within present votes.now.voting }
+    ensures { result ≡ decides votes.now w present q }
 {
     if sets::contains(w.members, q) {
-        cluster_tallies::silent_decides(
-            config, q, numbers, sets, bases, views, lead, same, voting, present,
-        )
+        votes.silent_decides(q, present)
     } else if sets::contains(w.joining, q) {
-        cluster_tallies::joiner_decides(
-            config, q, numbers, sets, bases, views, lead, same, voting, present,
-        )
+        votes.joiner_decides(q, present)
     } else {
-        cluster_states::out_at(w, q)
+        w.out_at(q)
     }
 }
 
 // What node q decides on the votes in the slots `present`.
-fn decide(
-    config: Config,
-    q: usize,
-    numbers: &[u32; 64],
-    sets: &[u64; 64],
-    bases: &[u64; 64],
-    views: &[u64; 64],
-    lead: u64,
-    same: &[u64; 64],
-    w: Roles,
-    voting: u64,
-    present: u64,
-) -> State
-    requires nodes_bound { (config.nodes ≤ 64) × (q < config.nodes) }
-    requires grouped { Grouped numbers.now sets.now bases.now views.now config.nodes voting lead same.now }
-    requires within { Within present voting }
-    ensures { result ≡ decided_at numbers.now sets.now bases.now views.now config w voting present q }
+fn decide(votes: &Tallied, w: Roles, q: usize, present: u64) -> State
+    requires is_node { q < votes.now.config.nodes }
+    requires within { Within present votes.now.voting }
+    ensures { result ≡ decides votes.now w present q }
 {
-    if sets::contains(voting, q) {
-        cluster_tallies::member_decides(
-            config, q, numbers, sets, bases, views, lead, same, voting, present,
-        )
+    if sets::contains(votes.voting, q) {
+        votes.member_decides(q, present)
     } else {
-        decide_silent(
-            config, q, numbers, sets, bases, views, lead, same, w, voting, present,
-        )
+        decide_silent(votes, w, q, present)
     }
 }
 
@@ -132,9 +92,7 @@ fn with_member(w: Roles, q: usize, request: bool) -> Roles
     Roles {
         members: sets::union(sets::single(q), w.members),
         asking: sets::include(w.asking, q, request),
-        joining: w.joining,
-        no_quorum: w.no_quorum,
-        outvoted: w.outvoted,
+        ..w
     }
 }
 
@@ -149,108 +107,62 @@ struct Followed {
     request: bool,
 }
 
-fn nobody() -> Followed
-    ensures { result.votes ≡ 0 }
-{
-    Followed {
-        votes: 0,
-        set: 0,
-        counted: 0,
-        group: Group {
-            number: 0,
-            set: 0,
-            base: 0,
-        },
-        request: false,
-    }
-}
-
-// Whether q cast that member's vote and counts the same votes.
-fn follows(k: Followed, present: u64, q: usize) -> bool
+// The member that q follows: the one that is kept, if q cast its vote and counts the same votes.
+fn followed_by(kept: Option<Followed>, present: u64, q: usize) -> Option<Followed>
     requires { q < 64 }
-    ensures { result ≡ does_follow k present q }
+    ensures { result ≡ followed_by kept present q }
 {
-    if sets::contains(k.votes, q) {
-        cluster_tallies::own_tally(k.votes, k.set, present, q) == k.counted
+    let k = kept?;
+    if sets::contains(k.votes, q)
+        && cluster_tallies::own_tally(k.votes, k.set, present, q) == k.counted
+    {
+        Some(k)
     } else {
-        false
+        None
     }
 }
 
 // What is kept once node q has decided d on the votes in the slots `present`: the last member that stays on its vote.
-fn keep(
-    q: usize,
-    sets: &[u64; 64],
-    lead: u64,
-    same: &[u64; 64],
-    voting: u64,
-    present: u64,
-    d: State,
-    k: Followed,
-) -> Followed
+fn keep(votes: &Tallied, q: usize, present: u64, d: State, k: Option<Followed>) -> Option<Followed>
     requires { q < 64 }
-    ensures { result ≡ kept q sets.now lead same.now voting present d k }
+    ensures { result ≡ kept q votes.now.groups.now.sets votes.now.lead votes.now.same votes.now.voting present d k }
 {
-    let votes = cluster_tallies::votes_like(lead, same, q);
-    let set = sets[q];
-    if !sets::contains(voting, q) {
+    let alike = votes.votes_like(q);
+    let set = votes.groups.sets[q];
+    if !sets::contains(votes.voting, q) {
         return k;
     }
-    if !rule_steps::sends_member(d) {
-        return k;
-    }
-    Followed {
-        votes,
-        set,
-        counted: cluster_tallies::own_tally(votes, set, present, q),
-        group: cluster_states::held_by(d),
-        request: rule_steps::asks(d),
+    match d {
+        State::Member(group, request) => Some(Followed {
+            votes: alike,
+            set,
+            counted: cluster_tallies::own_tally(alike, set, present, q),
+            group,
+            request,
+        }),
+        State::Out(_) | State::Joining => k,
     }
 }
 
-// Rules 5 and 6 of all nodes, on the votes that go out: the masks, and into the new arrays the groups.
-fn decisions(
-    config: Config,
-    numbers: &[u32; 64],
-    sets: &[u64; 64],
-    bases: &[u64; 64],
-    views: &[u64; 64],
-    lead: u64,
-    same: &[u64; 64],
-    w: Roles,
-    voting: u64,
-    sent: u64,
-    missed: &[u64; 64],
-    new_numbers: &mut [u32; 64],
-    new_sets: &mut [u64; 64],
-    new_bases: &mut [u64; 64],
-) -> Roles
-    requires nodes_bound { (config.nodes ≤ 64) × (length new_numbers.old ≡ 64) × (length new_sets.old ≡ 64) × (length new_bases.old ≡ 64) }
-    requires grouped { Grouped numbers.now sets.now bases.now views.now config.nodes voting lead same.now }
-    requires within { Within sent voting }
-    ensures { (q : ℕ) → q < config.nodes → state_at (states_of result new_numbers.new new_sets.new new_bases.new) q ≡ decided_at numbers.now sets.now bases.now views.now config w voting (sent ∖ get_or missed.now q 0) q }
+// Rules 5 and 6 of all nodes, on the votes that go out: the masks, and into `after`, zeros before, the groups.
+fn decisions(votes: &Tallied, w: Roles, sent: u64, missed: &[u64; 64], after: &mut Groups) -> Roles
+    requires zeros { after.old ≡ one_group (record { number = 0; set = 0; base = 0 }) }
+    requires within { Within sent votes.now.voting }
+    ensures { (q : ℕ) → q < votes.now.config.nodes → state_at (states_of result after.new.numbers after.new.sets after.new.bases) q ≡ decides votes.now w (sent ∖ get_or missed.now q 0) q }
 {
-    let n = config.nodes;
-    let mut next = cluster_states::no_roles();
-    let mut k = nobody();
-    let mut q: usize = 0;
-    while q < n {
+    let mut next = Roles::default();
+    let mut kept = None;
+    for q in 0..votes.config.nodes {
         let came = sets::difference(sent, missed[q]);
-        let mut g = k.group;
-        if follows(k, came, q) {
+        if let Some(k) = followed_by(kept, came, q) {
             next = with_member(next, q, k.request);
+            after.put(q, k.group);
         } else {
-            let d = decide(
-                config, q, numbers, sets, bases, views, lead, same, w, voting, came,
-            );
-            k = keep(q, sets, lead, same, voting, came, d, k);
-            g = cluster_states::held_by(d);
-            next = cluster_states::with_state(next, q, d);
+            let d = decide(votes, w, q, came);
+            kept = keep(votes, q, came, d, kept);
+            next = next.with_state(q, d);
+            after.put(q, state_encoding::group_held(d));
         }
-        new_numbers[q] = g.number;
-        new_sets[q] = g.set;
-        new_bases[q] = g.base;
-        q += 1;
     }
     next
 }
@@ -259,112 +171,67 @@ fn decisions(
 fn resting(w: Roles) -> Roles
     ensures { result ≡ resting_roles w }
 {
-    Roles {
-        members: w.members,
-        asking: 0,
-        joining: w.joining,
-        no_quorum: w.no_quorum,
-        outvoted: w.outvoted,
-    }
+    Roles { asking: 0, ..w }
 }
 
 // Rules 5 and 6 of all nodes, in place, where the members `voting` vote and the votes `sent` go out.
-fn decide_all<'a>(
+fn decide_all(
     config: Config,
-    numbers: &mut [u32; 64],
-    sets: &mut [u64; 64],
-    bases: &mut [u64; 64],
-    views: &'a [u64; 64],
+    groups: &mut Groups,
+    views: &[u64; 64],
     w: Roles,
     voting: u64,
     sent: u64,
-    missed: &'a [u64; 64],
+    missed: &[u64; 64],
 ) -> Roles
     requires nodes_bound { config.nodes ≤ 64 }
     requires below { Below config.nodes voting }
     requires within { Within sent voting }
-    ensures { (q : ℕ) → q < config.nodes → state_at (states_of result numbers.new sets.new bases.new) q ≡ decided_at numbers.old sets.old bases.old views.now config w voting (sent ∖ get_or missed.now q 0) q }
+    ensures { (q : ℕ) → q < config.nodes → state_at (states_of result groups.new.numbers groups.new.sets groups.new.bases) q ≡ decided_at groups.old.numbers groups.old.sets groups.old.bases views.now config w voting (sent ∖ get_or missed.now q 0) q }
 {
-    let mut same = [0u64; 64];
-    let lead = cluster_tallies::groups_of(
-        config.nodes,
-        numbers,
-        sets,
-        bases,
-        views,
-        voting,
-        &mut same,
-    );
-    let mut new_numbers = [0u32; 64];
-    let mut new_sets = [0u64; 64];
-    let mut new_bases = [0u64; 64];
-    let after = decisions(
-        config,
-        numbers,
-        sets,
-        bases,
-        views,
-        lead,
-        &same,
-        w,
-        voting,
-        sent,
-        missed,
-        &mut new_numbers,
-        &mut new_sets,
-        &mut new_bases,
-    );
-    *numbers = new_numbers;
-    *sets = new_sets;
-    *bases = new_bases;
-    after
+    let votes = Tallied::new(config, groups, views, voting);
+    let mut new_groups = Groups::zeros();
+    let roles_after = decisions(&votes, w, sent, missed, &mut new_groups);
+    *groups = new_groups;
+    roles_after
 }
 
-// One cycle of nodes with the roles w: the roles after it, and in place their groups. What node q misses is in the elements q of `unheard` and `missed`.
-// Free: what the row after it does not show.
-pub fn advance<'a>(
+// One cycle in place. What node q misses is in the elements q of `unheard` and `missed`. Free: what the row after it does not show.
+pub fn advance(
     config: Config,
-    w: Roles,
-    numbers: &mut [u32; 64],
-    sets: &mut [u64; 64],
-    bases: &mut [u64; 64],
+    states: &mut States,
     m: Marks,
-    unheard: &'a [u64; 64],
-    missed: &'a [u64; 64],
-) -> Roles
+    unheard: &[u64; 64],
+    missed: &[u64; 64],
+)
     requires { config.nodes ≤ 64 }
-    ensures { row_of config.nodes (states_of result numbers.new sets.new bases.new) ≡ the_cycle config (faults_of m unheard.now missed.now) (row_of config.nodes (states_of w numbers.old sets.old bases.old)) }
+    ensures { row_of config.nodes states.new ≡ the_cycle config (faults_of m unheard.now missed.now) (row_of config.nodes states.old) }
 {
     let n = config.nodes;
-    let v = cluster_states::rule_one(n, w, m.stop, m.start);
-    let mut views = [0u64; 64];
-    views_of(
-        n,
-        sets,
-        sets::difference(v.members, m.heartbeat_lost),
-        sets::difference(v.joining, m.heartbeat_lost),
+    let w = states.roles.rule_one(n, m.stop, m.start);
+    let sent = Heard {
+        members: sets::difference(w.members, m.heartbeat_lost),
+        joining: sets::difference(w.joining, m.heartbeat_lost),
+        requests: sets::difference(sets::intersection(w.members, w.asking), m.heartbeat_lost),
+    };
+    let mut views = [0; 64];
+    views_of(n, &states.groups.sets, sent, unheard, &mut views);
+    let voting = voting_of(
+        config,
+        &states.groups.sets,
+        &views,
+        w,
+        sent.requests,
         unheard,
-        &mut views,
     );
-    let asking = sets::intersection(v.members, v.asking);
-    let requests = sets::difference(asking, m.heartbeat_lost);
-    let voting = voting_of(config, sets, &views, v, requests, unheard);
     if voting == 0 {
         // whoever is silent sees its set
-        *bases = views;
-        return resting(v);
+        states.groups.bases = views;
+        states.roles = resting(w);
+        return;
     }
-    decide_all(
-        config,
-        numbers,
-        sets,
-        bases,
-        &views,
-        v,
-        voting,
-        sets::difference(voting, m.vote_lost),
-        missed,
-    )
+    let out = sets::difference(voting, m.vote_lost);
+    states.roles = decide_all(config, &mut states.groups, &views, w, voting, out, missed);
 }
 
 // The same of states and faults by value, with as much left free.
@@ -372,38 +239,19 @@ pub fn cycle(config: Config, s: States, f: Faults) -> States
     requires { config.nodes ≤ 64 }
     ensures { row_of config.nodes result ≡ the_cycle config f (row_of config.nodes s) }
 {
-    let mut numbers = s.numbers;
-    let mut sets = s.sets;
-    let mut bases = s.bases;
-    let w = advance(
+    let mut after = s;
+    let marks = Marks {
+        stop: f.stop,
+        start: f.start,
+        heartbeat_lost: f.heartbeat_lost,
+        vote_lost: f.vote_lost,
+    };
+    advance(
         config,
-        Roles {
-            members: s.members,
-            asking: s.asking,
-            joining: s.joining,
-            no_quorum: s.no_quorum,
-            outvoted: s.outvoted,
-        },
-        &mut numbers,
-        &mut sets,
-        &mut bases,
-        Marks {
-            stop: f.stop,
-            start: f.start,
-            heartbeat_lost: f.heartbeat_lost,
-            vote_lost: f.vote_lost,
-        },
+        &mut after,
+        marks,
         &f.heartbeat_missed,
         &f.vote_missed,
     );
-    States {
-        members: w.members,
-        asking: w.asking,
-        joining: w.joining,
-        no_quorum: w.no_quorum,
-        outvoted: w.outvoted,
-        numbers,
-        sets,
-        bases,
-    }
+    after
 }

@@ -32,6 +32,11 @@ pub record Holds (D : ℕ → State) (q : ℕ) (w : Roles) (numbers sets bases :
   pub set : (j : ℕ) → j < q → get_or sets j 0 ≡ (held_by (D j)).set
   pub base : (j : ℕ) → j < q → get_or bases j 0 ≡ (held_by (D j)).base
 
+-- what the roles by default are
+pub none-by_parts : (w : Roles) → (w.members ≡ 0) × ((w.asking ≡ 0) × ((w.joining ≡ 0) × ((w.no_quorum ≡ 0) × (w.outvoted ≡ 0)))) → w ≡ no_roles
+none-by_parts w e =
+    λ i. record { members = e.0 i; asking = e.1.0 i; joining = e.1.1.0 i; no_quorum = e.1.1.1.0 i; outvoted = e.1.1.1.1 i }
+
 pub holds_none : (D : ℕ → State) (w : Roles) (numbers sets bases : List ℕ) → w ≡ no_roles → length numbers ≡ 64 → length sets ≡ 64 → length bases ≡ 64 → Holds D 0 w numbers sets bases
 holds_none D w numbers sets bases z a b c =
     record {

@@ -10,6 +10,7 @@ use state::State;
 
 // The votes of a cycle: those of the members `voting`, who hold `groups` and have `views`, grouped by their value. `lead` is the largest group of members with
 // equal votes; `same` has for each other member that votes those with an equal vote.
+#[derive(Drop)]
 pub struct Tallied<'a> {
     pub config: Config,
     pub groups: &'a Groups,

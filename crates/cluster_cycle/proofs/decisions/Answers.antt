@@ -1,101 +1,58 @@
-use mathlib.Core.Path.{◌≡◌, sym, ap, subst, ◌∙◌}
-use Prim.Native.Nat.{ℕ, ◌<◌}
+use mathlib.Core.Path.{refl, sym, ap, subst, ◌∙◌}
+use Prim.Native.Nat.{ℕ, ◌<◌, ◌+◌}
 use native.Mathlib.Omega.{arith}
-use lib.ListN.{get_or}
+use lib.ListN.{get_or, length, length-replicate}
+use Rattle.std.specs.Prelude.{Option, IfSome}
 use Rattle.sets.specs.Sets.{◌∖◌}
 use Rattle.state.specs.declared.State.{State}
 use Rattle.state.specs.declared.State.TheVariants.{Member}
+use Rattle.rules.specs.declared.Groups.{Groups}
 use Rattle.cluster_tallies.specs.Grouped.{Within}
-use Rattle.cluster_states.specs.Decided.{decided_at}
-use Rattle.cluster_cycle.specs.Follows.{Worth}
+use Rattle.cluster_cycle.specs.declared.Followed.{Followed}
+use Rattle.cluster_cycle.specs.Follows.{Worth, decides}
 use Rattle.cluster_tallies.proofs.Tallies.{inside_less}
-use Rattle.cluster_cycle.proofs.Keeping.{worth-none, kept-worth}
-use Rattle.cluster_states.proofs.Deciding.{holds_none, holds_next, holds_state}
+use Rattle.cluster_cycle.proofs.Keeping.{kept-worth, followed-some, IfSome_at}
+use Rattle.cluster_states.proofs.Deciding.{Holds, none-by_parts, holds_none, holds_next, holds_state}
 use Rattle.cluster_cycle.proofs.decisions.Goals as goal
-use Rattle.cluster_cycle.proofs.decisions.Goals.{then-follows, else-follows}
+use Rattle.cluster_cycle.proofs.decisions.Goals.{in-Some, in_default}
 
 pub loop-q-init : goal.loop-q-init
 loop-q-init c =
-    let a = c.args in
-    ((holds_none _ _ _ _ _ c.no_roles-next.ensures c.requires.nodes_bound.1 c.requires.nodes_bound.2 c.requires.nodes_bound.3, worth-none a.numbers.now a.sets.now a.bases.now a.views.now a.config a.w a.voting c.nobody-k.result c.nobody-k.ensures), omega arith)
+    let zeros = c.requires.zeros in (
+      holds_none _ _ _ _ _ (none-by_parts _ c.default-next.ensures) (ap (λ (g : Groups). length g.numbers) zeros ∙ length-replicate {A = ℕ} 64 0) (ap (λ (g : Groups). length g.sets) zeros ∙ length-replicate {A = ℕ} 64 0) (ap (λ (g : Groups). length g.bases) zeros ∙ length-replicate {A = ℕ} 64 0),
+      tt,
+    )
 
-pub offset_bounds-missed-q : goal.offset_bounds-missed-q
-offset_bounds-missed-q c = omega arith
-
-pub bounds-missed-q : goal.bounds-missed-q
-bounds-missed-q c = omega arith
-
-pub follows-requires : goal.follows-requires
-follows-requires c = omega arith
-
-pub with_member-next-requires : goal.with_member-next-requires
-with_member-next-requires c = omega arith
-
-pub decide-d-requires : goal.decide-d-requires
-decide-d-requires c =
-    let inside : Within c.difference-came.result c.args.voting = inside_less c.args.sent _ _ c.args.voting c.requires.within c.difference-came.ensures in
-    record { nodes_bound = omega arith; grouped = c.requires.grouped; within = inside }
-
-pub keep-k-requires : goal.keep-k-requires
-keep-k-requires c = omega (arith, c.requires.nodes_bound.0)
-
-pub with_state-next-requires : goal.with_state-next-requires
-with_state-next-requires c = omega (arith, c.requires.nodes_bound.0)
-
-pub offset_bounds-new_numbers-q : goal.offset_bounds-new_numbers-q
-offset_bounds-new_numbers-q c = omega arith
-
-pub bounds-new_numbers-q : goal.bounds-new_numbers-q
-bounds-new_numbers-q c = omega arith
-
-pub offset_bounds-new_sets-q : goal.offset_bounds-new_sets-q
-offset_bounds-new_sets-q c = omega arith
-
-pub bounds-new_sets-q : goal.bounds-new_sets-q
-bounds-new_sets-q c = omega arith
-
-pub offset_bounds-new_bases-q : goal.offset_bounds-new_bases-q
-offset_bounds-new_bases-q c = omega arith
-
-pub bounds-new_bases-q : goal.bounds-new_bases-q
-bounds-new_bases-q c = omega arith
-
-pub overflow_add-q : goal.overflow_add-q
-overflow_add-q c = omega arith
-
-pub loop-q-smaller : goal.loop-q-smaller
-loop-q-smaller c = omega arith
+pub decide-d-requires-clause-within : goal.decide-d-requires-clause-within
+decide-d-requires-clause-within c = inside_less c.args.sent _ _ c.args.votes.now.voting c.requires.within c.difference-came.ensures
 
 pub loop-q-preserved : goal.loop-q-preserved
 loop-q-preserved c =
-    let decided : ℕ → State = λ q. let a = c.args in
-    decided_at a.numbers.now a.sets.now a.bases.now a.views.now a.config a.w a.voting (a.sent ∖ get_or a.missed.now q 0) q in
-    let inside : Within c.difference-came.result c.args.voting = inside_less c.args.sent _ _ c.args.voting c.requires.within c.difference-came.ensures in
-    let a = c.args in
-    let worth = Worth a.numbers.now a.sets.now a.bases.now a.views.now a.config a.w a.voting in
-    let below64 : c.loop-q.q < 64 = omega (arith, c.loop-q-test.true, c.requires.nodes_bound.0) in
-    let arrived = ap (λ (x : ℕ). decided_at a.numbers.now a.sets.now a.bases.now a.views.now a.config a.w a.voting x c.loop-q.q) c.difference-came.ensures in (
-      elim c.if-follows.branch [
-        | then-follows w ↦ (
-          holds_next (decided) c.loop-q.q c.loop-q.next c.if-follows.next _ _ _ (Member c.loop-q.k.group c.loop-q.k.request) c.if-follows.g below64 c.loop-q.invariant.0.0
-              (sym (c.loop-q.invariant.0.1 c.loop-q.q c.difference-came.result c.loop-q-test.true (inside) (sym c.follows.ensures ∙ w.if-follows.true)) ∙ arrived) w.g-is (w.next-is ∙ w.with_member-next.ensures),
-          subst worth (sym w.k-is) c.loop-q.invariant.0.1,
-        )
-        | else-follows w ↦ (
-          holds_next (decided) c.loop-q.q c.loop-q.next c.if-follows.next _ _ _ w.decide-d.result c.if-follows.g below64 c.loop-q.invariant.0.0 (w.decide-d.ensures ∙ arrived) (w.g-is ∙ w.held_by-g.ensures) (w.next-is ∙ w.with_state-next.ensures),
-          subst worth (sym (w.k-is ∙ w.keep-k.ensures))
-              (kept-worth a.numbers.now a.sets.now a.bases.now a.views.now a.config a.w a.voting a.lead a.same.now c.requires.grouped c.loop-q.q c.difference-came.result w.decide-d.result c.loop-q.k c.loop-q-test.true (inside)
-              w.decide-d.ensures c.loop-q.invariant.0.1),
-        )
-      ],
-      omega arith,
-    )
+    let t = c.args.votes.now in
+    let decided : ℕ → State = λ q. decides t c.args.w (c.args.sent ∖ get_or c.args.missed.now q 0) q in
+    let worth : Option Followed → Type 0 = λ k. IfSome k (Worth t.groups.now.numbers t.groups.now.sets t.groups.now.bases t.views.now t.config c.args.w t.voting) in
+    let inside : Within c.difference-came.result t.voting = inside_less c.args.sent _ _ t.voting c.requires.within c.difference-came.ensures in
+    let below64 : c.loop-q.q < 64 = omega (arith, t.bounded) in
+    let arrived = ap (λ (x : ℕ). decides t c.args.w x c.loop-q.q) c.difference-came.ensures in
+    elim c.match-followed_by.branch [
+      | in-Some w ↦
+          let k = w.in-Some.k in
+          let found = followed-some c.loop-q.kept k c.difference-came.result c.loop-q.q w.in-Some.ensures in (
+            subst (λ (g : Groups). Holds decided (c.loop-q.q + 1) c.match-followed_by.next g.numbers g.sets g.bases) (sym (w.after-is ∙ w.put.ensures))
+                (holds_next decided c.loop-q.q c.loop-q.next _ _ _ _ (Member k.group k.request) k.group below64 c.loop-q.invariant.0
+                (sym (IfSome_at c.loop-q.kept k _ found.0 c.loop-q.invariant.1 c.loop-q.q c.difference-came.result c.loop-q-test.true inside found.1) ∙ arrived) refl (w.next-is ∙ w.with_member-next.ensures)),
+            subst worth (sym w.kept-is) c.loop-q.invariant.1,
+          )
+      | in_default w ↦ (
+        subst (λ (g : Groups). Holds decided (c.loop-q.q + 1) c.match-followed_by.next g.numbers g.sets g.bases) (sym (w.after-is ∙ w.put-in_default.ensures))
+            (holds_next decided c.loop-q.q c.loop-q.next _ _ _ _ w.decide-d.result w.group_held.result below64 c.loop-q.invariant.0 (w.decide-d.ensures ∙ arrived) w.group_held.ensures (w.next-is ∙ w.with_state-next.ensures)),
+        subst worth (sym (w.kept-is ∙ w.keep-kept.ensures))
+            (kept-worth _ _ _ _ t.config c.args.w t.voting t.lead t.same t.grouped c.loop-q.q c.difference-came.result w.decide-d.result c.loop-q.kept c.loop-q-test.true inside w.decide-d.ensures c.loop-q.invariant.1),
+      )
+    ]
 
 pub returns : goal.returns
 returns c =
-    let decided : ℕ → State = λ q. let a = c.args in
-    decided_at a.numbers.now a.sets.now a.bases.now a.views.now a.config a.w a.voting (a.sent ∖ get_or a.missed.now q 0) q in
+    let t = c.args.votes.now in
     let l = c.loop-q in
-    let a = c.args in
-    let done : l.q ≡ a.config.nodes = omega arith in
-    holds_state (decided) a.config.nodes l.q l.next l.new_numbers l.new_sets l.new_bases l.invariant.0.0 done
+    holds_state (λ q. decides t c.args.w (c.args.sent ∖ get_or c.args.missed.now q 0) q) t.config.nodes l.q l.next l.after.numbers l.after.sets l.after.bases l.invariant.0 (omega arith)

@@ -17,53 +17,17 @@ returns-then-not-config c =
     all-vote a.config a.sets.now a.views.now a.w a.requests a.missed.now (not-true a.config.quiet c.if-not-config.true) c.requires.below
 
 pub loop-p-init : goal.loop-p-init
-loop-p-init c =
-    let votes_here : ℕ → Bool = λ j. let a = c.args in has j a.w.members && votes_at a.config a.sets.now a.views.now a.w.asking a.requests a.missed.now j in
-    (omega arith, those-none (votes_here))
-
-pub offset_bounds-missed-p : goal.offset_bounds-missed-p
-offset_bounds-missed-p c = omega arith
-
-pub bounds-missed-p : goal.bounds-missed-p
-bounds-missed-p c = omega arith
-
-pub contains-own-requires : goal.contains-own-requires
-contains-own-requires c = omega arith
-
-pub offset_bounds-sets-p : goal.offset_bounds-sets-p
-offset_bounds-sets-p c = omega arith
-
-pub bounds-sets-p : goal.bounds-sets-p
-bounds-sets-p c = omega arith
-
-pub offset_bounds-views-p : goal.offset_bounds-views-p
-offset_bounds-views-p c = omega arith
-
-pub bounds-views-p : goal.bounds-views-p
-bounds-views-p c = omega arith
-
-pub contains-requires : goal.contains-requires
-contains-requires c = omega arith
-
-pub include-m-requires : goal.include-m-requires
-include-m-requires c = omega arith
-
-pub overflow_add-p : goal.overflow_add-p
-overflow_add-p c = omega arith
-
-pub loop-p-smaller : goal.loop-p-smaller
-loop-p-smaller c = omega arith
+loop-p-init c = those-none _
 
 pub loop-p-preserved : goal.loop-p-preserved
 loop-p-preserved c =
-    let votes_here : ℕ → Bool = λ j. let a = c.args in has j a.w.members && votes_at a.config a.sets.now a.views.now a.w.asking a.requests a.missed.now j in
     let a = c.args in
     let p = c.loop-p.p in
     let heard = ap₂ (λ (x : Bool) (y : ℕ). will_vote a.config (get_or a.sets.now p 0) (get_or a.views.now p 0) (called (get_or a.sets.now p 0) x y)) c.contains-own.ensures c.difference-heard.ensures in
-    (omega arith, those-next p (votes_here) c.loop-p.m c.include-m.result _ c.loop-p.invariant.1 (ap₂ (λ (x y : Bool). x && y) c.contains.ensures (c.will_vote-called.ensures ∙ heard)) c.include-m.ensures)
+    those-next p _ c.loop-p.m c.include-m.result _ c.loop-p.invariant (ap₂ (λ (x y : Bool). x && y) c.contains.ensures (c.will_vote-called.ensures ∙ heard)) c.include-m.ensures
 
 pub returns : goal.returns
 unfolding voting_of
 returns c =
     let votes_here : ℕ → Bool = λ j. let a = c.args in has j a.w.members && votes_at a.config a.sets.now a.views.now a.w.asking a.requests a.missed.now j in
-    those_end c.loop-p.p c.args.config.nodes (votes_here) c.loop-p.m c.loop-p.invariant.1 (omega arith)
+    those_end c.loop-p.p c.args.config.nodes (votes_here) c.loop-p.m c.loop-p.invariant (omega arith)
