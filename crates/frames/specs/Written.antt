@@ -1,6 +1,6 @@
 -- Paper 01, "Frames", with requests 2 and 3 of paper 02: heartbeat and vote frames as they are written.
 -- Assumes nothing.
-use Rattle.std.specs.Prelude.{Bool, not, ◌&&◌, ◌||◌, List, [], ◌∷◌, ◌++◌, ℕ, ◌+◌, ◌*◌, ◌/◌, ◌%◌, ◌^◌, eqb, ltb, length}
+use Rattle.std.specs.Prelude.{Bool, cond, not, ◌&&◌, ◌||◌, List, [], ◌∷◌, ◌++◌, ℕ, ◌+◌, ◌*◌, ◌/◌, ◌%◌, ◌^◌, eqb, ltb, length}
 use Rattle.sets.specs.Sets.{has, subset, below}
 use Rattle.bigendian.specs.BigEndian.{bytes_of}
 use Rattle.crc.specs.Crc.{header_check, frame_check, channel_start}
@@ -15,6 +15,10 @@ header sync startup number words cycle =
 -- "Then payload, then 24 check bits", over header and payload
 unfoldable pub frame : ℕ → List ℕ → List ℕ
 frame start s = s ++ bytes_of 3 (frame_check start s)
+
+-- a bit of a frame
+abbrev pub bit : Bool → ℕ
+bit b = cond b 1 0
 
 -- "bit 7 of the first byte is join, all else 0". Request 3: "In a quiet press bit 6 of a heartbeat's first byte becomes a request."
 abbrev pub first_byte : ℕ → ℕ → ℕ

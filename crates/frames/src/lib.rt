@@ -1,7 +1,7 @@
 // Heartbeat and vote frames: how they are laid out and read, as definitions with their laws, and what reading one can find.
 #![tactic(auto)]
 
-ghost use Rattle.std.specs.Prelude.{◌≡◌, true, ◌<◌};
+ghost use Rattle.std.specs.Prelude.{◌≡◌, ◌<◌};
 
 use refusal::Refusal;
 
@@ -80,5 +80,4 @@ pub struct Bits {
     pub request: bool,
     pub sync: bool,
     pub startup: bool,
-    ghost startup_with_sync: { startup ≡ true → sync ≡ true },
 }

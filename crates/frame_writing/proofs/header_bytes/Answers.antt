@@ -1,64 +1,23 @@
--- `frame_writing::header_bytes` meets its contract: the number fits 40 bits, and its bytes are those of `header`. Assumes nothing.
-use native.Mathlib.Nat.{div-one}
+-- `frame_writing::header_bytes` meets its contract: its bytes are those of `header`. Assumes nothing.
+use mathlib.Core.Path.{◌≡◌, ap, ap₂, ◌∙◌}
+use Prim.Native.Nat.{ℕ, ◌+◌, ◌*◌, ◌^◌}
 use native.Mathlib.Omega.{arith}
 use Rattle.bigendian.specs.BigEndian.{bytes_of}
+use Rattle.crc.specs.Crc.{header_check}
 use Rattle.frames.specs.Written.{header}
+use Rattle.frame_writing.proofs.Bits.{bit-from}
 use Rattle.frame_writing.proofs.header_bytes.Goals as goal
 
-pub overflow_mul-high : goal.overflow_mul-high
-overflow_mul-high c = omega arith
-
-pub overflow_add-high : goal.overflow_add-high
-overflow_add-high c = omega arith
-
-pub overflow_add-high-2 : goal.overflow_add-high-2
-overflow_add-high-2 c = omega arith
-
-pub overflow_mul-high-2 : goal.overflow_mul-high-2
-overflow_mul-high-2 c = omega arith
-
-pub overflow_add-high-3 : goal.overflow_add-high-3
-overflow_add-high-3 c = omega arith
-
-pub overflow_mul-high-3 : goal.overflow_mul-high-3
-overflow_mul-high-3 c = omega arith
-
-pub overflow_add-high-4 : goal.overflow_add-high-4
-overflow_add-high-4 c = omega arith
-
-pub overflow_cast-high : goal.overflow_cast-high
-overflow_cast-high c = omega arith
-
-pub overflow_mul-h : goal.overflow_mul-h
-overflow_mul-h c = omega arith
-
-pub overflow_mul-h-2 : goal.overflow_mul-h-2
-overflow_mul-h-2 c = omega arith
-
-pub overflow_cast-h : goal.overflow_cast-h
-overflow_cast-h c = omega arith
-
-pub overflow_add-h : goal.overflow_add-h
-overflow_add-h c = omega arith
-
-pub overflow_add-h-2 : goal.overflow_add-h-2
-overflow_add-h-2 c = omega arith
-
-pub overflow_cast-result : goal.overflow_cast-result
-overflow_cast-result c = omega arith
-
-pub overflow_cast-result-2 : goal.overflow_cast-result-2
-overflow_cast-result-2 c = omega arith
-
-pub overflow_cast-result-3 : goal.overflow_cast-result-3
-overflow_cast-result-3 c = omega arith
-
-pub overflow_cast-result-4 : goal.overflow_cast-result-4
-overflow_cast-result-4 c = omega arith
-
-pub overflow_cast-result-5 : goal.overflow_cast-result-5
-overflow_cast-result-5 c = omega arith
+-- the number of 40 bits, by its upper and its lower part
+joined : (sync startup number words cycle : ℕ) {s t check high low : ℕ} → s ≡ sync → t ≡ startup → check ≡ header_check s t number words
+    → high ≡ ((4 + s * 2 + t) * 2048 + number) * 128 + words → low ≡ check * 64 + cycle
+    → high * 131072 + low ≡ (((4 + sync * 2 + startup) * 2 ^ 11 + number) * 2 ^ 7 + words) * 2 ^ 17 + header_check sync startup number words * 2 ^ 6 + cycle
+joined sync startup number words cycle es et ek eh el =
+    let k = ek ∙ ap₂ (λ (x y : ℕ). header_check x y number words) es et in omega arith
 
 pub returns : goal.returns
-unfolding header bytes_of
-returns c = simp (c.header_check-check.ensures.value, div-one)
+unfolding header
+returns c =
+    c.write.ensures
+    ∙ ap (bytes_of 5)
+    (joined _ _ _ _ _ (c.from-sync.ensures ∙ bit-from c.args.sync) (c.from-startup.ensures ∙ bit-from c.args.startup) c.header_check-check.ensures.value c.from.ensures c.from-2.ensures)

@@ -28,4 +28,4 @@ whole v g m b w f₀ f₁ f₂ f₃ f₄ l eg em eb ew pg pm pb pw =
 pub returns : goal.returns
 returns c =
     let a = c.args in
-    whole a.v _ _ _ _ _ c.put.new.f c.put-2.new.f c.put-3.new.f c.put-4.new.f (omega arith) c.write4.ensures c.write8.ensures c.write8-2.ensures c.write8-3.ensures c.put.ensures c.put-2.ensures c.put-3.ensures c.put-4.ensures
+    whole a.v _ _ _ _ _ c.put.new.f c.put-2.new.f c.put-3.new.f c.put-4.new.f (omega arith) (c.write.ensures ∙ ap (bytes_of 4) c.from.ensures) c.write-2.ensures c.write-3.ensures c.write-4.ensures c.put.ensures c.put-2.ensures c.put-3.ensures c.put-4.ensures

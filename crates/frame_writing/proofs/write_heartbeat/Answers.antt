@@ -1,18 +1,18 @@
 -- `frame_writing::write_heartbeat` meets its contract: header, first word and drive bytes are put one after the other, and the check over them last. Assumes nothing.
-use mathlib.Core.Path.{◌≡◌, sym, ap, ap₂, ◌∙◌}
+use mathlib.Core.Path.{◌≡◌, ap, ap₂, ◌∙◌}
+use mathlib.Core.Bool.{false}
 use mathlib.Core.List.{List, [], ◌∷◌, ◌++◌}
-use Prim.Native.Nat.{ℕ, ◌+◌, ◌/◌, ◌≤◌}
+use Prim.Native.Nat.{ℕ, ◌+◌, ◌*◌, ◌/◌, ◌≤◌}
 use native.Mathlib.Omega.{arith}
 use lib.ListN.{length, take}
-use lib.Seq.{length-take-le}
 use Rattle.bigendian.specs.BigEndian.{bytes_of}
-use Rattle.bigendian.proofs.Laws.{length_bytes}
 use Rattle.crc.specs.Crc.{frame_check, channel_start}
 use Rattle.parts.specs.Parts.{with_part}
 use Rattle.parts.proofs.Laws.{part_length, part-next}
-use Rattle.frames.specs.Written.{header, frame, first_byte, heartbeat_frame}
+use Rattle.frames.specs.Written.{header, frame, first_byte, heartbeat_frame, wrong_drive}
 use Rattle.frames.proofs.Lengths.{length-header}
 use Rattle.frames.proofs.Payloads.{drive_bounds}
+use Rattle.frame_writing.proofs.Bits.{bit-from}
 use Rattle.frame_writing.proofs.Framed.{framed}
 use Rattle.frame_writing.proofs.write_heartbeat.Goals as goal
 
@@ -34,32 +34,22 @@ whole q join request sync startup cycle channel drive h c f₀ f₁ f₂ f₃ f�
 pub returns : goal.returns
 returns c =
     let a = c.args in
-    whole a.q a.join a.request a.sync a.startup a.cycle a.channel a.drive.now _ _ a.frame.now c.put.new.f c.put-2.new.f c.put-3.new.f c.put-4.new.f _ _
-    c.requires.frame_len c.header_bytes.ensures c.channel_start.ensures.value c.frame_check-check.ensures.value c.write3.ensures
-    c.put.ensures c.put-2.ensures c.put-3.ensures c.put-4.ensures
+    let k = a.slot in
+    let b = a.bits in
+    whole k.node _ _ _ _ k.cycle k.channel a.drive.now _ _ a.frame.now c.put.new.f c.put-2.new.f c.put-3.new.f c.put-4.new.f _ _
+    c.requires.frame_len c.header_bytes.ensures c.channel_start.ensures.value c.frame_check-check.ensures.value
+    (c.write.ensures ∙ ap (bytes_of 3) c.from-3.ensures)
+    c.put.ensures (c.put-2.ensures ∙ ap (λ (x : ℕ). with_part 5 (x ∷ 0 ∷ []) c.put.new.f) (ap₂ (λ (x y : ℕ). x * 128 + y * 64) (c.from.ensures ∙ bit-from b.join) (c.from-2.ensures ∙ bit-from b.request)))
+    c.put-3.ensures c.put-4.ensures
+
+few : (drive : List ℕ) → wrong_drive drive ≡ false → length drive ≤ 252
+few drive e = (drive_bounds drive e).1
 
 pub overflow_cast-words : goal.overflow_cast-words
-overflow_cast-words c =
-    let few : length c.args.drive.now ≤ 252 = (drive_bounds c.args.drive.now c.requires.drive_value).1 in
-    let b = few in omega arith
+overflow_cast-words c = let b = few c.args.drive.now c.requires.drive_value in omega arith
 
 pub overflow_add-words : goal.overflow_add-words
-overflow_add-words c =
-    let few : length c.args.drive.now ≤ 252 = (drive_bounds c.args.drive.now c.requires.drive_value).1 in
-    let b = few in omega arith
+overflow_add-words c = let b = few c.args.drive.now c.requires.drive_value in omega arith
 
-pub header_bytes-requires : goal.header_bytes-requires
-header_bytes-requires c =
-    let few : length c.args.drive.now ≤ 252 = (drive_bounds c.args.drive.now c.requires.drive_value).1 in
-    let b = few in omega arith
-
-pub slice_bounds-frame_check-end-2 : goal.slice_bounds-frame_check-end-2
-slice_bounds-frame_check-end-2 c =
-    let l : 7 + length c.args.drive.now ≤ length c.put-3.new.f = omega (arith, c.frame-3-1.given) in
-    sym (length-take-le _ _ l)
-
-pub put-requires-4 : goal.put-requires-4
-put-requires-4 c =
-    let three : length c.write3.result ≡ 3 = ap length c.write3.ensures ∙ length_bytes 3 _ in
-    let l : 7 + length c.args.drive.now + length c.write3.result ≤ length c.put-3.new.f = omega (arith, c.frame-3-1.given) in
-    l
+pub header_bytes-requires-clause-words_bound : goal.header_bytes-requires-clause-words_bound
+header_bytes-requires-clause-words_bound c = let b = few c.args.drive.now c.requires.drive_value in omega arith

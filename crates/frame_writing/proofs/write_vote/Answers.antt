@@ -32,6 +32,7 @@ slice_bounds-frame_check-end c =
 pub returns : goal.returns
 returns c =
     let a = c.args in
-    whole a.q a.v a.cycle a.channel _ _ _ _ c.put.new.f c.put-2.new.f c.put-3.new.f _ _ (omega arith)
-    c.header_bytes.ensures c.vote_payload.ensures c.channel_start.ensures.value c.frame_check.ensures.value
-    c.write3-c.ensures c.put.ensures c.put-2.ensures c.put-3.ensures
+    let k = a.slot in
+    whole k.node a.v k.cycle k.channel _ _ _ _ c.put.new.f c.put-2.new.f c.put-3.new.f _ _ (omega arith)
+    c.header_bytes.ensures c.vote_payload.ensures c.channel_start.ensures.value c.frame_check-check.ensures.value
+    (c.write.ensures ∙ ap (bytes_of 3) c.from.ensures) c.put.ensures c.put-2.ensures c.put-3.ensures

@@ -7,6 +7,6 @@ pub returns-then-drive-eq1 : goal.returns-then-drive-eq1
 unfolding wrong_drive
 returns-then-drive-eq1 c = simp (eq-eqb _ _ c.if-drive-eq1.true)
 
-pub returns : goal.returns
+pub returns-else-drive-eq1 : goal.returns-else-drive-eq1
 unfolding wrong_drive
-returns c = simp (ne_eqb _ _ c.if-drive-eq1.false)
+returns-else-drive-eq1 c = simp (ne_eqb _ _ c.if-drive-eq1.false)
