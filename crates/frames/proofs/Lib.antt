@@ -6,3 +6,4 @@ pub mod RoundTrip
 pub mod TwoChannels
 pub mod Refused
 pub mod Votes
+pub mod Converted

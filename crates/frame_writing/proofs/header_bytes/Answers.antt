@@ -5,7 +5,7 @@ use native.Mathlib.Omega.{arith}
 use Rattle.bigendian.specs.BigEndian.{bytes_of}
 use Rattle.crc.specs.Crc.{header_check}
 use Rattle.frames.specs.Written.{header}
-use Rattle.frame_writing.proofs.Bits.{bit-from}
+use Rattle.frames.proofs.Converted.{bit-from}
 use Rattle.frame_writing.proofs.header_bytes.Goals as goal
 
 -- the number of 40 bits, by its upper and its lower part

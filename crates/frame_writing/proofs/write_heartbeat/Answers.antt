@@ -12,7 +12,7 @@ use Rattle.parts.proofs.Laws.{part_length, part-next}
 use Rattle.frames.specs.Written.{header, frame, first_byte, heartbeat_frame, wrong_drive}
 use Rattle.frames.proofs.Lengths.{length-header}
 use Rattle.frames.proofs.Payloads.{drive_bounds}
-use Rattle.frame_writing.proofs.Bits.{bit-from}
+use Rattle.frames.proofs.Converted.{bit-from}
 use Rattle.frame_writing.proofs.Framed.{framed}
 use Rattle.frame_writing.proofs.write_heartbeat.Goals as goal
 
