@@ -19,11 +19,9 @@ fn bit_step<const K: u32, const POLYNOMIAL: u32>(r: u32, b: u32) -> u32
     ensures upper_bound { result < 2 ^ K }
 {
     let moved = r * 2 % (1 << K);
-    if r >> (K - 1) == b {
-        moved
-    } else {
-        moved ^ POLYNOMIAL
-    }
+    // what is added is chosen, and not the sum: LLVM makes a quicker step of that
+    let added = if r >> (K - 1) == b { 0 } else { POLYNOMIAL };
+    moved ^ added
 }
 
 // The lowest n bits of word, highest bit first.
