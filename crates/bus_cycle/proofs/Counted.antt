@@ -7,6 +7,7 @@ use Prim.Native.Nat.{ℕ, ◌*◌, ◌^◌, ◌≤◌, ◌<◌}
 use native.Mathlib.Omega.{arith}
 use lib.Dec.{ltb}
 use lib.ListN.{length, take, drop, get_or}
+use Rattle.std.specs.Prelude as std
 use Rattle.sets.specs.Sets.{has, ◌∖◌}
 use Rattle.sets.proofs.Booleans.{and_l, ltb-true}
 use Rattle.sets.proofs.Membership.{has_diff}
@@ -16,8 +17,6 @@ use Rattle.rules.specs.OneCycle.{Ballots, member_decides, silent_decides, joiner
 use Rattle.rules.specs.Ballots.{group_at, vote_at, ballots_of}
 use Rattle.rules.proofs.Votes.{vote_self}
 use Rattle.frames.specs.declared.Fault.TheVariants.{Length}
-use Rattle.frames.specs.declared.VoteRead.TheVariants as vote
-use Rattle.frames.specs.declared.VoteReceived.TheVariants.{Missed, Whole}
 use Rattle.frames.specs.Written.{vote_frame, formed_vote}
 use Rattle.frames.specs.Read.{read_vote, receive_vote}
 use Rattle.frames.proofs.Faults.{no_vote}
@@ -52,7 +51,7 @@ module _ (C : Config) (count voting : ℕ) (numbers sets bases views : List ℕ)
   module _ (formed : (p : ℕ) → has p voting ≡ true → (p < n) × (get_or numbers p 0 < 2 ^ 32) × (formed_vote n p (vote_at numbers sets bases views p) ≡ true)) (reach : ℕ)
       (within : (p : ℕ) → has p reach ≡ true → has p voting ≡ true) where
     one-copy : (channel p : ℕ)
-        → read_vote n p count channel (copy_of 36 reach p (cast channel)) ≡ cond (has p reach) (vote.Whole (vote_at numbers sets bases views p)) (vote.Refused Length)
+        → read_vote n p count channel (copy_of 36 reach p (cast channel)) ≡ cond (has p reach) (std.Ok (vote_at numbers sets bases views p)) (std.Err Length)
     one-copy channel p = go (has p reach) refl
       where
         v : Vote
@@ -61,7 +60,7 @@ module _ (C : Config) (count voting : ℕ) (numbers sets bases views : List ℕ)
         x : List ℕ
         x = vote_frame p v count channel
 
-        go : (r : Bool) → has p reach ≡ r → read_vote n p count channel (copy_of 36 reach p (cast channel)) ≡ cond r (vote.Whole v) (vote.Refused Length)
+        go : (r : Bool) → has p reach ≡ r → read_vote n p count channel (copy_of 36 reach p (cast channel)) ≡ cond r (std.Ok v) (std.Err Length)
         go false e = ap (λ (b : Bool). read_vote n p count channel (take (cond b 36 0) (drop (36 * p) (cast channel)))) e ∙ no_vote n p count channel
         go true e =
             let m = within p e in
@@ -71,11 +70,11 @@ module _ (C : Config) (count voting : ℕ) (numbers sets bases views : List ℕ)
             ∙ ap (λ (k : ℕ). read_vote n p count channel (take k (drop (36 * p) (cast channel)))) (sym (length-vote p v count channel))
             ∙ ap (read_vote n p count channel) ((carried channel).there p x f.0 sent) ∙ vote_back n p v count channel few f.0 counted f.1 f.2
 
-    both-copies : (p : ℕ) → vote_read n count reach (cast 0) (cast 1) p ≡ cond (has p reach) (Whole (vote_at numbers sets bases views p)) Missed
+    both-copies : (p : ℕ) → vote_read n count reach (cast 0) (cast 1) p ≡ cond (has p reach) (std.Some (vote_at numbers sets bases views p)) std.None
     unfolding vote_read
     both-copies p = ap₂ receive_vote (one-copy 0 p) (one-copy 1 p) ∙ go (has p reach) (vote_at numbers sets bases views p)
       where
-        go : (r : Bool) (v : Vote) → receive_vote (cond r (vote.Whole v) (vote.Refused Length)) (cond r (vote.Whole v) (vote.Refused Length)) ≡ cond r (Whole v) Missed
+        go : (r : Bool) (v : Vote) → receive_vote (cond r (std.Ok v) (std.Err Length)) (cond r (std.Ok v) (std.Err Length)) ≡ cond r (std.Some v) std.None
         go true v = rw (vote_self v)
         go false v = refl
 
@@ -84,7 +83,7 @@ module _ (C : Config) (count voting : ℕ) (numbers sets bases views : List ℕ)
     unfolding ballots_read ballots_of
     ballots-read = λ i p. each p i
       where
-        got : (r : Bool) (v : Vote) → received (cond r (Whole v) Missed) ≡ cond r (some v) none
+        got : (r : Bool) (v : Vote) → received (cond r (std.Some v) std.None) ≡ cond r (some v) none
         got true v = refl
         got false v = refl
 

@@ -39,13 +39,13 @@ module _ (C : Config) (count : ℕ) (s : States) (f : Faults) (views frames : Li
 
   -- d are the members that vote
   abbrev ballots : ℕ → ℕ → List ℕ
-  ballots d channel = channel_of n (vote_put s.numbers s.sets s.bases views d count channel)
+  ballots d channel = channel_of n (vote_put s.groups.numbers s.groups.sets s.groups.bases views d count channel)
 
   abbrev Seen : Roles → Type 0
-  Seen w = (p : ℕ) → p < n → get_or views p 0 ≡ view_at n s.sets (w.members ∖ f.heartbeat_lost) (w.joining ∖ f.heartbeat_lost) f.heartbeat_missed p
+  Seen w = (p : ℕ) → p < n → get_or views p 0 ≡ view_at n s.groups.sets (w.members ∖ f.heartbeat_lost) (w.joining ∖ f.heartbeat_lost) f.heartbeat_missed p
 
   abbrev voting_in : Roles → ℕ
-  voting_in w = voting_of C s.sets views w ((w.members ∩ w.asking) ∖ f.heartbeat_lost) f.heartbeat_missed
+  voting_in w = voting_of C s.groups.sets views w ((w.members ∩ w.asking) ∖ f.heartbeat_lost) f.heartbeat_missed
 
   -- where the masks are those after rule 1
   module _ (seen : Seen (roles C s f)) where

@@ -121,7 +121,7 @@ module _ (C : Config) (s : States) (f : Faults) (count channel : ℕ) (few : C.n
 
   heartbeat-put : (q : ℕ) → q < n → heartbeat_put w count channel q ≡ heartbeat_sent 0 0 [] count q (at r q) channel
   unfolding roles_after
-  heartbeat-put q l = sym (ap (λ (t : State). heartbeat_sent 0 0 [] count q t channel) (after-at C s f q l) ∙ go (has q w.members) (has q w.joining) (has q w.no_quorum) (has q w.outvoted) (has q s.asking))
+  heartbeat-put q l = sym (ap (λ (t : State). heartbeat_sent 0 0 [] count q t channel) (after-at C s f q l) ∙ go (has q w.members) (has q w.joining) (has q w.no_quorum) (has q w.outvoted) (has q s.roles.asking))
     where
       go : (m j u v a : Bool) → heartbeat_sent 0 0 [] count q (by_role m j u v (group_at s q) a) channel ≡ frame_of q m j a
       go true j u v a = refl
@@ -137,7 +137,7 @@ module _ (C : Config) (s : States) (f : Faults) (count channel : ℕ) (few : C.n
       (beats-short C count f (row_of n s) channel) heartbeat-put (λ q l. ap (λ (t : State). heartbeat_sent 0 0 [] count q t channel) (past_out n f (row_of n s) q l))
 
   module _ (counted : count < 64) (formed : FormedRow C (row_of n s)) (views : List ℕ)
-      (seen : (p : ℕ) → p < n → get_or views p 0 ≡ view_at n s.sets (w.members ∖ f.heartbeat_lost) (w.joining ∖ f.heartbeat_lost) f.heartbeat_missed p) where
+      (seen : (p : ℕ) → p < n → get_or views p 0 ≡ view_at n s.groups.sets (w.members ∖ f.heartbeat_lost) (w.joining ∖ f.heartbeat_lost) f.heartbeat_missed p) where
     abbrev bus : Bus
     bus = bus_of C count f (row_of n s)
 
@@ -145,20 +145,20 @@ module _ (C : Config) (s : States) (f : Faults) (count channel : ℕ) (few : C.n
     carried = delivers-carries C count few counted bus f r (rule_one_formed C f (row_of n s) formed) (bus_delivers C count f (row_of n s))
 
     -- what each casts by the masks of those that vote
-    cast : (q : ℕ) → q < n → vote_cast C count bus.heartbeats q (at r q) ≡ ballots_of s.numbers s.sets s.bases views (voting C s f views seen) q
+    cast : (q : ℕ) → q < n → vote_cast C count bus.heartbeats q (at r q) ≡ ballots_of s.groups.numbers s.groups.sets s.groups.bases views (voting C s f views seen) q
     unfolding votes
     cast q l = cast_is C count bus f r carried q (at r q) l refl ∙ sym (get-tabulate n q (λ x. vote_of C f r x (at r x)) none l) ∙ sent C s f views seen q
 
-    vote-put : (q : ℕ) → q < n → vote_put s.numbers s.sets s.bases views (voting C s f views seen) count channel q ≡ vote_sent C count bus.heartbeats q (at r q) channel
+    vote-put : (q : ℕ) → q < n → vote_put s.groups.numbers s.groups.sets s.groups.bases views (voting C s f views seen) count channel q ≡ vote_sent C count bus.heartbeats q (at r q) channel
     unfolding ballots_of
-    vote-put q l = sym (ap (λ (o : Option Vote). vote_framed count q o channel) (cast q l) ∙ go (has q (voting C s f views seen)) (vote_at s.numbers s.sets s.bases views q))
+    vote-put q l = sym (ap (λ (o : Option Vote). vote_framed count q o channel) (cast q l) ∙ go (has q (voting C s f views seen)) (vote_at s.groups.numbers s.groups.sets s.groups.bases views q))
       where
         go : (b : Bool) (v : Vote) → vote_framed count q (cond b (some v) none) channel ≡ cond b (some (vote_frame q v count channel)) none
         go true v = refl
         go false v = refl
 
-    pub votes-shown : channel_of n (vote_put s.numbers s.sets s.bases views (voting C s f views seen) count channel) ≡ votes_shown C count f (row_of n s) channel
+    pub votes-shown : channel_of n (vote_put s.groups.numbers s.groups.sets s.groups.bases views (voting C s f views seen) count channel) ≡ votes_shown C count f (row_of n s) channel
     unfolding votes_shown
     votes-shown =
-        channel_shown n (vote_put s.numbers s.sets s.bases views (voting C s f views seen) count channel) (λ q. vote_sent C count bus.heartbeats q (at r q) channel) few
+        channel_shown n (vote_put s.groups.numbers s.groups.sets s.groups.bases views (voting C s f views seen) count channel) (λ q. vote_sent C count bus.heartbeats q (at r q) channel) few
         (ballots-short C count f (row_of n s) channel) vote-put (λ q l. ap (λ (t : State). vote_sent C count bus.heartbeats q t channel) (past_out n f (row_of n s) q l))
