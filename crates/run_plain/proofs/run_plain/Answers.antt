@@ -1,86 +1,32 @@
-use mathlib.Core.Path.{refl}
-use mathlib.Core.List.{List}
-use Prim.Native.Nat.{ℕ, ◌+◌, ◌≤◌}
-use native.Mathlib.Omega.{arith}
-use lib.ListN.{length}
-use Rattle.rules.specs.declared.Config.{Config}
-use Rattle.rules.specs.Faults.{Row}
-use Rattle.cluster_states.specs.declared.States.{States}
-use Rattle.cluster_states.specs.States.{states_of, row_of}
-use Rattle.run_turns.proofs.Ran.{going_begun, going_done, going-there, going-past, going_next}
+use Rattle.std.proofs.Common.{refl, sym, ap, ◌+◌, subst}
+use Rattle.table.specs.Records.{faults_at}
+use Rattle.cluster_states.specs.States.{row_of}
+use Rattle.run_turns.specs.declared.Records.{Records}
+use Rattle.run_turns.proofs.Ran.{Passing, going_begun, going_done, going_next}
 use Rattle.run_plain.proofs.run_plain.Goals as goal
 
-pub loop-at-init : goal.loop-at-init
-loop-at-init c =
-    record { number = 1; going = going_begun c.args.config c.args.s.now c.args.start c.requires.by_index c.requires.nodes_bound.1; clear = (refl, refl) }
-
-pub slice_bounds-rest-count : goal.slice_bounds-rest-count
-slice_bounds-rest-count c = omega arith
-
-pub slice_bounds-rest-start : goal.slice_bounds-rest-start
-slice_bounds-rest-start c = omega arith
-
-pub slice_bounds-rest-end : goal.slice_bounds-rest-end
-slice_bounds-rest-end c = omega arith
-
-pub plain_cycle-w-requires : goal.plain_cycle-w-requires
-plain_cycle-w-requires c =
-    let press : Config = c.args.config in
-    let begun : Row = row_of (press).nodes c.args.start in
-    let table : List ℕ = c.args.s.now in
-    let states : States = states_of c.loop-at.w c.loop-at.numbers c.loop-at.sets c.loop-at.bases in
-    let i = c.loop-at.invariant in
-    let there = going-there (press) (begun) (table) (states) c.loop-at.at i.number i.going c.loop-at-test.true in record { nodes_bound = (c.requires.nodes_bound.0, there.0, there.1); unheard_value = i.clear }
-
-pub cycle_length-at-requires : goal.cycle_length-at-requires
-cycle_length-at-requires c =
-    let press : Config = c.args.config in
-    let begun : Row = row_of (press).nodes c.args.start in
-    let table : List ℕ = c.args.s.now in
-    let states : States = states_of c.loop-at.w c.loop-at.numbers c.loop-at.sets c.loop-at.bases in
-    let i = c.loop-at.invariant in
-    (going-there (press) (begun) (table) (states) c.loop-at.at i.number i.going c.loop-at-test.true).0
-
-pub overflow_add-at : goal.overflow_add-at
-overflow_add-at c =
-    let press : Config = c.args.config in
-    let begun : Row = row_of (press).nodes c.args.start in
-    let table : List ℕ = c.args.s.now in
-    let states : States = states_of c.loop-at.w c.loop-at.numbers c.loop-at.sets c.loop-at.bases in
-    let past : (36 ≤ c.cycle_length-at.result) × (c.loop-at.at + c.cycle_length-at.result ≤ length (table)) = let i = c.loop-at.invariant in
-    going-past (press) (begun) (table) (states) c.loop-at.at i.number i.going c.loop-at-test.true _ c.cycle_length-at.ensures in
-    let t = past in omega arith
-
-pub loop-at-smaller : goal.loop-at-smaller
-loop-at-smaller c =
-    let press : Config = c.args.config in
-    let begun : Row = row_of (press).nodes c.args.start in
-    let table : List ℕ = c.args.s.now in
-    let states : States = states_of c.loop-at.w c.loop-at.numbers c.loop-at.sets c.loop-at.bases in
-    let past : (36 ≤ c.cycle_length-at.result) × (c.loop-at.at + c.cycle_length-at.result ≤ length (table)) = let i = c.loop-at.invariant in
-    going-past (press) (begun) (table) (states) c.loop-at.at i.number i.going c.loop-at-test.true _ c.cycle_length-at.ensures in
-    let t = past in omega arith
-
-pub loop-at-preserved : goal.loop-at-preserved
-loop-at-preserved c =
-    let press : Config = c.args.config in
-    let begun : Row = row_of (press).nodes c.args.start in
-    let table : List ℕ = c.args.s.now in
-    let states : States = states_of c.loop-at.w c.loop-at.numbers c.loop-at.sets c.loop-at.bases in
-    let i = c.loop-at.invariant in
+pub loop-record-init : goal.loop-record-init
+loop-record-init c =
+    let a = c.args in
     record {
-      number = i.number + 1;
-      going =
-          going_next (press) (begun) (table) (states) c.loop-at.at i.number i.going c.loop-at-test.true
-          _ _ _ refl c.plain_cycle-w.ensures.bases_after c.cycle_length-at.ensures;
-      clear = c.plain_cycle-w.ensures.unheard_after;
+      passing =
+          subst (λ (r : Records). Passing a.config (row_of a.config.nodes a.start) a.s.now a.start r.rest.now)
+          (sym c.into_iter-record-iterator.ensures.into_iter_gives)
+          (record { number = 1; going = going_begun a.config a.s.now a.start c.requires.by_index c.requires.nodes_bound.1 });
+      clear = (refl, refl);
+    }
+
+pub loop-record-preserved : goal.loop-record-preserved
+loop-record-preserved c =
+    let step = c.in-Some.ensures.steps in
+    let p = c.loop-record.invariant.passing in
+    let f = faults_at c.in-Some.record.bytes.now in
+    record {
+      passing = record { number = p.number + 1; going = going_next _ _ _ _ _ p.number p.going step.0 _ f _ (ap faults_at step.1) c.plain_cycle.ensures.states_after step.2 };
+      clear = c.plain_cycle.ensures.unheard_after;
     }
 
 pub returns : goal.returns
 returns c =
-    let press : Config = c.args.config in
-    let begun : Row = row_of (press).nodes c.args.start in
-    let table : List ℕ = c.args.s.now in
-    let states : States = states_of c.loop-at.w c.loop-at.numbers c.loop-at.sets c.loop-at.bases in
-    let i = c.loop-at.invariant in
-    going_done (press) (begun) (table) (states) c.loop-at.at i.number i.going c.loop-at-test.false
+    let p = c.loop-record.invariant.passing in
+    going_done _ _ _ _ _ p.number p.going c.in-None.ensures.steps
