@@ -2,6 +2,7 @@
 use mathlib.Core.Path.{◌≡◌, refl, sym, ap, ap₂, subst, ◌∙◌}
 use mathlib.Core.Bool.{Bool, true, false, not, ◌&&◌, ◌||◌, cond, false≢true}
 use mathlib.Core.Option.{Option, none, some}
+use Rattle.std.specs.Prelude.{Option as Optional, None, Some, IfSome, is_some}
 use Prim.Native.Nat.{ℕ, ◌≤◌, ◌<◌}
 use native.Mathlib.Omega.{arith}
 use lib.Dec.{eqb, ltb}
@@ -29,7 +30,7 @@ use Rattle.cluster_states.specs.States.{roles_of, group_at, state_at, row_of}
 use Rattle.cluster_states.specs.Decided.{roles_after}
 use Rattle.cluster_states.proofs.Whole.{by_role, no_member, member_role, members-high, joining-high, sends-member, sends-join}
 use Rattle.cluster_watched.specs.declared.Watch.{Watch}
-use Rattle.cluster_watched.specs.Watched.{reference_of, cluster_of, misses_at}
+use Rattle.cluster_watched.specs.Watched.{defined, cluster_of, misses_at, steady_of, held_after}
 
 -- ---- the nodes that a cycle disturbs
 
@@ -115,77 +116,95 @@ module _ (C : Config) (s : States) (w : Watch) (f : Faults) where
   abbrev watched : Cluster
   watched = cluster_of n s w
 
-  pub steady-are : (d u : ℕ) → d ≡ those n (disturbed f) → u ≡ below n (w.group.set ∖ d ∖ w.lately) → u ≡ steady C watched f w.group
+  -- the steady nodes as the rules have them, where they are a quorum
+  abbrev steady_in : Optional Group → Optional ℕ
+  steady_in None = None
+  steady_in (Some g) = cond (quorum (steady C watched f g) g.base) (Some (steady C watched f g)) None
+
+  steady-are : (d : ℕ) (g : Group) → d ≡ those n (disturbed f) → below n (g.set ∖ d ∖ w.lately) ≡ steady C watched f g
   unfolding steady
-  steady-are d u e k = k ∙ set_ext (λ q. has-below q n (w.group.set ∖ d ∖ w.lately) ∙ go q (ltb q n) refl ∙ sym (has-those q n test))
+  steady-are d g e = set_ext (λ q. has-below q n (g.set ∖ d ∖ w.lately) ∙ go q (ltb q n) refl ∙ sym (has-those q n test))
     where
       test : ℕ → Bool
-      test q = has q w.group.set && not (disturbed f q) && not (has q w.lately)
+      test q = has q g.set && not (disturbed f q) && not (has q w.lately)
 
-      go : (q : ℕ) (a : Bool) → ltb q n ≡ a → (a && has q (w.group.set ∖ d ∖ w.lately)) ≡ (a && test q)
+      go : (q : ℕ) (a : Bool) → ltb q n ≡ a → (a && has q (g.set ∖ d ∖ w.lately)) ≡ (a && test q)
       go q true h =
-          has_diff q (w.group.set ∖ d) w.lately
-          ∙ ap (λ (x : Bool). x && not (has q w.lately)) (has_diff q w.group.set d ∙ ap (λ (x : Bool). has q w.group.set && not x) (ap (has q) e ∙ those_in q n (disturbed f) (ltb-lt h)))
+          has_diff q (g.set ∖ d) w.lately
+          ∙ ap (λ (x : Bool). x && not (has q w.lately)) (has_diff q g.set d ∙ ap (λ (x : Bool). has q g.set && not x) (ap (has q) e ∙ those_in q n (disturbed f) (ltb-lt h)))
       go q false h = refl
 
-  module _ (u : ℕ) (kept : Bool) (are : u ≡ steady C watched f w.group) (e : kept ≡ (w.defined && quorum u w.group.base)) where
-    pub kept-is : kept ≡ keeps C watched f
+  pub steady-known : (d : ℕ) (o : Optional Group) → d ≡ those n (disturbed f) → steady_of n o d w.lately ≡ steady_in o
+  steady-known d None e = refl
+  steady-known d (Some g) e = ap (λ (m : ℕ). cond (quorum m g.base) (Some m) None) (steady-are d g e)
+
+  -- the lowest of the steady nodes is one of them
+  lowest_steady : (g : Group) → n ≤ 64 → quorum (steady C watched f g) g.base ≡ true
+      → (lowest 64 (λ q. has q (steady C watched f g)) ≡ lowest n (λ q. has q (steady C watched f g))) × (lowest n (λ q. has q (steady C watched f g)) < n)
+  unfolding steady
+  lowest_steady g small h =
+      let x = quorum_node (steady C watched f g) g.base h in
+      let y = of_those x.0 n (λ q. has q g.set && not (disturbed f q) && not (has q w.lately)) x.1 in
+      (lowest_more n 64 x.0 (λ q. has q (steady C watched f g)) small y.0 x.1, (lowest_in n x.0 (λ q. has q (steady C watched f g)) y.0 x.1).0)
+
+  module _ (u : Optional ℕ) (e : u ≡ steady_in w.group) where
+    pub kept-is : is_some u ≡ keeps C watched f
     unfolding keeps
-    kept-is = e ∙ go w.defined
+    kept-is = ap is_some e ∙ go w.group
       where
-        go : (b : Bool) → (b && quorum u w.group.base) ≡ keeps_with C watched f (cond b (some w.group) none)
-        go true = ap (λ (x : ℕ). quorum x w.group.base) are
-        go false = refl
+        there : (b : Bool) (m : ℕ) → is_some (cond b (Some m) None) ≡ b
+        there true m = refl
+        there false m = refl
 
-    -- the node that is asked for its group is one
-    pub first_in : (first : ℕ) → n ≤ 64 → first ≡ cond kept (lowest 64 (λ q. has q u)) 0 → first < 64
-    unfolding steady
-    first_in first h l = go kept refl
+        go : (o : Optional Group) → is_some (steady_in o) ≡ keeps_with C watched f (defined o)
+        go None = refl
+        go (Some g) = there (quorum (steady C watched f g) g.base) (steady C watched f g)
+
+    pub first_in : n ≤ 64 → IfSome u (λ m. lowest 64 (λ q. has q m) < 64)
+    first_in small = subst (λ (x : Optional ℕ). IfSome x (λ m. lowest 64 (λ q. has q m) < 64)) (sym e) (go w.group)
       where
-        go : (b : Bool) → kept ≡ b → first < 64
-        go true k =
-            let x = quorum_node u w.group.base (and_r w.defined (quorum u w.group.base) (sym e ∙ k)) in
-            let y = of_those x.0 n (λ q. has q w.group.set && not (disturbed f q) && not (has q w.lately)) (ap (has x.0) (sym are) ∙ x.1) in
-            let z : x.0 < n = y.0 in
-            let i = lowest_in 64 x.0 (λ q. has q u) (omega arith) x.1 in
-            subst (λ (m : ℕ). m < 64) (sym (l ∙ ap (λ (b : Bool). cond b (lowest 64 (λ q. has q u)) 0) k)) i.0
-        go false k = let zero : first ≡ 0 = l ∙ ap (λ (b : Bool). cond b (lowest 64 (λ q. has q u)) 0) k in omega arith
+        there : (g : Group) (b : Bool) → quorum (steady C watched f g) g.base ≡ b → IfSome (cond b (Some (steady C watched f g)) None) (λ m. lowest 64 (λ q. has q m) < 64)
+        there g true h = let low = lowest_steady g small h in omega (arith, low.0, low.1)
+        there g false h = tt
 
-    module _ (small : n ≤ 64) (next : States) (first : ℕ) (defined : Bool) (same : row_of n next ≡ cycle C f (row_of n s)) (low : first ≡ cond kept (lowest 64 (λ q. has q u)) 0)
-        (e' : defined ≡ (kept && has first next.members)) where
-      -- the group of the lowest steady node
-      held : (q : ℕ) → q < n → group_of (at (cycle C f (row_of n s)) q) ≡ cond (has q next.members) (some (group_at next q)) none
+        go : (o : Optional Group) → IfSome (steady_in o) (λ m. lowest 64 (λ q. has q m) < 64)
+        go None = tt
+        go (Some g) = there g (quorum (steady C watched f g) g.base) refl
+
+    module _ (small : n ≤ 64) (next : States) (same : row_of n next ≡ cycle C f (row_of n s)) where
+      -- the group of a node after the cycle
+      held : (q : ℕ) → q < n → group_of (at (cycle C f (row_of n s)) q) ≡ cond (has q next.roles.members) (some (group_at next q)) none
       unfolding row_of state_at
       held q h =
           ap (λ (r : Row). group_of (at r q)) (sym same) ∙ ap group_of (get-tabulate n q (state_at next) stopped h)
-          ∙ group_role (has q next.members) (has q next.joining) (has q next.no_quorum) (has q next.outvoted) (group_at next q) (has q next.asking)
+          ∙ group_role (has q next.roles.members) (has q next.roles.joining) (has q next.roles.no_quorum) (has q next.roles.outvoted) (group_at next q) (has q next.roles.asking)
 
-      reference-is : cond defined (some (group_at next first)) none ≡ reference_after C watched f (cycle C f (row_of n s)) (reference_of w)
-      unfolding steady
-      reference-is = ap (λ (b : Bool). cond b (some (group_at next first)) none) e' ∙ go w.defined (quorum u w.group.base) refl e
+      reference-is : defined (held_after u next.roles.members next.groups) ≡ reference_after C watched f (cycle C f (row_of n s)) (defined w.group)
+      reference-is = ap (λ (x : Optional ℕ). defined (held_after x next.roles.members next.groups)) e ∙ go w.group
         where
-          U : ℕ
-          U = steady C watched f w.group
+          choose : (b : Bool) (g : Group) → ◌≡◌ {A = Option Group} (defined (cond b (Some g) None)) (cond b (some g) none)
+          choose true g = refl
+          choose false g = refl
 
-          go : (b c : Bool) → quorum u w.group.base ≡ c → kept ≡ (b && c)
-              → ◌≡◌ {A = Option Group} (cond (kept && has first next.members) (some (group_at next first)) none) (reference_after C watched f (cycle C f (row_of n s)) (cond b (some w.group) none))
-          go false c h k = rw k
-          go true false h k = rw k (sym (ap (λ (x : ℕ). cond (quorum x w.group.base) (group_of (at (cycle C f (row_of n s)) (lowest n (λ q. has q U)))) none) (sym are) ∙ rw h))
-          go true true h k =
-              let x = quorum_node u w.group.base h in
-              let y = of_those x.0 n (λ q. has q w.group.set && not (disturbed f q) && not (has q w.lately)) (ap (has x.0) (sym are) ∙ x.1) in
-              let i = lowest_in n x.0 (λ q. has q u) y.0 x.1 in
-              let z : lowest n (λ q. has q u) ≡ first = sym (lowest_more n 64 x.0 (λ q. has q u) small y.0 x.1) ∙ sym (low ∙ ap (λ (b : Bool). cond b (lowest 64 (λ q. has q u)) 0) k) in
-              ap (λ (b : Bool). cond (b && has first next.members) (some (group_at next first)) none) k
-              ∙ sym (held first (subst (λ (m : ℕ). m < n) z i.0))
-              ∙ ap (λ (m : ℕ). group_of (at (cycle C f (row_of n s)) m)) (sym z ∙ ap (λ (m : ℕ). lowest n (λ q. has q m)) are)
-              ∙ sym (ap (λ (m : ℕ). cond (quorum m w.group.base) (group_of (at (cycle C f (row_of n s)) (lowest n (λ q. has q U)))) none) (sym are) ∙ rw h)
+          there : (g : Group) (b : Bool) → quorum (steady C watched f g) g.base ≡ b
+              → ◌≡◌ {A = Option Group} (defined (held_after (cond b (Some (steady C watched f g)) None) next.roles.members next.groups)) (cond b (group_of (at (cycle C f (row_of n s)) (lowest n (λ q. has q (steady C watched f g))))) none)
+          there g false h = refl
+          there g true h =
+              let low = lowest_steady g small h in
+              let q : ℕ = lowest n (λ q. has q (steady C watched f g)) in
+              ap (λ (l : ℕ). defined (cond (has l next.roles.members) (Some (group_at next l)) None)) low.0
+              ∙ choose (has q next.roles.members) (group_at next q)
+              ∙ sym (held q low.1)
+
+          go : (o : Optional Group) → ◌≡◌ {A = Option Group} (defined (held_after (steady_in o) next.roles.members next.groups)) (reference_after C watched f (cycle C f (row_of n s)) (defined o))
+          go None = refl
+          go (Some g) = there g (quorum (steady C watched f g) g.base) refl
 
       -- the cluster after the cycle
-      pub stepped : (d : ℕ) → d ≡ those n (disturbed f)
-          → cluster_of n next (record { defined = defined; group = group_at next first; lately = d }) ≡ step C watched f
+      pub stepped : (d : ℕ) (o : Optional Group) → d ≡ those n (disturbed f) → o ≡ held_after u next.roles.members next.groups
+          → cluster_of n next (record { group = o; lately = d }) ≡ step C watched f
       unfolding step
-      stepped d k = λ i. record { row = same i; reference = reference-is i; lately = k i }
+      stepped d o k l = λ i. record { row = same i; reference = (ap defined l ∙ reference-is) i; lately = k i }
 
 -- ---- who halted and entered
 
@@ -217,11 +236,11 @@ stays_or_halts C c r q (Member g a) b =
 
 module _ (C : Config) (s : States) (f : Faults) (before : Roles) (next : States) (ruled : before ≡ roles_after C.nodes (roles_of s) f.stop f.start)
     (same : row_of C.nodes next ≡ cycle C f (row_of C.nodes s)) where
-  member-next : (q : ℕ) → q < C.nodes → sends_member (at (cycle C f (row_of C.nodes s)) q) ≡ has q next.members
+  member-next : (q : ℕ) → q < C.nodes → sends_member (at (cycle C f (row_of C.nodes s)) q) ≡ has q next.roles.members
   unfolding row_of state_at
   member-next q h =
       ap (λ (r : Row). sends_member (at r q)) (sym same) ∙ ap sends_member (get-tabulate C.nodes q (state_at next) stopped h)
-      ∙ member_role (has q next.members) (has q next.joining) (has q next.no_quorum) (has q next.outvoted) (group_at next q) (has q next.asking)
+      ∙ member_role (has q next.roles.members) (has q next.roles.joining) (has q next.roles.no_quorum) (has q next.roles.outvoted) (group_at next q) (has q next.roles.asking)
 
   gone : (q : ℕ) → q < C.nodes → (sends_member (at (rule_one C.nodes f (row_of C.nodes s)) q) && halted (at (cycle C f (row_of C.nodes s)) q)) ≡ (sends_member (at (rule_one C.nodes f (row_of C.nodes s)) q) && not (sends_member (at (cycle C f (row_of C.nodes s)) q)))
   unfolding cycle decisions
@@ -230,9 +249,9 @@ module _ (C : Config) (s : States) (f : Faults) (before : Roles) (next : States)
       r : Row
       r = rule_one C.nodes f (row_of C.nodes s)
 
-  pub halted-are : (m : ℕ) → m ≡ before.members ∖ next.members → m ≡ halted_in C f (row_of C.nodes s)
+  pub halted-are : (m : ℕ) → m ≡ before.members ∖ next.roles.members → m ≡ halted_in C f (row_of C.nodes s)
   unfolding halted_in
-  halted-are m e = e ∙ ap (λ (x : Roles). x.members ∖ next.members) ruled ∙ set_ext (λ q. has_diff q M next.members ∙ go q (ltb q C.nodes) refl ∙ sym (has-those q C.nodes test))
+  halted-are m e = e ∙ ap (λ (x : Roles). x.members ∖ next.roles.members) ruled ∙ set_ext (λ q. has_diff q M next.roles.members ∙ go q (ltb q C.nodes) refl ∙ sym (has-those q C.nodes test))
     where
       M : ℕ
       M = (roles_after C.nodes (roles_of s) f.stop f.start).members
@@ -240,13 +259,13 @@ module _ (C : Config) (s : States) (f : Faults) (before : Roles) (next : States)
       test : ℕ → Bool
       test q = sends_member (at (rule_one C.nodes f (row_of C.nodes s)) q) && halted (at (cycle C f (row_of C.nodes s)) q)
 
-      go : (q : ℕ) (a : Bool) → ltb q C.nodes ≡ a → (has q M && not (has q next.members)) ≡ (a && test q)
+      go : (q : ℕ) (a : Bool) → ltb q C.nodes ≡ a → (has q M && not (has q next.roles.members)) ≡ (a && test q)
       go q true h = sym (gone q (ltb-lt h) ∙ ap₂ (λ (x y : Bool). x && not y) (sends-member C s f q (ltb-lt h)) (member-next q (ltb-lt h)))
-      go q false h = ap (λ (x : Bool). x && not (has q next.members)) (members-high C s f q h)
+      go q false h = ap (λ (x : Bool). x && not (has q next.roles.members)) (members-high C s f q h)
 
-  pub entered-are : (m : ℕ) → m ≡ before.joining ∩ next.members → m ≡ entered_in C f (row_of C.nodes s)
+  pub entered-are : (m : ℕ) → m ≡ before.joining ∩ next.roles.members → m ≡ entered_in C f (row_of C.nodes s)
   unfolding entered_in
-  entered-are m e = e ∙ ap (λ (x : Roles). x.joining ∩ next.members) ruled ∙ set_ext (λ q. has_inter q J next.members ∙ go q (ltb q C.nodes) refl ∙ sym (has-those q C.nodes test))
+  entered-are m e = e ∙ ap (λ (x : Roles). x.joining ∩ next.roles.members) ruled ∙ set_ext (λ q. has_inter q J next.roles.members ∙ go q (ltb q C.nodes) refl ∙ sym (has-those q C.nodes test))
     where
       J : ℕ
       J = (roles_after C.nodes (roles_of s) f.stop f.start).joining
@@ -254,6 +273,6 @@ module _ (C : Config) (s : States) (f : Faults) (before : Roles) (next : States)
       test : ℕ → Bool
       test q = sends_join (at (rule_one C.nodes f (row_of C.nodes s)) q) && sends_member (at (cycle C f (row_of C.nodes s)) q)
 
-      go : (q : ℕ) (a : Bool) → ltb q C.nodes ≡ a → (has q J && has q next.members) ≡ (a && test q)
+      go : (q : ℕ) (a : Bool) → ltb q C.nodes ≡ a → (has q J && has q next.roles.members) ≡ (a && test q)
       go q true h = sym (ap₂ (λ (x y : Bool). x && y) (sends-join C s f q (ltb-lt h)) (member-next q (ltb-lt h)))
-      go q false h = ap (λ (x : Bool). x && has q next.members) (joining-high C s f q h)
+      go q false h = ap (λ (x : Bool). x && has q next.roles.members) (joining-high C s f q h)

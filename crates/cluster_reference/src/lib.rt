@@ -6,18 +6,17 @@ ghost use Rattle.rules.specs.declared.Config.{Config as TheConfig};
 ghost use Rattle.rules.specs.Faults.{founding as the_founding};
 ghost use Rattle.rules.specs.Reference.{beginning, keeps as the_keeps, step as the_step, halted_in, entered_in};
 ghost use Rattle.cluster_states.specs.declared.States.{States as TheStates};
-ghost use Rattle.cluster_states.specs.States.{states_of, faults_of, row_of};
+ghost use Rattle.cluster_states.specs.States.{faults_of, row_of};
 ghost use Rattle.cluster_watched.specs.Watched.{cluster_of};
 
-use cluster_states::Roles;
+use cluster_states::States;
 use cluster_watched::Watch;
 use rules::{Config, Marks};
 use state::Group;
 
-// What a cycle did: the roles and what is watched after it, whether it met the premise, and who halted and entered in it.
+// What a cycle did: what is watched after it, whether it met the premise, and who halted and entered in it.
 #[derive(Clone, Copy)]
 pub struct Turn {
-    pub roles: Roles,
     pub watch: Watch,
     pub kept: bool,
     pub halted: u64,
@@ -29,57 +28,44 @@ pub fn begin(founding: u64) -> Watch
     ensures { (C : TheConfig) (s : TheStates) → row_of C.nodes s ≡ the_founding C.nodes 0 founding → cluster_of C.nodes s result ≡ beginning C 0 founding }
 {
     Watch {
-        defined: true,
-        group: Group {
+        group: Some(Group {
             number: 0,
             set: founding,
             base: founding,
-        },
+        }),
         lately: 0,
     }
 }
 
-// One cycle, watched: the groups of the nodes are changed in place. What node q misses is in the elements q of `unheard` and `missed`.
-// Free: what the row after it does not show, and the group watched where none is defined.
-pub fn step<'a>(
+// One cycle, watched: the states of the nodes are changed in place. What node q misses is in the elements q of `unheard` and `missed`.
+// Free: what the row after it does not show.
+pub fn step(
     config: Config,
-    z: Roles,
-    numbers: &mut [u32; 64],
-    sets: &mut [u64; 64],
-    bases: &mut [u64; 64],
+    states: &mut States,
     w: Watch,
     m: Marks,
-    unheard: &'a [u64; 64],
-    missed: &'a [u64; 64],
+    unheard: &[u64; 64],
+    missed: &[u64; 64],
 ) -> Turn
     requires { config.nodes ≤ 64 }
-    ensures watch_after { cluster_of config.nodes (states_of result.roles numbers.new sets.new bases.new) result.watch ≡ the_step config (cluster_of config.nodes (states_of z numbers.old sets.old bases.old) w) (faults_of m unheard.now missed.now) }
-    ensures kept_value { result.kept ≡ the_keeps config (cluster_of config.nodes (states_of z numbers.old sets.old bases.old) w) (faults_of m unheard.now missed.now) }
-    ensures halted_value { result.halted ≡ halted_in config (faults_of m unheard.now missed.now) (row_of config.nodes (states_of z numbers.old sets.old bases.old)) }
-    ensures entered_value { result.entered ≡ entered_in config (faults_of m unheard.now missed.now) (row_of config.nodes (states_of z numbers.old sets.old bases.old)) }
+    ensures watch_after { cluster_of config.nodes states.new result.watch ≡ the_step config (cluster_of config.nodes states.old w) (faults_of m unheard.now missed.now) }
+    ensures kept_value { result.kept ≡ the_keeps config (cluster_of config.nodes states.old w) (faults_of m unheard.now missed.now) }
+    ensures halted_value { result.halted ≡ halted_in config (faults_of m unheard.now missed.now) (row_of config.nodes states.old) }
+    ensures entered_value { result.entered ≡ entered_in config (faults_of m unheard.now missed.now) (row_of config.nodes states.old) }
 {
     let marked = sets::union(sets::union(m.stop, m.heartbeat_lost), m.vote_lost);
     let disturbed = cluster_watched::disturbed_nodes(config.nodes, marked, unheard, missed);
     let steady = cluster_watched::steady_nodes(config.nodes, w, disturbed);
-    let kept = cluster_watched::keeps(w, steady);
-    let before = cluster_states::rule_one(config.nodes, z, m.stop, m.start);
-    let after = cluster_cycle::advance(config, z, numbers, sets, bases, m, unheard, missed);
-    let first = cluster_watched::lowest_steady(kept, steady);
-    let defined = cluster_watched::is_defined(kept, after.members, first);
-    let number = numbers[first];
-    let set = sets[first];
-    let base = bases[first];
-    let halted = sets::difference(before.members, after.members);
-    let entered = sets::intersection(before.joining, after.members);
+    let before = states.roles.rule_one(config.nodes, m.stop, m.start);
+    cluster_cycle::advance(config, states, m, unheard, missed);
+    let members = states.roles.members;
     Turn {
-        roles: after,
         watch: Watch {
-            defined,
-            group: Group { number, set, base },
+            group: cluster_watched::held_after(steady, members, &states.groups),
             lately: disturbed,
         },
-        kept,
-        halted,
-        entered,
+        kept: steady.is_some(),
+        halted: sets::difference(before.members, members),
+        entered: sets::intersection(before.joining, members),
     }
 }
