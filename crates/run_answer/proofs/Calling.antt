@@ -1,18 +1,23 @@
--- The ways through a single cycle and through a table's run, against what the call answers and leaves. Assumes nothing.
+-- What a single cycle and a table's run answer and leave, from what their parts do. Assumes nothing.
 use mathlib.Core.Path.{◌≡◌, refl, sym, ap, ap₂, ◌∙◌, subst}
-use mathlib.Core.Bool.{Bool, true, false, not, ◌||◌, cond, false≢true}
+use mathlib.Core.Bool.{Bool, true, false, not, ◌||◌, cond}
 use mathlib.Core.List.{List, [], ◌∷◌}
 use Prim.Native.Nat.{ℕ, ◌≤◌, ◌<◌}
 use lib.Dec.{eqb, ltb}
 use lib.ListN.{length}
 use lib.Pow.{pow_pos}
-use borrow.Author.Tests.{eqb-true, eqb-false, eq-eqb, ne_eqb, ltb-false, lt-ltb, le-ltb, le-leb}
+use borrow.Author.Tests.{eqb-true, eqb-false, eq-eqb, ne_eqb, ltb-false, le-leb}
+use Rattle.std.specs.Prelude.{Option, Some, Result, Ok, Err, IfOk}
 use Rattle.sets.specs.Sets.{below}
 use Rattle.sets.proofs.Booleans.{or_f_l, or_f_r, not_f}
+use Rattle.refusal.specs.declared.Refusal.{Refusal}
 use Rattle.refusal.specs.Refusal.{when, first}
+use Rattle.refusal.specs.Codes.{code_of, status_of}
+use Rattle.refusal.proofs.Codes.{numbered}
 use Rattle.refusal.proofs.Laws.{unless-done, unless-refused}
 use Rattle.state.specs.declared.Node.{Node}
 use Rattle.state.specs.State.{formed_state}
+use Rattle.rules.specs.declared.Config.{Config}
 use Rattle.rules.specs.declared.Faults.{Faults}
 use Rattle.rules.specs.OneCycle.{wrong_mode, quiet_in, in_mode}
 use Rattle.rules.specs.Faults.{Row, founding, cycle}
@@ -25,52 +30,18 @@ use Rattle.table.proofs.Cursor.{left, from, table-stops, table-goes-on}
 use Rattle.cluster_states.specs.declared.States.{States}
 use Rattle.cluster_states.specs.States.{state_at, row_of}
 use Rattle.theorem_formed.proofs.Formed.{FormedRow, founding-formed}
-use Rattle.row.specs.declared.Gathered.{Gathered}
 use Rattle.row.specs.Row.{states_in, nodes_of, in_order}
 use Rattle.row.specs.Gathered.{ordered}
 use Rattle.row.proofs.Meaning.{gathered_states, gathered-ordered}
-use Rattle.row_calls.specs.declared.Task.{Task}
-use Rattle.row_calls.specs.declared.Task.TheVariants.{Run, FramedRun}
-use Rattle.row_calls.specs.Calls.{row_status, cycle_status, cycle_left, run_status, ran_to, run_left, framed_entries, framed_status, frames_left, call_status, call_left, call_frames}
+use Rattle.row_calls.specs.Calls.{row_status, cycle_status, cycle_left, run_status, ran_to, run_left, framed_entries, framed_status, framed_left, frames_left}
 use Rattle.row_calls.proofs.Counts.{row_fits, in_mode_lem, framed_fits}
 use Rattle.row_calls.proofs.Framed.{framed_plain, framed_left_lem}
 use Rattle.run_turns.specs.After.{row_after}
-use Rattle.run_answer.specs.Answered.{count_byte, GatheredFrom, lent_entries, ran_status, Leaves, AsLent}
 use Rattle.run_turns.proofs.Ran.{after_row, states_formed}
+use Rattle.run_answer.specs.declared.Left.{Left}
+use Rattle.run_answer.specs.Answered.{count_byte, GatheredFrom, ran_status, BeginsTable, Leaves}
 
 -- ---- the row of a single cycle
-
--- its refusals, by the way on which they are looked at
-module _ (n mode len : ℕ) (good : Bool) (s : List ℕ) where
-  pub too_few : n < 2 → 1 ≡ row_status n mode len good s
-  unfolding row_status first
-  too_few l = simp (lt-ltb n 2 l)
-
-  pub too_many : 2 ≤ n → 64 < n → 1 ≡ row_status n mode len good s
-  unfolding row_status first
-  too_many l h = simp (le-ltb n 2 l, lt-ltb 64 n h)
-
-  module _ (least : 2 ≤ n) (most : n ≤ 64) where
-    pub no_mode : wrong_mode mode ≡ true → 2 ≡ row_status n mode len good s
-    unfolding row_status first
-    no_mode w = simp (le-ltb n 2 least, le-ltb 64 n most, w)
-
-    pub other_row : wrong_mode mode ≡ false → (len ≡ n → ⊥) → 3 ≡ row_status n mode len good s
-    unfolding row_status first
-    other_row w e = simp (le-ltb n 2 least, le-ltb 64 n most, w, ne_eqb len n e)
-
-    module _ (w : wrong_mode mode ≡ false) (e : len ≡ n) (longer : Bool) (kl : longer ≡ ltb (cycle_length s) (length s)) where
-      pub longer-record : longer ≡ true → 3 ≡ row_status n mode len good s
-      unfolding row_status first
-      longer-record h = simp (le-ltb n 2 least, le-ltb 64 n most, w, eq-eqb len n e, sym kl ∙ h)
-
-      pub by_order : longer ≡ false → (x : ℕ) → x ≡ cond good 0 4 → x ≡ row_status n mode len good s
-      unfolding row_status first
-      by_order h x kx = kx ∙ go good ∙ simp (le-ltb n 2 least, le-ltb 64 n most, w, eq-eqb len n e, sym kl ∙ h)
-        where
-          go : (b : Bool) → ◌≡◌ {A = ℕ} (cond b 0 4) (cond (not b) 4 0)
-          go true = refl
-          go false = refl
 
 byte : (n : ℕ) → n ≤ 64 → count_byte n ≡ n
 unfolding count_byte
@@ -85,7 +56,7 @@ last false true b x y h = refl
 last false false true x y h = refl
 last false false false x y h = ap (λ (t : Bool). first (when (not t) 4 ∷ [])) (h refl refl)
 
-module _ (n mode len : ℕ) (g : Gathered) (nodes : List Node) (s : List ℕ) (h : GatheredFrom n g len nodes) where
+module _ (n mode len : ℕ) (g : Option States) (nodes : List Node) (s : List ℕ) (h : GatheredFrom n g len nodes) where
   ordered-is : n ≤ 64 → len ≡ n → ordered (quiet_in mode) g ≡ in_order (quiet_in mode) n 0 nodes
   ordered-is l e =
       ap (ordered (quiet_in mode)) h.1
@@ -104,65 +75,36 @@ module _ (n mode len : ℕ) (g : Gathered) (nodes : List Node) (s : List ℕ) (h
       (λ a b. ordered-is (ltb-false 64 n (or_f_r (ltb n 2) (ltb 64 n) a)) (eqb-true len n (not_f (eqb len n) (or_f_l (not (eqb len n)) longer b))))
       ∙ ap (λ (k : ℕ). row_status n mode k (in_order (quiet_in mode) n 0 nodes) s) (sym h.0)
 
-  states-are : n ≤ 64 → len ≡ n → row_of n g.states ≡ states_in nodes
-  states-are l e =
+  states-are : (found : States) → g ≡ Some found → n ≤ 64 → len ≡ n → row_of n found ≡ states_in nodes
+  states-are found kg l e =
       let all : length nodes ≡ n = h.0 ∙ e in
-      ap₂ (λ (k : ℕ) (x : Gathered). row_of k x.states) (sym all) h.1
-      ∙ gathered_states (count_byte n) nodes (subst (λ (k : ℕ). k ≤ 64) (sym all) l)
+      ap (λ (k : ℕ). row_of k found) (sym all) ∙ gathered_states (count_byte n) nodes found (subst (λ (k : ℕ). k ≤ 64) (sym all) l) (sym h.1 ∙ kg)
 
-  -- where x is the refusal of the row
-  module _ (x : ℕ) (kx : x ≡ row_status n mode len (ordered (quiet_in mode) g) s) where
-    pub row-refused : (x ≡ 0 → ⊥) → x ≡ cycle_status n mode nodes s
+  -- where the row is refused
+  pub row-refused : (r : Refusal) → code_of r ≡ row_status n mode len (ordered (quiet_in mode) g) s → code_of r ≡ cycle_status n mode nodes s
+  unfolding cycle_status
+  row-refused r k =
+      let same : code_of r ≡ on_row = k ∙ row_is in
+      same ∙ sym (ap (λ (b : Bool). cond b (cycle_refusal n 1 s) on_row) (ne_eqb on_row 0 (λ e. numbered r (same ∙ e))))
+
+  -- and where it is not, by the record
+  module _ (z : 0 ≡ row_status n mode len (ordered (quiet_in mode) g) s) where
+    pub record_is : (x : ℕ) → x ≡ cycle_refusal n 1 s → x ≡ cycle_status n mode nodes s
     unfolding cycle_status
-    row-refused z =
-        let same : x ≡ on_row = kx ∙ row_is in
-        same ∙ sym (ap (λ (b : Bool). cond b (cycle_refusal n 1 s) on_row) (ne_eqb on_row 0 (λ e. z (same ∙ e))))
+    record_is x k = k ∙ sym (ap (λ (b : Bool). cond b (cycle_refusal n 1 s) on_row) (eq-eqb on_row 0 (sym (z ∙ row_is))))
 
-    -- and r that of the record
-    module _ (z : x ≡ 0) (r : ℕ) (kr : r ≡ cycle_refusal n 1 s) where
-      pub record_is : r ≡ cycle_status n mode nodes s
-      unfolding cycle_status
-      record_is =
-          let row : on_row ≡ 0 = sym (kx ∙ row_is) ∙ z in
-          kr ∙ sym (ap (λ (b : Bool). cond b (cycle_refusal n 1 s) on_row) (eq-eqb on_row 0 row))
-
-      pub cycle-leaves : r ≡ 0 → (f : Faults) (after : States) → f ≡ faults_at s → row_of n after ≡ cycle (in_mode mode n) f (row_of n g.states)
-          → Leaves n after len (cycle_left n mode nodes s)
-      unfolding cycle_left
-      cycle-leaves zr f after kf ka =
-          let t = row_fits n mode len (ordered (quiet_in mode) g) s (sym kx ∙ z) in
-          let turned : row_of n after ≡ cycle (in_mode mode n) (faults_at s) (states_in nodes) =
-          ka ∙ ap₂ (λ (c : Faults) (row : Row). cycle (in_mode mode n) c row) kf (states-are t.count.1 t.entries) in (
-            sym t.entries,
-            t.count.1,
-            ap (nodes_of n) turned
-                ∙ sym (unless-done (cycle_status n mode nodes s) (nodes_of n (cycle (in_mode mode n) (faults_at s) (states_in nodes))) nodes (sym record_is ∙ zr)),
-          )
-
--- ---- a table, by what is lent for frames
-
--- one that is not refused has its row, and its frames where they are asked for
-pub lent_fits : (framed : Bool) (mode room len : ℕ) (s : List ℕ) → ran_status framed mode room len s ≡ 0
-    → ((table_of true len s).cycles.refusal ≡ 0) × (framed ≡ true → room ≡ frames_length)
-unfolding ran_status lent_entries framed_status
-lent_fits true mode room len s e = let f = framed_fits mode len room s e in (f.1, λ _. f.0)
-lent_fits false mode room len s e = ((in_mode_lem mode _ e).1, λ h. absurd (false≢true h))
-
-pub frames_kept : (framed : Bool) (mode len : ℕ) (s frames : List ℕ) → (ran_status framed mode (length frames) len s ≡ 0 → ⊥)
-    → frames ≡ cond framed (frames_left mode len s frames) frames
-unfolding ran_status lent_entries framed_status frames_left
-frames_kept true mode len s frames o = sym (unless-refused (framed_status mode len (length frames) s) _ frames o)
-frames_kept false mode len s frames o = refl
-
--- past the mode the table decides
-pub by_table : (framed : Bool) (mode room len : ℕ) (s : List ℕ) (r : ℕ) → wrong_mode mode ≡ false → r ≡ (table_of true (lent_entries framed room len) s).cycles.refusal
-    → r ≡ ran_status framed mode room len s
-unfolding ran_status
-by_table framed mode room len s r w e = simp w e
-
-pub no_table : (framed : Bool) (mode room len : ℕ) (s : List ℕ) → wrong_mode mode ≡ true → 2 ≡ ran_status framed mode room len s
-unfolding ran_status
-no_table framed mode room len s w = simp w
+    pub cycle-leaves : 0 ≡ cycle_refusal n 1 s → (found : States) → g ≡ Some found → (f : Faults) (after : States) → f ≡ faults_at s
+        → row_of n after ≡ cycle (in_mode mode n) f (row_of n found) → Leaves n after len (cycle_left n mode nodes s)
+    unfolding cycle_left
+    cycle-leaves e found kg f after kf ka =
+        let t = row_fits n mode len (ordered (quiet_in mode) g) s (sym z) in
+        let turned : row_of n after ≡ cycle (in_mode mode n) (faults_at s) (states_in nodes) =
+        ka ∙ ap₂ (λ (c : Faults) (row : Row). cycle (in_mode mode n) c row) kf (states-are found kg t.count.1 t.entries) in (
+          sym t.entries,
+          t.count.1,
+          ap (nodes_of n) turned
+              ∙ sym (unless-done (cycle_status n mode nodes s) (nodes_of n (cycle (in_mode mode n) (faults_at s) (states_in nodes))) nodes (sym (record_is 0 e))),
+        )
 
 -- ---- a table that is not refused
 
@@ -174,97 +116,101 @@ module _ (mode len : ℕ) (s : List ℕ) (z : (table_of true len s).cycles.refus
       go true e = eqb-true (start_refusal true len s) 0 e
       go false e = sym (ap (λ (c : Cycles). c.refusal) (table-stops true len s (start_refusal true len s) refl (eqb-false (start_refusal true len s) 0 e))) ∙ z
 
-  pub begun : Begins true len s
+  begun : Begins true len s
   begun = begins true len s start-good
 
-  -- where n is what its first record has
-  module _ (n : ℕ) (kn : n ≡ count_at s) where
-    all : (table_of true len s).cycles ≡ from n 1 (left s 12) 0
-    all = table-goes-on true len s (start_refusal true len s) refl start-good n kn
+  -- the cycles of a cluster of n
+  abbrev cycles_of : ℕ → Cycles
+  cycles_of n = from n 1 (left s 12) 0
 
-    pub count_most : n ≤ 64
-    count_most = subst (λ (k : ℕ). k ≤ 64) (sym kn) begun.most
+  all : (table_of true len s).cycles ≡ cycles_of (count_at s)
+  all = table-goes-on true len s (start_refusal true len s) refl start-good (count_at s) refl
 
-    pub cycles-good : (from n 1 (left s 12) 0).refusal ≡ 0
-    cycles-good = sym (ap (λ (c : Cycles). c.refusal) all) ∙ z
+  -- from the states of its beginning
+  module _ (C : Config) (start : States) (b : BeginsTable mode s C start) where
+    at_count : (P : Config → Type 0) → P (in_mode mode (count_at s)) → P C
+    at_count P p = subst P (sym b.1) p
 
-    -- from the states of its beginning
-    module _ (F : ℕ) (kf : F ≡ founding_at s) (start : States) (ks : row_of n start ≡ founding n 0 F) where
-      pub begun-formed : (q : ℕ) → q < n → formed_state (quiet_in mode) q n (state_at start q) ≡ true
-      begun-formed = states_formed (in_mode mode n) start (subst (FormedRow (in_mode mode n)) (sym ks) (founding-formed (in_mode mode n) 0 F (pow_pos 32) (ap₂ below kn kf ∙ begun.founding ∙ sym kf)))
+    -- what a run asks for
+    pub run-most : C.nodes ≤ 64
+    run-most = at_count (λ (D : Config). D.nodes ≤ 64) begun.most
 
-      pub run-leaves : (states : States) → row_of n states ≡ row_after (in_mode mode n) (row_of n start) (from n 1 (left s 12) 0).whole
-          → Leaves n states len (ran_to mode (table_of true len s))
-      unfolding table_of beginning
-      run-leaves states e = (
-        sym (eqb-true len n (not_f (eqb len n) (ap (λ (k : ℕ). not (eqb len k)) kn ∙ begun.row))),
-        count_most,
-        ap (nodes_of n) (e ∙ ap (λ (row : Row). row_after (in_mode mode n) row (from n 1 (left s 12) 0).whole) ks)
-            ∙ ap₂ (λ (k G : ℕ). nodes_of k (row_after (in_mode mode k) (founding k 0 G) (from n 1 (left s 12) 0).whole)) kn kf
-            ∙ ap (λ (c : Cycles). nodes_of (count_at s) (row_after (in_mode mode (count_at s)) (founding (count_at s) 0 (founding_at s)) c.whole)) (sym all)
-            ∙ ap (nodes_of (count_at s)) (sym (after_row (in_mode mode (count_at s)) (beginning (in_mode mode (count_at s)) 0 (founding_at s)) (table_of true len s).cycles.whole)),
-      )
+    pub run-good : (cycles_of C.nodes).refusal ≡ 0
+    run-good = at_count (λ (D : Config). (cycles_of D.nodes).refusal ≡ 0) (sym (ap (λ (c : Cycles). c.refusal) all) ∙ z)
 
-      -- and the frames of its last cycle
-      pub run-shown : wrong_mode mode ≡ false → (framed : Bool) (frames : List ℕ) → (framed ≡ true → length frames ≡ frames_length)
-          → cond framed (frames_after (in_mode mode n) 1 (row_of n start) (from n 1 (left s 12) 0).whole frames) frames ≡ cond framed (frames_left mode len s frames) frames
-      unfolding table_of beginning frames_left framed_status
-      run-shown m true frames sized =
-          let room : framed_entries (length frames) len ≡ len = ap (λ (b : Bool). cond b len 0) (eq-eqb (length frames) frames_length (sized refl)) in
-          ap (λ (row : Row). frames_after (in_mode mode n) 1 row (from n 1 (left s 12) 0).whole frames) ks
-          ∙ ap₂ (λ (k G : ℕ). frames_after (in_mode mode k) 1 (founding k 0 G) (from n 1 (left s 12) 0).whole frames) kn kf
-          ∙ ap (λ (c : Cycles). frames_after (in_mode mode (count_at s)) 1 (founding (count_at s) 0 (founding_at s)) c.whole frames) (sym all)
-          ∙ sym (unless-done (framed_status mode len (length frames) s) _ frames (ap₂ (λ (b : Bool) (k : ℕ). cond b 2 (table_of true k s).cycles.refusal) m room ∙ z))
-      run-shown m false frames sized = refl
+    pub run-formed : (q : ℕ) → q < C.nodes → formed_state C.quiet q C.nodes (state_at start q) ≡ true
+    run-formed =
+        at_count (λ (D : Config). (q : ℕ) → q < D.nodes → formed_state D.quiet q D.nodes (state_at start q) ≡ true)
+        (states_formed (in_mode mode (count_at s)) start
+        (subst (FormedRow (in_mode mode (count_at s))) (sym b.2) (founding-formed (in_mode mode (count_at s)) 0 (founding_at s) (pow_pos 32) begun.founding)))
 
--- ---- a call
+    -- and what it leaves
+    pub run-leaves : (states : States) → row_of C.nodes states ≡ row_after C (row_of C.nodes start) (cycles_of C.nodes).whole → Leaves C.nodes states len (ran_to mode (table_of true len s))
+    unfolding table_of beginning
+    run-leaves states =
+        at_count (λ (D : Config). row_of D.nodes states ≡ row_after D (row_of D.nodes start) (cycles_of D.nodes).whole → Leaves D.nodes states len (ran_to mode (table_of true len s)))
+        (λ e. let n = count_at s in
+        (
+          sym (eqb-true len n (not_f (eqb len n) begun.row)),
+          begun.most,
+          ap (nodes_of n) (e ∙ ap₂ (λ (row : Row) (c : Cycles). row_after (in_mode mode n) row c.whole) b.2 (sym all)
+              ∙ sym (after_row (in_mode mode n) (beginning (in_mode mode n) 0 (founding_at s)) (table_of true len s).cycles.whole)),
+        ))
 
--- the status, N, the states answered and the frames afterwards are those of the task t, lent `frames`
-abbrev pub Answers : Task → ℕ → ℕ → ℕ → Gathered → List ℕ → List ℕ → ℕ → ℕ → States → List ℕ → Type 0
-Answers t n mode len g s frames status m states shown =
-    ((nodes : List Node) → GatheredFrom n g len nodes → status ≡ call_status t n mode nodes (length frames) s)
-    × (((nodes : List Node) → GatheredFrom n g len nodes → status ≡ 0 → Leaves m states len (call_left t n mode nodes (length frames) s)) × ((shown ≡ call_frames t mode len s frames) × AsLent status m states g.states))
+    -- and the frames of its last cycle
+    pub run-shown : wrong_mode mode ≡ false → (frames : List ℕ) → length frames ≡ frames_length
+        → frames_after C 1 (row_of C.nodes start) (cycles_of C.nodes).whole frames ≡ frames_left mode len s frames
+    unfolding table_of beginning frames_left framed_status
+    run-shown m frames sized =
+        at_count (λ (D : Config). frames_after D 1 (row_of D.nodes start) (cycles_of D.nodes).whole frames ≡ frames_left mode len s frames)
+        (let n = count_at s in
+        let room : framed_entries (length frames) len ≡ len = ap (λ (t : Bool). cond t len 0) (eq-eqb (length frames) frames_length sized) in
+        ap₂ (λ (row : Row) (c : Cycles). frames_after (in_mode mode n) 1 row c.whole frames) b.2 (sym all)
+        ∙ sym (unless-done (framed_status mode len (length frames) s) _ frames (ap₂ (λ (t : Bool) (k : ℕ). cond t 2 (table_of true k s).cycles.refusal) m room ∙ z)))
 
-pub same_task : (t u : Task) (n mode len : ℕ) (g : Gathered) (s frames : List ℕ) (status m : ℕ) (states : States) (shown : List ℕ) → t ≡ u
-    → Answers u n mode len g s frames status m states shown → Answers t n mode len g s frames status m states shown
-same_task t u n mode len g s frames status m states shown e h = subst (λ (x : Task). Answers x n mode len g s frames status m states shown) (sym e) h
+-- ---- a run, by what it answers
 
-abbrev pub run_task : Bool → Task
-run_task true = FramedRun
-run_task false = Run
+-- one that is not refused has its row
+pub run_good : (mode len : ℕ) (s : List ℕ) → 0 ≡ ran_status mode len s → (table_of true len s).cycles.refusal ≡ 0
+run_good mode len s e = (in_mode_lem mode _ (sym e)).1
 
-module _ (n mode len : ℕ) (g : Gathered) (s : List ℕ) (nodes : List Node) (h : GatheredFrom n g len nodes) where
-  -- the status of a run, on a row and on what was gathered of it
-  ran-status : (framed : Bool) (room status : ℕ) → status ≡ ran_status framed mode room len s → status ≡ call_status (run_task framed) n mode nodes room s
-  unfolding ran_status lent_entries run_status framed_status
-  ran-status true room status e = e ∙ ap (λ (k : ℕ). cond (wrong_mode mode) 2 (table_of true (framed_entries room k) s).cycles.refusal) (sym h.0)
-  ran-status false room status e = e ∙ ap (λ (k : ℕ). cond (wrong_mode mode) 2 (table_of true k s).cycles.refusal) (sym h.0)
+-- and, through frames, its frames
+pub framed_good : (mode room len : ℕ) (s : List ℕ) → 0 ≡ ran_status mode (framed_entries room len) s
+    → (wrong_mode mode ≡ false) × (room ≡ frames_length) × ((table_of true len s).cycles.refusal ≡ 0)
+unfolding framed_status
+framed_good mode room len s e = let f = framed_fits mode len room s (sym e) in ((in_mode_lem mode _ (sym e)).0, f.0, f.1)
 
-  ran-left : (m : ℕ) (states : States) → run_status mode nodes s ≡ 0 → Leaves m states len (ran_to mode (table_of true len s)) → Leaves m states len (run_left mode nodes s)
+-- one that is refused leaves the frames
+pub frames_kept : (mode len : ℕ) (s frames : List ℕ) (r : Refusal) → code_of r ≡ ran_status mode (framed_entries (length frames) len) s → frames ≡ frames_left mode len s frames
+unfolding framed_status frames_left
+frames_kept mode len s frames r e = sym (unless-refused (framed_status mode len (length frames) s) _ frames (λ z. numbered r (e ∙ z)))
+
+-- on a row
+module _ (mode len : ℕ) (nodes : List Node) (s : List ℕ) (h : length nodes ≡ len) where
+  pub run-status : (x : ℕ) → x ≡ ran_status mode len s → x ≡ run_status mode nodes s
+  unfolding run_status
+  run-status x e = e ∙ ap (λ (k : ℕ). ran_status mode k s) (sym h)
+
+  pub framed-status : (room x : ℕ) → x ≡ ran_status mode (framed_entries room len) s → x ≡ framed_status mode (length nodes) room s
+  unfolding framed_status
+  framed-status room x e = e ∙ ap (λ (k : ℕ). ran_status mode (framed_entries room k) s) (sym h)
+
+  left-of : (l : Left) → run_status mode nodes s ≡ 0 → Leaves l.nodes l.states len (ran_to mode (table_of true len s)) → Leaves l.nodes l.states len (run_left mode nodes s)
   unfolding run_left
-  ran-left m states z t = (
+  left-of l z t = (
     t.0,
     t.1,
-    t.2 ∙ ap (λ (k : ℕ). ran_to mode (table_of true k s)) (sym h.0) ∙ sym (unless-done (run_status mode nodes s) (ran_to mode (table_of true (length nodes) s)) nodes z),
+    t.2 ∙ ap (λ (k : ℕ). ran_to mode (table_of true k s)) (sym h) ∙ sym (unless-done (run_status mode nodes s) (ran_to mode (table_of true (length nodes) s)) nodes z),
   )
 
-  run-left : (framed : Bool) (room m : ℕ) (states : States) → call_status (run_task framed) n mode nodes room s ≡ 0 → Leaves m states len (ran_to mode (table_of true len s))
-      → Leaves m states len (call_left (run_task framed) n mode nodes room s)
-  run-left true room m states z t =
-      subst (Leaves m states len) (sym (framed_left_lem mode nodes room s z)) (ran-left m states (framed_plain mode nodes room s z) t)
-  run-left false room m states z t = ran-left m states z t
+  pub run-left : (r : Result Left Refusal) → status_of r ≡ ran_status mode len s → IfOk r (λ l. Leaves l.nodes l.states len (ran_to mode (table_of true len s)))
+      → IfOk r (λ l. Leaves l.nodes l.states len (run_left mode nodes s))
+  run-left (Ok l) e t = left-of l (sym (run-status 0 e)) t
+  run-left (Err x) e t = t
 
-run_frames : (framed : Bool) (mode len : ℕ) (s frames : List ℕ) → cond framed (frames_left mode len s frames) frames ≡ call_frames (run_task framed) mode len s frames
-run_frames true mode len s frames = refl
-run_frames false mode len s frames = refl
-
-pub run_answers : (framed : Bool) (n mode len : ℕ) (g : Gathered) (s frames : List ℕ) (status m : ℕ) (states : States) (shown : List ℕ)
-    → status ≡ ran_status framed mode (length frames) len s → (status ≡ 0 → Leaves m states len (ran_to mode (table_of true len s)))
-    → shown ≡ cond framed (frames_left mode len s frames) frames → AsLent status m states g.states → Answers (run_task framed) n mode len g s frames status m states shown
-run_answers framed n mode len g s frames status m states shown e l f k = (
-  λ nodes h. ran-status n mode len g s nodes h framed (length frames) status e,
-  (
-    λ nodes h z. run-left n mode len g s nodes h framed (length frames) m states (sym (ran-status n mode len g s nodes h framed (length frames) status e) ∙ z) (l z),
-    (f ∙ run_frames framed mode len s frames, k),
-  ),
-)
+  pub framed-left : (room : ℕ) (r : Result Left Refusal) → status_of r ≡ ran_status mode (framed_entries room len) s → IfOk r (λ l. Leaves l.nodes l.states len (ran_to mode (table_of true len s)))
+      → IfOk r (λ l. Leaves l.nodes l.states len (framed_left mode nodes room s))
+  framed-left room (Ok l) e t =
+      let z : framed_status mode (length nodes) room s ≡ 0 = sym (framed-status room 0 e) in
+      subst (Leaves l.nodes l.states len) (sym (framed_left_lem mode nodes room s z)) (left-of l (framed_plain mode nodes room s z) t)
+  framed-left room (Err x) e t = t

@@ -1,35 +1,34 @@
 // Calls on a row, worked out on values: what each answers, and the states that it leaves.
 #![tactic(auto)]
 
-ghost use Rattle.std.specs.Prelude.{◌≡◌, true, cond, List, ℕ, ◌≤◌, ◌<◌, ltb, length};
+ghost use Rattle.std.specs.Prelude.{◌≡◌, List, ℕ, ◌≤◌, Option, Some, ltb, length, IfOk};
+ghost use Rattle.refusal.specs.Codes.{status_of};
 ghost use Rattle.state.specs.declared.Node.{Node};
-ghost use Rattle.state.specs.State.{formed_state};
-ghost use Rattle.bus_units.specs.Run.{frames_length, frames_after};
+ghost use Rattle.rules.specs.OneCycle.{quiet_in, in_mode};
+ghost use Rattle.bus_units.specs.Run.{frames_length};
 ghost use Rattle.table.specs.Records.{cycle_length};
-ghost use Rattle.table.specs.Table.{cycles_in, table_of};
-ghost use Rattle.cluster_states.specs.States.{state_at, row_of};
+ghost use Rattle.table.specs.Table.{table_of};
 ghost use Rattle.row.specs.Gathered.{ordered};
-ghost use Rattle.row_calls.specs.Calls.{row_status, cycle_status, cycle_left, ran_to, frames_left, call_status, call_left, call_frames};
-ghost use Rattle.run_turns.specs.After.{row_after};
-ghost use Rattle.run_answer.specs.Answered.{count_byte, GatheredFrom, Leaves, AsLent, lent_entries, ran_status};
+ghost use Rattle.row_calls.specs.Calls.{row_status, cycle_status, cycle_left, ran_to, framed_entries, frames_left, call_status, call_left, call_frames};
+ghost use Rattle.run_answer.specs.Answered.{count_byte, GatheredFrom, Leaves, BeginsTable, ran_status};
 
 use cluster_states::States;
-use row::Gathered;
+use refusal::Refusal;
 use row_calls::Task;
 use rules::Config;
+use table::{CycleRecord, Start};
 
 // The bytes of the frames of a cycle: on two channels, heartbeats and votes, 64 slots of 36.
 const FRAMES: usize = 9216;
 
-// What a call answers: where it is not refused, N and the states that it leaves; else N 0 and the states as they came.
+// What a call leaves that is not refused: N, and the states of its row.
 #[derive(Clone, Copy)]
-pub struct Outcome {
-    pub status: u32,
+pub struct Left {
     pub nodes: u8,
     pub states: States,
 }
 
-// N as the entries of a row hold it.
+// N as the entries of a row hold it; 0, which no entry holds, for a number that no cluster has.
 pub fn count_byte(n: u32) -> u8
     ensures { result ≡ count_byte n }
 {
@@ -40,154 +39,109 @@ pub fn count_byte(n: u32) -> u8
 fn is_longer(s: &[u8]) -> bool
     ensures { result ≡ ltb (cycle_length s.now) (length s.now) }
 {
-    if s.len() < 36 {
-        return false;
-    }
-    table_records::cycle_length(s) < s.len()
+    CycleRecord::read(s).is_some_and(|cycle| cycle.length() < s.len())
 }
 
-// Whether every entry gathered is in its place, in a quiet press or in one that votes in every cycle.
-fn is_ordered(quiet: bool, g: Gathered) -> bool
-    ensures { result ≡ ordered quiet g }
+// Refusals 1 to 4 of a single cycle, or the cluster in its mode and the states of its row: in a press that votes in every cycle nobody is asking.
+fn check_row(n: u32, mode: u32, len: usize, gathered: Option<States>, s: &[u8]) -> Result<(Config, States), Refusal>
+    ensures refused { status_of result ≡ row_status n mode len (ordered (quiet_in mode) gathered) s.now }
+    ensures row { IfOk result (λ found. (found.0 ≡ in_mode mode n) × (gathered ≡ Some found.1)) }
 {
-    let asking = g.states.asking;
-    g.good & (quiet | (asking == 0))
-}
-
-// Refusals 1 to 4 of a single cycle.
-fn row_status(n: u32, mode: u32, len: usize, good: bool, s: &[u8]) -> u32
-    ensures { result ≡ row_status n mode len good s.now }
-{
-    if n < 2 {
-        return 1;
+    if n < 2 || n > 64 {
+        return Err(Refusal::NodeCount);
     }
-    if 64 < n {
-        return 1;
+    let quiet = rule_steps::check_mode(mode)?;
+    let nodes = n as usize;
+    if len != nodes || is_longer(s) {
+        return Err(Refusal::Length);
     }
-    if rule_steps::wrong_mode(mode) {
-        return 2;
+    let states = gathered.ok_or(Refusal::Image)?;
+    if !quiet && states.roles.asking != 0 {
+        return Err(Refusal::Image);
     }
-    if len != n as usize {
-        return 3;
-    }
-    if is_longer(s) {
-        return 3;
-    }
-    if good { 0 } else { 4 }
-}
-
-// The entries of a row that a run takes: none where frames are asked for and the buffer lent for them has another length than theirs.
-fn lent_entries(framed: bool, room: usize, len: usize) -> usize
-    ensures { result ≡ lent_entries framed room len }
-{
-    if framed {
-        if room == FRAMES { len } else { 0 }
-    } else {
-        len
-    }
-}
-
-// The states after the cycles of accepted records, from those at the start.
-fn run(framed: bool, config: Config, start: States, s: &[u8], frames: &mut [u8]) -> States
-    requires nodes_bound { (config.nodes ≤ 64) × ((cycles_in (length s.now) config.nodes 1 s.now).refusal ≡ 0) }
-    requires frames_len { framed ≡ true → length frames.old ≡ frames_length }
-    requires by_index { (q : ℕ) → q < config.nodes → formed_state config.quiet q config.nodes (state_at start q) ≡ true }
-    ensures result_value { row_of config.nodes result ≡ row_after config (row_of config.nodes start) (cycles_in (length s.now) config.nodes 1 s.now).whole }
-    ensures frames_after { frames.new ≡ cond framed (frames_after config 1 (row_of config.nodes start) (cycles_in (length s.now) config.nodes 1 s.now).whole frames.old) frames.old }
-{
-    if framed {
-        run_framed::run_framed(config, start, s, frames)
-    } else {
-        run_plain::run_plain(config, start, s)
-    }
-}
-
-fn refused(status: u32, states: States) -> Outcome
-    ensures { (result.status ≡ status) × (result.nodes ≡ 0) × (result.states ≡ states) }
-{
-    Outcome {
-        status,
-        nodes: 0,
-        states,
-    }
+    Ok((Config { nodes, quiet }, states))
 }
 
 // A single cycle on the row as it is lent.
-fn cycle_answer(n: u32, mode: u32, len: usize, g: Gathered, s: &[u8]) -> Outcome
-    ensures answered { (nodes : List Node) → GatheredFrom n g len nodes → result.status ≡ cycle_status n mode nodes s.now }
-    ensures left { (nodes : List Node) → GatheredFrom n g len nodes → result.status ≡ 0 → Leaves result.nodes result.states len (cycle_left n mode nodes s.now) }
-    ensures as_lent { AsLent result.status result.nodes result.states g.states }
+fn cycle_answer(n: u32, mode: u32, len: usize, gathered: Option<States>, s: &[u8]) -> Result<Left, Refusal>
+    ensures answered { (nodes : List Node) → GatheredFrom n gathered len nodes → status_of result ≡ cycle_status n mode nodes s.now }
+    ensures left { (nodes : List Node) → GatheredFrom n gathered len nodes → IfOk result (λ l. Leaves l.nodes l.states len (cycle_left n mode nodes s.now)) }
 {
-    let quiet = rule_steps::is_quiet(mode);
-    let status = row_status(n, mode, len, is_ordered(quiet, g), s);
-    if status != 0 {
-        return refused(status, g.states);
-    }
-    let nodes = n as usize;
-    let config = Config { nodes, quiet };
-    let refusal = table_records::cycle_refusal(config.nodes, 1, s);
-    if refusal != 0 {
-        return refused(refusal, g.states);
-    }
-    Outcome {
-        status: 0,
-        nodes: n as u8,
-        states: cluster_cycle::cycle(config, g.states, table_faults::cycle_faults(s)),
-    }
+    let (config, states) = check_row(n, mode, len, gathered, s)?;
+    let cycle = table_records::check_cycle(config.nodes, 1, s)?;
+    Ok(Left {
+        nodes: config.nodes as u8,
+        states: cluster_cycle::cycle(config, states, table_faults::cycle_faults(cycle)),
+    })
 }
 
-// A table's run, from the beginning. The whole table is looked at before anything is set.
-fn run_answer(
-    framed: bool,
-    mode: u32,
-    len: usize,
-    lent: States,
-    s: &[u8],
-    frames: &mut [u8],
-) -> Outcome
-    ensures answered { result.status ≡ ran_status framed mode (length frames.old) len s.now }
-    ensures left { result.status ≡ 0 → Leaves result.nodes result.states len (ran_to mode (table_of true len s.now)) }
-    ensures shown { frames.new ≡ cond framed (frames_left mode len s.now frames.old) frames.old }
-    ensures as_lent { AsLent result.status result.nodes result.states lent }
+// A table's run before its first cycle: the cluster in its mode, and the states of its nodes.
+#[derive(Clone, Copy)]
+struct Beginning {
+    config: Config,
+    states: States,
+}
+
+// The beginning of a run on a row of so many entries. The whole table is looked at before anything is set.
+fn begin(mode: u32, entries: usize, s: &[u8]) -> Result<Beginning, Refusal>
+    ensures refused { status_of result ≡ ran_status mode entries s.now }
+    ensures begun { IfOk result (λ b. BeginsTable mode s.now b.config b.states) }
 {
-    if rule_steps::wrong_mode(mode) {
-        return refused(2, lent);
-    }
-    let refusal = table_records::table_refusal(true, lent_entries(framed, frames.len(), len), s);
-    if refusal != 0 {
-        return refused(refusal, lent);
-    }
-    let n = table_first::start_count(s);
-    let nodes = n as usize;
-    let begun = cluster_states::begin(nodes, table_first::start_founding(s));
-    let quiet = rule_steps::is_quiet(mode);
-    Outcome {
-        status: 0,
-        nodes: n,
-        states: run(framed, Config { nodes, quiet }, begun, &s[12..], frames),
-    }
+    let quiet = rule_steps::check_mode(mode)?;
+    let start = table_records::check_table(Some(entries), s)?;
+    let nodes = usize::from(start.nodes);
+    Ok(Beginning {
+        config: Config { nodes, quiet },
+        states: cluster_states::begin(nodes, start.founding),
+    })
+}
+
+// A table's run, from the beginning, on the fault table alone.
+fn run_answer(mode: u32, len: usize, s: &[u8]) -> Result<Left, Refusal>
+    ensures answered { status_of result ≡ ran_status mode len s.now }
+    ensures left { IfOk result (λ l. Leaves l.nodes l.states len (ran_to mode (table_of true len s.now))) }
+{
+    let Beginning { config, states } = begin(mode, len, s)?;
+    Ok(Left {
+        nodes: config.nodes as u8,
+        states: run_plain::run_plain(config, states, &s[Start::LENGTH..]),
+    })
+}
+
+// The same through frames. Where the buffer lent for them has another length than theirs, no row fits.
+fn framed_answer(mode: u32, len: usize, s: &[u8], frames: &mut [u8]) -> Result<Left, Refusal>
+    ensures answered { status_of result ≡ ran_status mode (framed_entries (length frames.old) len) s.now }
+    ensures left { IfOk result (λ l. Leaves l.nodes l.states len (ran_to mode (table_of true len s.now))) }
+    ensures shown { frames.new ≡ frames_left mode len s.now frames.old }
+{
+    let entries = if frames.len() == FRAMES { len } else { 0 };
+    let Beginning { config, states } = begin(mode, entries, s)?;
+    Ok(Left {
+        nodes: config.nodes as u8,
+        states: run_framed::run_framed(config, states, &s[Start::LENGTH..], frames),
+    })
 }
 
 // What a call answers on what was gathered of a row of so many entries. `frames` shows those of the last cycle of a run through frames afterwards.
-// Free: what the row left does not show, and the status and what is left where g was gathered from no such row.
+// By the task, which C's calls and the definitions of what a call answers name (`call_status`): no caller has a step of its own to hand in.
+// Free: what the row left does not show, and the status and what is left where `gathered` is of no such row.
 pub fn answer(
     task: Task,
     n: u32,
     mode: u32,
     len: usize,
-    g: Gathered,
+    gathered: Option<States>,
     s: &[u8],
     frames: &mut [u8],
-) -> Outcome
-    ensures answered { (nodes : List Node) → GatheredFrom n g len nodes → result.status ≡ call_status task n mode nodes (length frames.old) s.now }
-    ensures left { (nodes : List Node) → GatheredFrom n g len nodes → result.status ≡ 0 → Leaves result.nodes result.states len (call_left task n mode nodes (length frames.old) s.now) }
+) -> Result<Left, Refusal>
+    ensures answered { (nodes : List Node) → GatheredFrom n gathered len nodes → status_of result ≡ call_status task n mode nodes (length frames.old) s.now }
+    ensures left { (nodes : List Node) → GatheredFrom n gathered len nodes → IfOk result (λ l. Leaves l.nodes l.states len (call_left task n mode nodes (length frames.old) s.now)) }
     ensures shown { frames.new ≡ call_frames task mode len s.now frames.old }
-    ensures as_lent { AsLent result.status result.nodes result.states g.states }
 {
     match task {
-        Task::Cycle => cycle_answer(n, mode, len, g, s),
-        Task::Run => run_answer(false, mode, len, g.states, s, frames),
-        Task::FramedRun => run_answer(true, mode, len, g.states, s, frames),
+        Task::Cycle => cycle_answer(n, mode, len, gathered, s),
+        Task::Run => run_answer(mode, len, s),
+        Task::FramedRun => framed_answer(mode, len, s, frames),
     }
 }
 
@@ -197,13 +151,12 @@ pub fn answer_without_frames(
     n: u32,
     mode: u32,
     len: usize,
-    g: Gathered,
+    gathered: Option<States>,
     s: &[u8],
-) -> Outcome
-    ensures answered { (nodes : List Node) → GatheredFrom n g len nodes → result.status ≡ call_status task n mode nodes frames_length s.now }
-    ensures left { (nodes : List Node) → GatheredFrom n g len nodes → result.status ≡ 0 → Leaves result.nodes result.states len (call_left task n mode nodes frames_length s.now) }
-    ensures as_lent { AsLent result.status result.nodes result.states g.states }
+) -> Result<Left, Refusal>
+    ensures answered { (nodes : List Node) → GatheredFrom n gathered len nodes → status_of result ≡ call_status task n mode nodes frames_length s.now }
+    ensures left { (nodes : List Node) → GatheredFrom n gathered len nodes → IfOk result (λ l. Leaves l.nodes l.states len (call_left task n mode nodes frames_length s.now)) }
 {
     let mut frames = [0u8; FRAMES];
-    answer(task, n, mode, len, g, s, &mut frames)
+    answer(task, n, mode, len, gathered, s, &mut frames)
 }
