@@ -29,6 +29,7 @@ pub struct Left {
 }
 
 // N as the entries of a row hold it; 0, which no entry holds, for a number that no cluster has.
+#[tactic(auto, unfolding(crate::specs::Answered::count_byte))]
 pub fn count_byte(n: u32) -> u8
     ensures { result ≡ count_byte n }
 {
@@ -43,9 +44,10 @@ fn is_longer(s: &[u8]) -> bool
 }
 
 // Refusals 1 to 4 of a single cycle, or the cluster in its mode and the states of its row: in a press that votes in every cycle nobody is asking.
+#[tactic(auto, unfolding(row_calls::specs::Calls::row_status, refusal::specs::Refusal::first))]
 fn check_row(n: u32, mode: u32, len: usize, gathered: Option<States>, s: &[u8]) -> Result<(Config, States), Refusal>
     ensures refused { status_of result ≡ row_status n mode len (ordered (quiet_in mode) gathered) s.now }
-    ensures row { IfOk result (λ found. (found.0 ≡ in_mode mode n) × (gathered ≡ Some found.1)) }
+    ensures row { IfOk result (λ found. (found.0 ≡ in_mode mode n) × (found.0.nodes ≡ n) × (n ≤ 64) × (gathered ≡ Some found.1)) }
 {
     if n < 2 || n > 64 {
         return Err(Refusal::NodeCount);
@@ -101,10 +103,10 @@ fn run_answer(mode: u32, len: usize, s: &[u8]) -> Result<Left, Refusal>
     ensures answered { status_of result ≡ ran_status mode len s.now }
     ensures left { IfOk result (λ l. Leaves l.nodes l.states len (ran_to mode (table_of true len s.now))) }
 {
-    let Beginning { config, states } = begin(mode, len, s)?;
+    let begun = begin(mode, len, s)?;
     Ok(Left {
-        nodes: config.nodes as u8,
-        states: run_plain::run_plain(config, states, &s[Start::LENGTH..]),
+        nodes: begun.config.nodes as u8,
+        states: run_plain::run_plain(begun.config, begun.states, &s[Start::LENGTH..]),
     })
 }
 
@@ -115,10 +117,10 @@ fn framed_answer(mode: u32, len: usize, s: &[u8], frames: &mut [u8]) -> Result<L
     ensures shown { frames.new ≡ frames_left mode len s.now frames.old }
 {
     let entries = if frames.len() == FRAMES { len } else { 0 };
-    let Beginning { config, states } = begin(mode, entries, s)?;
+    let begun = begin(mode, entries, s)?;
     Ok(Left {
-        nodes: config.nodes as u8,
-        states: run_framed::run_framed(config, states, &s[Start::LENGTH..], frames),
+        nodes: begun.config.nodes as u8,
+        states: run_framed::run_framed(begun.config, begun.states, &s[Start::LENGTH..], frames),
     })
 }
 
