@@ -8,7 +8,7 @@ ghost use Rattle.rules.specs.Ballots.{vote_at};
 ghost use Rattle.frames.specs.Written.{formed_vote};
 ghost use Rattle.entry_slots.specs.Slots.{slot_vote, vote_if, counted_vote, arrived_in, buffer_ballots};
 
-use rules::Vote;
+use rules::{Groups, Vote};
 use state::Group;
 
 // The vote in slot p of the buffer.
@@ -32,13 +32,7 @@ fn has_arrived(n: usize, q: usize, v: Vote, arrived: u64, p: usize) -> bool
     requires { (n ≤ 64) × (p < 64) }
     ensures { result ≡ (not (eqb p q) && has p arrived && formed_vote n p v) }
 {
-    if p == q {
-        return false;
-    }
-    if !sets::contains(arrived, p) {
-        return false;
-    }
-    frame_reading::formed_vote(n, p, v)
+    p != q && sets::contains(arrived, p) && frame_reading::formed_vote(n, p, v)
 }
 
 // The vote v, or zeros: what a host left in a slot that holds no vote is not looked at.
@@ -59,36 +53,29 @@ fn vote_if(yes: bool, v: Vote) -> Vote
     }
 }
 
-// Reads the votes that count into four arrays, and gives their nodes. One pass, since this is most of such a decision's work. Free: the
-// places of the arrays from n on.
+// Reads the votes that count into their slots, and gives their nodes. One pass, since this is most of such a decision's work. Free: the
+// slots from n on.
 pub fn read_votes(
     n: usize,
     q: usize,
     votes: &[u8],
     arrived: u64,
-    numbers: &mut [u32; 64],
-    sets: &mut [u64; 64],
-    bases: &mut [u64; 64],
+    groups: &mut Groups,
     views: &mut [u64; 64],
 ) -> u64
     requires n_bound { (n ≤ 64) × (length votes.now ≡ 1792) }
-    requires numbers_len { (length numbers.old ≡ 64) × (length sets.old ≡ 64) × (length bases.old ≡ 64) × (length views.old ≡ 64) }
+    requires groups_len { (length groups.old.numbers ≡ 64) × (length groups.old.sets ≡ 64) × (length groups.old.bases ≡ 64) × (length views.old ≡ 64) }
     ensures value { result ≡ arrived_in n q votes.now arrived }
-    ensures by_index { (p : ℕ) → p < n → vote_at numbers.new sets.new bases.new views.new p ≡ counted_vote n q votes.now arrived p }
+    ensures by_index { (p : ℕ) → p < n → vote_at groups.new.numbers groups.new.sets groups.new.bases views.new p ≡ counted_vote n q votes.now arrived p }
 {
     let mut m: u64 = 0;
-    let mut p: usize = 0;
-    while p < n {
+    for p in 0..n {
         let w = slot_vote(votes, p);
         let counts = has_arrived(n, q, w, arrived, p);
         let v = vote_if(counts, w);
-        let g = v.group;
-        numbers[p] = g.number;
-        sets[p] = g.set;
-        bases[p] = g.base;
+        groups.put(p, v.group);
         views[p] = v.view;
         m = sets::include(m, p, counts);
-        p += 1;
     }
     m
 }
@@ -103,11 +90,7 @@ fn holds(n: usize, q: usize, votes: &[u8], arrived: u64, v: Vote, p: usize) -> b
         return false;
     }
     let w = slot_vote(votes, p);
-    if frame_reading::same_vote(v, w) {
-        has_arrived(n, q, w, arrived, p)
-    } else {
-        false
-    }
+    v == w && has_arrived(n, q, w, arrived, p)
 }
 
 // The nodes whose vote counts and is v, straight from the buffer.
@@ -116,10 +99,8 @@ pub fn equal_votes(n: usize, q: usize, votes: &[u8], arrived: u64, v: Vote) -> u
     ensures { result ≡ those n (λ p. is v (buffer_ballots n q votes.now arrived p)) }
 {
     let mut m: u64 = 0;
-    let mut p: usize = 0;
-    while p < n {
+    for p in 0..n {
         m = sets::include(m, p, holds(n, q, votes, arrived, v, p));
-        p += 1;
     }
     m
 }

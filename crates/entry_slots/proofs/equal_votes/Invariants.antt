@@ -1,12 +1,8 @@
 use mathlib.Core.Path.{◌≡◌}
-use Prim.Native.Nat.{◌-◌, ◌≤◌}
 use Rattle.sets.specs.Sets.{those}
 use Rattle.rules.specs.OneCycle.{is}
 use Rattle.entry_slots.specs.Slots.{buffer_ballots}
 use Rattle.entry_slots.proofs.equal_votes.Given as goal
 
 abbrev pub invariant-loop-p : goal.invariant-loop-p
-invariant-loop-p l = (l.p ≤ l.n) × (l.m ≡ those l.p (λ x. is l.v (buffer_ballots l.n l.q l.votes l.arrived x)))
-
-abbrev pub decreases-loop-p : goal.decreases-loop-p
-decreases-loop-p l = l.n - l.p
+invariant-loop-p l = l.m ≡ those l.p (λ x. is l.v (buffer_ballots l.n l.q l.votes l.arrived x))

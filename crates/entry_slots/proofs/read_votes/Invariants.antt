@@ -1,5 +1,5 @@
 use mathlib.Core.Path.{◌≡◌}
-use Prim.Native.Nat.{ℕ, ◌-◌, ◌≤◌, ◌<◌}
+use Prim.Native.Nat.{ℕ, ◌<◌}
 use lib.ListN.{length}
 use Rattle.sets.specs.Sets.{those}
 use Rattle.rules.specs.Ballots.{vote_at}
@@ -9,13 +9,9 @@ use Rattle.entry_slots.proofs.read_votes.Given as goal
 
 abbrev pub invariant-loop-p : goal.invariant-loop-p
 invariant-loop-p l =
-    (l.p ≤ l.n)
-    × (length l.numbers ≡ 64)
-    × (length l.sets ≡ 64)
-    × (length l.bases ≡ 64)
+    (length l.groups.numbers ≡ 64)
+    × (length l.groups.sets ≡ 64)
+    × (length l.groups.bases ≡ 64)
     × (length l.views ≡ 64)
     × (l.m ≡ those l.p (λ x. counts l.n l.q l.arrived x (slot_vote l.votes x)))
-    × ((i : ℕ) → i < l.p → vote_at l.numbers l.sets l.bases l.views i ≡ counted_vote l.n l.q l.votes l.arrived i)
-
-abbrev pub decreases-loop-p : goal.decreases-loop-p
-decreases-loop-p l = l.n - l.p
+    × ((i : ℕ) → i < l.p → vote_at l.groups.numbers l.groups.sets l.groups.bases l.views i ≡ counted_vote l.n l.q l.votes l.arrived i)
