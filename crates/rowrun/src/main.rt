@@ -1,164 +1,102 @@
 // A program that makes the calls of its input on a lent row of node structs, and prints each unit's state after each call.
 #![tactic(auto)]
 
-ghost use Rattle.std.specs.Prelude.{◌≡◌, ◌++◌, ◌+◌, ◌≤◌, ◌<◌, length, take, drop};
+ghost use Rattle.std.specs.Prelude.{◌≡◌, ◌++◌, ◌≤◌, length, take, drop};
+ghost use Rattle.refusal.specs.Codes.{status_of};
 ghost use Rattle.bus_units.specs.Run.{frames_length};
 ghost use Rattle.row_calls.specs.Calls.{call_status, call_left};
 
+use refusal::Refusal;
 use row_calls::Task;
-use state::{Group, Node, Reason, State};
+use state::{Node, Reason, State};
+use std::fmt;
 use std::io;
 use std::io::Read;
 
-// Before the bytes of a call stand its task, N, the mode, how many entries of the row are lent, and the length in two bytes.
+// The bytes before those of a call.
 const HEAD: usize = 6;
 
+// The entries of the row.
+const ROW: usize = 9;
+
+// What stands before the bytes of a call: its task, N, the mode, how many entries of the row are lent, and how many bytes follow.
 #[derive(Clone, Copy)]
-pub struct Head {
-    pub task: Task,
-    pub nodes: u32,
-    pub mode: u32,
-    pub entries: usize,
-    pub length: u32,
+struct Head {
+    task: Task,
+    nodes: u32,
+    mode: u32,
+    entries: usize,
+    length: usize,
+    ghost within: { entries ≤ 9 },
 }
 
-// What a call answered, and the row that it left.
+impl From<[u8; HEAD]> for Head {
+    fn from(bytes: [u8; HEAD]) -> Head {
+        let [task, nodes, mode, entries, high, low] = bytes;
+        Head {
+            task: match task {
+                0 => Task::Cycle,
+                1 => Task::Run,
+                _ => Task::FramedRun,
+            },
+            nodes: u32::from(nodes),
+            mode: u32::from(mode),
+            entries: usize::from(entries).min(ROW),
+            length: usize::from(u16::from_be_bytes([high, low])),
+        }
+    }
+}
+
+// A unit as a line shows it: its number, N and its state.
 #[derive(Clone, Copy)]
-pub struct Called {
-    pub status: u32,
-    pub row: [Node; 9],
+struct Shown(Node);
+
+impl fmt::Display for Shown {
+    fn fmt<W: fmt::Write>(&self, f: &mut fmt::Formatter<W>) -> fmt::Result {
+        let node = self.0;
+        write!(f, "{} of {} ", node.id, node.nodes)?;
+        match node.state {
+            State::Out(Reason::Stopped) => f.write_str("out, stopped"),
+            State::Out(Reason::NoQuorum) => f.write_str("out, no quorum"),
+            State::Out(Reason::Outvoted) => f.write_str("out, outvoted"),
+            State::Joining => f.write_str("joining"),
+            State::Member(group, requests) => {
+                let asks = if requests { " requests" } else { "" };
+                write!(f, "member {} {:016x} {:016x}{asks}", group.number, group.set, group.base)
+            }
+        }
+    }
 }
 
-// A call on the first k entries of the row: the one place that lends them.
-fn lend(task: Task, n: u32, mode: u32, mut row: [Node; 9], k: usize, bytes: &[u8]) -> Called
-    requires { k ≤ 9 }
-    ensures status_value { result.status ≡ call_status task n mode (take k row) frames_length bytes.now }
-    ensures row_value { result.row ≡ call_left task n mode (take k row) frames_length bytes.now ++ drop k row }
+// A call on the first entries of the row: the one place that lends them.
+fn lend(head: Head, row: &mut [Node; ROW], bytes: &[u8]) -> Result<(), Refusal>
+    ensures status_value { status_of result ≡ call_status head.task head.nodes head.mode (take head.entries row.old) frames_length bytes.now }
+    ensures row_value { row.new ≡ call_left head.task head.nodes head.mode (take head.entries row.old) frames_length bytes.now ++ drop head.entries row.old }
 {
-    let status = row_press::call(task, n, mode, &mut row[..k], bytes);
-    Called { status, row }
-}
-
-fn words(rt: HostRuntime, text: &str) -> io::Result<()> {
-    rt.print(text)
-}
-
-fn show_reason(rt: HostRuntime, r: Reason) -> io::Result<()> {
-    match r {
-        Reason::Stopped => words(rt, " out, stopped\n"),
-        Reason::NoQuorum => words(rt, " out, no quorum\n"),
-        Reason::Outvoted => words(rt, " out, outvoted\n"),
-    }
-}
-
-// A group, and whether its member requests.
-fn show_group(rt: HostRuntime, g: Group, requests: bool) -> io::Result<()> {
-    print!(rt; " member {} {:016x} {:016x}", g.number, g.set, g.base)?;
-    if requests {
-        words(rt, " requests")?;
-    }
-    words(rt, "\n")
-}
-
-// A unit's number, N and state, on a line.
-fn show_node(rt: HostRuntime, x: Node) -> io::Result<()> {
-    print!(rt; "{} of {}", x.id, x.nodes)?;
-    match x.state {
-        State::Out(r) => show_reason(rt, r),
-        State::Joining => words(rt, " joining\n"),
-        State::Member(g, a) => show_group(rt, g, a),
-    }
-}
-
-fn show_status(rt: HostRuntime, status: u32) -> io::Result<()> {
-    println!(rt; "status {status}")
-}
-
-// The first k entries.
-fn show_row(rt: HostRuntime, row: [Node; 9], k: usize) -> io::Result<()>
-    requires { k ≤ 9 }
-{
-    for x in &row[..k] {
-        show_node(rt, *x)?;
-    }
-    Ok(())
-}
-
-fn task_of(code: u8) -> Task {
-    match code {
-        0 => Task::Cycle,
-        1 => Task::Run,
-        _ => Task::FramedRun,
-    }
-}
-
-// As many entries as are asked for, of those that there are.
-fn entries(asked: u8) -> usize
-    ensures { result ≤ 9 }
-{
-    if asked < 9 { asked as usize } else { 9 }
-}
-
-fn wide(x: u8) -> u32
-    ensures { result < 256 }
-{
-    x as u32
-}
-
-// What a row holds before its first call.
-fn nobody() -> Node {
-    Node {
-        state: State::Out(Reason::Stopped),
-        id: 0,
-        nodes: 0,
-    }
-}
-
-// What stands before the bytes of the call at a place.
-fn head_at(input: &[u8], at: usize) -> Head
-    requires { at + 6 ≤ length input.now }
-    ensures { (result.entries ≤ 9) × (result.length < 65536) }
-{
-    Head {
-        task: task_of(input[at]),
-        nodes: wide(input[at + 1]),
-        mode: wide(input[at + 2]),
-        entries: entries(input[at + 3]),
-        length: wide(input[at + 4]) * 256 + wide(input[at + 5]),
-    }
+    row_press::call(head.task, head.nodes, head.mode, &mut row[..head.entries], bytes)
 }
 
 // Every whole call in turn, each on the row that the one before left.
-fn calls(rt: HostRuntime, input: &[u8], end: usize) -> io::Result<()>
-    requires { end ≤ length input.now }
-{
-    let mut row = [nobody(); 9];
-    let mut at: usize = 0;
-    while HEAD <= end - at {
-        let head = head_at(input, at);
-        let from = at + HEAD;
-        let len = head.length as usize;
-        let task = head.task;
-        if end - from < len {
+fn calls(rt: HostRuntime, input: &[u8]) -> io::Result<()> {
+    let mut row = [row::NOBODY; ROW];
+    let mut rest = input;
+    while let Some((bytes, after)) = rest.split_first_chunk::<HEAD>() {
+        let head = Head::from(*bytes);
+        let Some((bytes, next)) = after.split_at_checked(head.length) else {
             return Ok(());
+        };
+        let result = lend(head, &mut row, bytes);
+        println!(rt; "status {}", refusal::status(result))?;
+        for node in &row[..head.entries] {
+            println!(rt; "{}", Shown(*node))?;
         }
-        at = from + len;
-        let called = lend(
-            task,
-            head.nodes,
-            head.mode,
-            row,
-            head.entries,
-            &input[from..at],
-        );
-        row = called.row;
-        show_status(rt, called.status)?;
-        show_row(rt, row, head.entries)?;
+        rest = next;
     }
     Ok(())
 }
 
 // Reads until the buffer is full, the input ends or a read fails, and returns how many bytes it put at the start.
+// No method of `Read` does that: `read_exact` and `read_to_end` lose how many bytes came before a failed read.
 fn read_full(rt: HostRuntime, input: &mut [u8]) -> usize
     ensures { result ≤ length input.new }
 {
@@ -176,5 +114,5 @@ fn read_full(rt: HostRuntime, input: &mut [u8]) -> usize
 fn main(rt: HostRuntime) -> io::Result<()> {
     let mut input = [0u8; 4096];
     let end = read_full(rt, &mut input);
-    calls(rt, &input, end)
+    calls(rt, &input[..end])
 }

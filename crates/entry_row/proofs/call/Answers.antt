@@ -1,8 +1,6 @@
 use Rattle.entry_row.specs.OnImages.{images_status, images_left}
 use Rattle.entry_row.proofs.call.Goals as goal
 
-pub call_with-requires : goal.call_with-requires
-call_with-requires c = tt
 
 pub returns : goal.returns
 unfolding images_status images_left
