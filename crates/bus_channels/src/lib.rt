@@ -4,7 +4,7 @@
 ghost use Rattle.std.specs.Prelude.{◌≡◌, true, false, cond, List, ℕ, ◌<◌, ◌≤◌, length, get_or};
 ghost use Rattle.std.proofs.Math.Option.{Option};
 ghost use Rattle.sets.specs.Sets.{has, single, ◌∪◌, ◌∩◌, ◌∖◌};
-ghost use Rattle.frames.specs.Written.{wrong_request, heartbeat_frame, run_drive};
+ghost use Rattle.frames.specs.Written.{bit, wrong_request, heartbeat_frame, run_drive};
 ghost use Rattle.bus_units.specs.Units.{is_alive, is_join, is_request};
 ghost use Rattle.bus_units.specs.Run.{frames_length};
 ghost use Rattle.parts.specs.Parts.{with_part};
@@ -12,7 +12,7 @@ ghost use Rattle.cluster_states.specs.Decided.{view_at, voting_of};
 ghost use Rattle.bus_channels.specs.Channels.{with_sent, channel_of, copy_of, heartbeat_put, heartbeat_read, heard_read, view_read, voting_read};
 
 use cluster_states::Roles;
-use frames::Heartbeat;
+use frames::{Bits, Heartbeat, Slot};
 use rules::{Config, Heard};
 
 // What stands on both channels in one half of the cycle with this count: a slot of 36 bytes for each node.
@@ -52,34 +52,44 @@ pub fn copy_of(channel: &[u8; 2304], k: usize, reach: u64, p: usize) -> &[u8]
 }
 
 // A heartbeat of a run: sync and startup 0, and no drive bytes.
-fn run_heartbeat(q: usize, join: u32, request: u32, count: u32, channel: u32) -> [u8; 10]
-    requires { (q < 64) × ((join < 2) × ((request < 2) × (count < 64))) }
-    ensures { result ≡ heartbeat_frame q join request 0 0 count channel run_drive }
+fn run_heartbeat(slot: Slot, join: bool, request: bool) -> [u8; 10]
+    ensures { result ≡ heartbeat_frame slot.node (bit join) (bit request) 0 0 slot.cycle slot.channel run_drive }
 {
+    let bits = Bits {
+        join,
+        request,
+        sync: false,
+        startup: false,
+    };
     let none = [0u8; 0];
-    let mut f = [0u8; 10];
-    frame_writing::write_heartbeat(q as u32, join, request, 0, 0, count, channel, &none, &mut f);
-    f
+    let mut frame = [0; 10];
+    frame_writing::write_heartbeat(slot, bits, &none, &mut frame);
+    frame
 }
 
 // Rule 2: the heartbeat of node q, if it sends one.
-fn put_heartbeat(all: &mut [u8; 2304], w: Roles, count: u32, channel: u32, q: usize)
-    requires { (q < 64) × (count < 64) }
-    ensures { all.new ≡ with_sent q (heartbeat_put w count channel q) all.old }
+fn put_heartbeat(all: &mut [u8; 2304], w: Roles, cycle: u32, channel: u32, q: usize)
+    requires { (q < 64) × (cycle < 64) }
+    ensures { all.new ≡ with_sent q (heartbeat_put w cycle channel q) all.old }
 {
+    let slot = Slot {
+        node: q as u32,
+        cycle,
+        channel,
+    };
     if sets::contains(w.members, q) {
-        let request = u32::from(sets::contains(w.asking, q));
-        parts::put(all, 36 * q, &run_heartbeat(q, 0, request, count, channel));
+        let request = sets::contains(w.asking, q);
+        parts::put(all, 36 * q, &run_heartbeat(slot, false, request));
     } else if sets::contains(w.joining, q) {
-        parts::put(all, 36 * q, &run_heartbeat(q, 1, 0, count, channel));
+        parts::put(all, 36 * q, &run_heartbeat(slot, true, false));
     }
 }
 
-fn heartbeats(n: usize, w: Roles, count: u32, channel: u32) -> [u8; 2304]
-    requires { (n ≤ 64) × (count < 64) }
-    ensures { result ≡ channel_of n (heartbeat_put w count channel) }
+fn heartbeats(n: usize, w: Roles, cycle: u32, channel: u32) -> [u8; 2304]
+    requires { (n ≤ 64) × (cycle < 64) }
+    ensures { result ≡ channel_of n (heartbeat_put w cycle channel) }
 {
-    filled(n, |all, q| put_heartbeat(all, w, count, channel, q))
+    filled(n, |all, q| put_heartbeat(all, w, cycle, channel, q))
 }
 
 // What a unit receives of the heartbeat of node p.
@@ -185,6 +195,10 @@ pub fn heartbeat_phase(
     parts::put(frames, 0, &a);
     parts::put(frames, 2304, &b);
     let sent = sets::difference(sets::union(w.members, w.joining), lost);
-    let bus = Channels { a: &a, b: &b, count };
+    let bus = Channels {
+        a: &a,
+        b: &b,
+        count,
+    };
     views_of(config, bus, w, sent, missed, sets)
 }

@@ -6,6 +6,7 @@ ghost use Rattle.rules.specs.Ballots.{ballots_of};
 ghost use Rattle.bus_channels.specs.Channels.{with_sent, channel_of, vote_put, vote_read, ballots_read};
 
 use bus_channels::Channels;
+use frames::Slot;
 use rules::{Groups, Vote};
 
 // The votes that a unit received, a slot for each sender, and the mask of the slots that hold one.
@@ -22,16 +23,21 @@ fn put_vote(
     groups: &Groups,
     views: &[u64; 64],
     voting: u64,
-    count: u32,
+    cycle: u32,
     channel: u32,
     q: usize,
 )
-    requires { (q < 64) × (count < 64) }
-    ensures { all.new ≡ with_sent q (vote_put groups.now.numbers groups.now.sets groups.now.bases views.now voting count channel q) all.old }
+    requires { (q < 64) × (cycle < 64) }
+    ensures { all.new ≡ with_sent q (vote_put groups.now.numbers groups.now.sets groups.now.bases views.now voting cycle channel q) all.old }
 {
+    let slot = Slot {
+        node: q as u32,
+        cycle,
+        channel,
+    };
     if sets::contains(voting, q) {
         let vote = rule_steps::vote_at(groups, views, q);
-        parts::put(all, 36 * q, &frame_writing::write_vote(q as u32, vote, count, channel));
+        parts::put(all, 36 * q, &frame_writing::write_vote(slot, vote));
     }
 }
 
@@ -40,13 +46,15 @@ pub fn votes(
     groups: &Groups,
     views: &[u64; 64],
     voting: u64,
-    count: u32,
+    cycle: u32,
     channel: u32,
 ) -> [u8; 2304]
-    requires { (n ≤ 64) × (count < 64) }
-    ensures { result ≡ channel_of n (vote_put groups.now.numbers groups.now.sets groups.now.bases views.now voting count channel) }
+    requires { (n ≤ 64) × (cycle < 64) }
+    ensures { result ≡ channel_of n (vote_put groups.now.numbers groups.now.sets groups.now.bases views.now voting cycle channel) }
 {
-    bus_channels::filled(n, |all, q| put_vote(all, groups, views, voting, count, channel, q))
+    bus_channels::filled(n, |all, q| {
+        put_vote(all, groups, views, voting, cycle, channel, q);
+    })
 }
 
 // What a unit receives of the vote of node p.

@@ -42,7 +42,7 @@ loop-q-preserved c =
     let h = c.hear-heard in
     let shown = seen a.config bus.count reach set l.q _ _ _ h.result.requests _ bus.a.now bus.b.now c.difference.ensures h.ensures.members_value h.ensures.joining_value c.view-view.ensures in
     let voted = votes a.config bus.count reach set l.q _ _ _ h.result.requests _ bus.a.now bus.b.now c.difference.ensures h.ensures.members_value h.ensures.joining_value c.view-view.ensures
-        a.w.asking _ _ h.ensures.requests_value c.contains-own.ensures c.will_vote-votes.ensures in
+    a.w.asking _ _ h.ensures.requests_value c.contains-own.ensures c.will_vote-votes.ensures in
     record {
       long = simp length-set l.invariant.long;
       seen = stored (λ j y. y ≡ view_read a.config bus.count (a.sent ∖ get_or a.missed.now j 0) bus.a.now bus.b.now (get_or a.sets.now j 0) j) l.views l.q c.view-view.result (omega arith) l.invariant.seen shown;
