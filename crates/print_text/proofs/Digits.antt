@@ -2,11 +2,11 @@
 use mathlib.Core.Path.{◌≡◌, refl, sym, ap, ap₂, ◌∙◌, subst}
 use mathlib.Core.Bool.{Bool, true, false, cond}
 use mathlib.Core.List.{List, [], ◌∷◌, ◌++◌, append_assoc, append-nil}
-use Prim.Native.Nat.{ℕ, zero, suc, ◌+◌, ◌-◌, ◌/◌, ◌%◌, ◌^◌, ◌≤◌, ◌<◌}
-use native.Mathlib.Nat.{pow-suc, div-lt_iff_lt-mul}
+use Prim.Native.Nat.{ℕ, zero, suc, ◌+◌, ◌-◌, ◌*◌, ◌/◌, ◌%◌, ◌^◌, ◌≤◌, ◌<◌}
+use native.Mathlib.Nat.{pow-succ', one-le-pow}
 use native.Mathlib.Numerals.{add-one}
 use native.Mathlib.Omega.{arith}
-use lib.Dec.{ltb, lit<}
+use lib.Dec.{ltb}
 use lib.ListN.{length, set, length-set, length-append}
 use borrow.Author.Tests.{lt-ltb, le-ltb}
 use Rattle.parts.specs.Parts.{with_part}
@@ -86,52 +86,27 @@ module _ (b k n : ℕ) (s : List ℕ) (at : ℕ) where
         within = h;
       }
 
--- Of the decimal digits of x, k - 1 are counted, and `rest` is what is left of x.
-pub record Counted (x k rest : ℕ) : Type 0 where
-  pub least : 1 ≤ k
-  pub most : k ≤ 20
-  pub fits : rest < 10 ^ (21 - k)
-  pub count : places 19 x ≡ (k - 1) + places (20 - k) rest
-
-pub counted_none : (x : ℕ) → x < 2 ^ 64 → Counted x 1 x
-counted_none x h = record { least = omega arith; most = omega arith; fits = omega arith; count = omega arith }
-
-tenth : (f rest : ℕ) → rest < 10 ^ suc f → rest / 10 < 10 ^ f
-tenth f rest h = (div-lt_iff_lt-mul (lit< tt)).1 (subst (λ (a : ℕ). rest < a) (pow-suc 10 f) h)
+-- ---- how many decimal digits a number has
 
 -- a number with more than one digit has one more than its tenth
 places_more : (f rest : ℕ) → 10 ≤ rest → places (suc f) rest ≡ suc (places f (rest / 10))
 unfolding places
 places_more f rest h = rw (le-ltb rest 10 h)
 
-places_one : (f rest : ℕ) → rest < 10 → places f rest ≡ 1
+pub places_one : (f rest : ℕ) → rest < 10 → places f rest ≡ 1
 unfolding places
 places_one zero rest h = refl
 places_one (suc f) rest h = rw (lt-ltb rest 10 h)
 
-pub counted_more : (x k rest : ℕ) → 10 ≤ rest → Counted x k rest → Counted x (k + 1) (rest / 10)
-counted_more x k rest h t = go (20 - k) refl
-  where
-    less : rest < 10 ^ 1 → ⊥
-    less l = omega arith
-
-    go : (f : ℕ) → 20 - k ≡ f → Counted x (k + 1) (rest / 10)
-    go zero e =
-        let one : 21 - k ≡ 1 = omega (arith, t.most) in
-        absurd (less (subst (λ (m : ℕ). rest < 10 ^ m) one t.fits))
-    go (suc f) e =
-        let more : 21 - k ≡ suc (21 - (k + 1)) = omega (arith, t.most) in
-        let next : f ≡ 20 - (k + 1) = omega arith in
-        let one = t.count ∙ ap (λ (m : ℕ). (k - 1) + places m rest) e ∙ ap (λ (m : ℕ). (k - 1) + m) (places_more f rest h) in
-        record {
-          least = omega arith;
-          most = omega (arith, t.most);
-          fits = tenth (21 - (k + 1)) rest (subst (λ (m : ℕ). rest < 10 ^ m) more t.fits);
-          count = one ∙ shift (places f (rest / 10)) ∙ ap (λ (m : ℕ). ((k + 1) - 1) + places m (rest / 10)) next;
-        }
-      where
-        shift : (p : ℕ) → (k - 1) + suc p ≡ ((k + 1) - 1) + p
-        shift p = omega (arith, t.least)
-
-pub counted_all : (x k rest : ℕ) → rest < 10 → Counted x k rest → (k ≡ places 19 x) × (k ≤ 20)
-counted_all x k rest h t = (omega (arith, t.least, t.count, places_one (20 - k) rest h), t.most)
+-- by the power of ten that it reaches
+pub places_by_power : (f k x : ℕ) → k ≤ f → 10 ^ k ≤ x → x < 10 * 10 ^ k → places f x ≡ k + 1
+places_by_power f zero x l h h' = places_one f x h'
+places_by_power zero (suc k) x l h h' = absurd (omega arith)
+places_by_power (suc f) (suc k) x l h h' =
+    let p : 10 ^ suc k ≡ 10 * 10 ^ k = pow-succ' 10 k in
+    let some : 0 < 10 ^ k = one-le-pow k 10 (omega arith) in
+    let more : 10 ≤ x = omega arith in
+    let least : 10 ^ k ≤ x / 10 = omega arith in
+    let most : x / 10 < 10 * 10 ^ k = omega arith in
+    let tenth : places f (x / 10) ≡ k + 1 = places_by_power f k (x / 10) (omega arith) least most in
+    omega (arith, places_more f x more, tenth)

@@ -18,13 +18,10 @@ fn glyph(d: u64) -> u8
 fn places(x: u64) -> usize
     ensures { (result ≡ places_in 19 x) × (result ≤ 20) }
 {
-    let mut k: usize = 1;
-    let mut rest = x;
-    while rest >= 10 {
-        rest /= 10;
-        k += 1;
+    match x.checked_ilog10() {
+        Some(k) => k as usize + 1,
+        None => 1,
     }
-    k
 }
 
 pub fn put_byte(out: &mut [u8], at: usize, b: u8) -> usize
@@ -50,10 +47,8 @@ fn put_digits(out: &mut [u8], at: usize, base: u64, count: usize, x: u64) -> usi
     requires base_nonzero { (0 < base) × (base ≤ 16) }
     ensures { Appended out.old at (digits base count x) out.new result }
 {
-    let mut i = count;
     let mut rest = x;
-    while i > 0 {
-        i -= 1;
+    for i in (0..count).rev() {
         out[at + i] = glyph(rest % base);
         rest /= base;
     }

@@ -1,4 +1,3 @@
 pub mod Given
 pub mod Going
 pub mod Chunks
-pub mod Moved

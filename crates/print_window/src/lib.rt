@@ -10,11 +10,6 @@ pub fn keep(window: &mut [u8], at: usize, have: usize) -> usize
     ensures value { result ≡ have - at }
     ensures window_after { window.new ≡ with_part 0 (take result (drop at window.old)) window.old }
 {
-    let kept = have - at;
-    let mut i: usize = 0;
-    while i < kept {
-        window[i] = window[at + i];
-        i += 1;
-    }
-    kept
+    window.copy_within(at..have, 0);
+    have - at
 }

@@ -1,18 +1,16 @@
+-- `print_text::places` meets its contract. Assumes nothing.
+use mathlib.Core.Path.{◌≡◌, sym}
 use native.Mathlib.Omega.{arith}
-use Rattle.print_text.proofs.Digits.{counted_none, counted_more, counted_all}
+use Rattle.print_text.proofs.Digits.{places_one, places_by_power}
 use Rattle.print_text.proofs.places.Goals as goal
 
-pub loop-rest-init : goal.loop-rest-init
-loop-rest-init c = counted_none c.args.x c.ranges.x.fits
+pub returns-in-Some : goal.returns-in-Some
+returns-in-Some c =
+    let e = c.in-Some.ensures in
+    let k = c.in-Some.k in
+    (sym (places_by_power 19 k c.args.x (omega (arith, e.bound)) e.power_le e.next_power_gt), omega (arith, e.bound))
 
-pub overflow_add-k : goal.overflow_add-k
-overflow_add-k c = omega arith
-
-pub loop-rest-smaller : goal.loop-rest-smaller
-loop-rest-smaller c = omega arith
-
-pub loop-rest-preserved : goal.loop-rest-preserved
-loop-rest-preserved c = let l = c.loop-rest in counted_more c.args.x l.k l.rest c.loop-rest-test.true l.invariant
-
-pub returns : goal.returns
-returns c = let l = c.loop-rest in counted_all c.args.x l.k l.rest c.loop-rest-test.false l.invariant
+pub returns-in-None : goal.returns-in-None
+returns-in-None c =
+    let none : c.args.x ≡ 0 = c.in-None.ensures.none in
+    (sym (places_one 19 c.args.x (omega arith)), omega arith)

@@ -1,46 +1,18 @@
-use mathlib.Core.Path.{◌≡◌, refl, ap, ◌∙◌}
-use mathlib.Core.List.{List}
-use Prim.Native.Nat.{ℕ, ◌+◌, ◌-◌}
-use lib.ListN.{get_or, set, length-set}
+-- `print_window::keep` meets its contract. Assumes nothing.
+use mathlib.Core.Path.{sym, ap, ◌∙◌}
+use mathlib.Core.List.{◌++◌}
+use Prim.Native.Nat.{ℕ, ◌+◌, ◌-◌, ◌≤◌}
 use native.Mathlib.Omega.{arith}
-use Rattle.print_window.proofs.Moved.{moved, moved_more, moved_all}
+use lib.ListN.{length, take, drop, length-drop}
+use lib.Seq.{length-take-le}
+use Rattle.parts.specs.Parts.{with_part}
 use Rattle.print_window.proofs.keep.Goals as goal
 
-pub overflow_sub-kept : goal.overflow_sub-kept
-overflow_sub-kept c = omega arith
-
-pub loop-i-init : goal.loop-i-init
-loop-i-init c = (omega arith, refl, refl)
-
-pub overflow_add-window : goal.overflow_add-window
-overflow_add-window c = omega arith
-
-pub bounds-window-at : goal.bounds-window-at
-bounds-window-at c = omega arith
-
-pub bounds-window-i : goal.bounds-window-i
-bounds-window-i c = omega arith
-
-pub overflow_add-i : goal.overflow_add-i
-overflow_add-i c = omega arith
-
-pub loop-i-smaller : goal.loop-i-smaller
-loop-i-smaller c = omega arith
-
-pub loop-i-preserved : goal.loop-i-preserved
-loop-i-preserved c =
-    let l = c.loop-i in
-    let a = c.args in (
-      omega arith,
-      length-set l.window l.i (get_or l.window (a.at + l.i) 0) ∙ l.invariant.1,
-      ap (λ (w : List ℕ). set w l.i (get_or w (a.at + l.i) 0)) l.invariant.2 ∙ moved_more a.window.now a.at l.i (omega arith),
-    )
-
-pub shape_of-window : goal.shape_of-window
-shape_of-window c = omega arith
-
-pub returns : goal.returns
-returns c =
-    let l = c.loop-i in
-    let a = c.args in
-    let all : l.i ≡ a.have - a.at = omega arith in record { value = refl; window_after = l.invariant.2 ∙ ap (λ (i : ℕ). moved a.window.now a.at i) all ∙ moved_all a.window.now a.at (a.have - a.at) (omega arith) }
+pub returns-clause-window_after : goal.returns-clause-window_after
+unfolding with_part
+returns-clause-window_after c =
+    let w = c.args.window.now in
+    let kept : ℕ = c.args.have - c.args.at in
+    let fits : kept ≤ length (drop c.args.at w) = omega (arith, length-drop c.args.at w) in
+    c.copy_within.ensures.after
+    ∙ ap (λ (j : ℕ). take kept (drop c.args.at w) ++ drop (0 + j) w) (sym (length-take-le kept (drop c.args.at w) fits))
