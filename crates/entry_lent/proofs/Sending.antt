@@ -1,5 +1,5 @@
 -- What a call answers and leaves that sends a frame of k bytes from a lent state, by what it finds there. Assumes nothing.
-use Rattle.std.proofs.Common.{◌≡◌, ℕ, Bool, true, false, not, ◌||◌, cond, eqb, List, ◌∷◌, length, refl, sym, ap, ◌∙◌, Result, Ok, Err}
+use Rattle.std.proofs.Common.{◌≡◌, ℕ, Bool, true, false, not, ◌||◌, cond, eqb, List, ◌∷◌, length, refl, sym, ap, ap₂, ◌∙◌, Result, Ok, Err}
 use borrow.Author.Tests.{eqb-true}
 use Rattle.state.specs.declared.Node.{Node}
 use Rattle.state.specs.Image.{decoded, node_at}
@@ -7,8 +7,7 @@ use Rattle.refusal.specs.declared.Refusal.{Refusal}
 use Rattle.refusal.specs.declared.Refusal.TheVariants.{Number, Length, Image}
 use Rattle.refusal.specs.Codes.{code_of, status_of}
 use Rattle.refusal.specs.Refusal.{when, first, unless}
-use Rattle.refusal.proofs.Laws.{unless-done, unless-refused}
-use Rattle.refusal.proofs.Codes.{numbered}
+use Rattle.refusal.proofs.Laws.{unless-done}
 use Rattle.entry_lent.specs.Refusals.{lent_conditions}
 use Rattle.entry_lent.specs.Found.{lent_node}
 use Rattle.entry_lent.proofs.Images.{by_decoded, is_wrong, length_read}
@@ -40,30 +39,35 @@ module _ (quiet wrong : Bool) (s : List ℕ) (k : ℕ) (f : List ℕ) where
       short false true = refl
       short false false = refl
 
-  -- a node is found where nothing is wrong
-  pub found : (n : Node) → lent_node quiet wrong s (length f) k ≡ Ok n → (wrong ≡ false) × (length f ≡ k) × (decoded quiet s ≡ Ok n)
+  -- what such a call answers whose numbers are wrong, and one that found no node in the mode q
+  pub wrong_status : (r : Refusal) → wrong ≡ true → code_of r ≡ 2 → code_of r ≡ send_status
+  unfolding first
+  wrong_status r w e = simp w e
+
+  none-found : (q : Bool) → q ≡ quiet → wrong ≡ false → lent_node q false s (length f) k ≡ lent_node quiet wrong s (length f) k
+  none-found q m w = ap₂ (λ (a b : Bool). lent_node a b s (length f) k) m (sym w)
+
+  pub none_status : (q : Bool) (r : Refusal) → q ≡ quiet → wrong ≡ false → Err r ≡ lent_node q false s (length f) k → code_of r ≡ send_status
+  none_status q r m w e = ap status_of (e ∙ none-found q m w) ∙ status-found
+
+  -- and one that found a node
+  pub record Found (n : Node) : Type 0 where
+    pub accepted : 0 ≡ send_status
+    pub sized : length f ≡ k
+    pub image : decoded quiet s ≡ Ok n
+
+  pub found : (q : Bool) (n : Node) → q ≡ quiet → wrong ≡ false → Ok n ≡ lent_node q false s (length f) k → Found n
   unfolding lent_node
-  found n h = let z = go wrong (eqb (length f) k) (decoded quiet s) h in (z.0, eqb-true (length f) k z.1, z.2)
+  found q n m w e = record { accepted = ap status_of (e ∙ none-found q m w) ∙ status-found; sized = eqb-true (length f) k z.0; image = ap (λ (x : Bool). decoded x s) (sym m) ∙ z.1 }
     where
-      go : (b e : Bool) (d : Result Node Refusal) → cond b (Err Number) (cond e d (Err Length)) ≡ Ok n → (b ≡ false) × (e ≡ true) × (d ≡ Ok n)
-      go true e d h = cc
-      go false false d h = cc
-      go false true d h = (refl, refl, h)
+      go : (b : Bool) (d : Result Node Refusal) → cond b d (Err Length) ≡ Ok n → (b ≡ true) × (d ≡ Ok n)
+      go false d h = cc
+      go true d h = (refl, h)
 
-  module _ (from : Result Node Refusal → List ℕ) (marked : Result Node Refusal → ℕ) (sent : ℕ) where
-    -- the status, and what is left of the frame and of the mark
-    abbrev pub Sends : ℕ → List ℕ → ℕ → Type 0
-    Sends r left mark =
-        (r ≡ send_status) × ((left ≡ unless send_status (from (decoded quiet s)) f) × (mark ≡ unless send_status (marked (decoded quiet s)) sent))
+      z : (eqb (length f) k ≡ true) × (decoded q s ≡ Ok n)
+      z = go (eqb (length f) k) (decoded q s) (sym e)
 
-    pub sends_none : (r : Refusal) → lent_node quiet wrong s (length f) k ≡ Err r → Sends (code_of r) f sent
-    sends_none r h =
-        let e : code_of r ≡ send_status = sym (ap status_of h) ∙ status-found in
-        let never : send_status ≡ 0 → ⊥ = λ z. numbered r (e ∙ z) in
-        (e, (sym (unless-refused _ _ f never), sym (unless-refused _ _ sent never)))
-
-    pub sends : (n : Node) (left : List ℕ) (mark : ℕ) → lent_node quiet wrong s (length f) k ≡ Ok n → left ≡ from (Ok n) → mark ≡ marked (Ok n) → Sends 0 left mark
-    sends n left mark h a b =
-        let e : 0 ≡ send_status = sym (ap status_of h) ∙ status-found in
-        let g = sym (found n h).2 in
-        (e, (a ∙ ap from g ∙ sym (unless-done _ _ f (sym e)), b ∙ ap marked g ∙ sym (unless-done _ _ sent (sym e))))
+  -- what is left after it
+  pub left_found : {A : Type 0} (from : Bool → Result Node Refusal → A) (before left : A) (q : Bool) (n : Node) → q ≡ quiet → Found n → left ≡ from q (Ok n)
+      → left ≡ unless send_status (from quiet (decoded quiet s)) before
+  left_found from before left q n m h e = e ∙ ap₂ from m (sym h.image) ∙ sym (unless-done send_status _ before (sym h.accepted))

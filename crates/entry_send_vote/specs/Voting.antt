@@ -1,20 +1,17 @@
 -- What the entries that vote from a state answer and leave: its view, and its vote.
 -- Assumes nothing.
-use Rattle.std.specs.Prelude.{Bool, ◌||◌, cond, List, ◌∷◌, ℕ}
+use Rattle.std.specs.Prelude.{Bool, ◌||◌, cond, List, ◌∷◌, ℕ, Result, Ok, Err}
 use Rattle.sets.specs.Sets.{single, ◌∩◌, ◌∖◌}
 use Rattle.state.specs.declared.Group.{Group}
 use Rattle.state.specs.declared.State.{State}
 use Rattle.state.specs.declared.State.TheVariants.{Out, Joining, Member}
 use Rattle.state.specs.declared.Node.{Node}
-use Rattle.state.specs.declared.Decoded.{Decoded}
-use Rattle.state.specs.declared.Decoded.TheVariants.{Good, WrongLength, Malformed}
 use Rattle.state.specs.Image.{decoded}
 use Rattle.rules.specs.declared.Config.{Config}
 use Rattle.rules.specs.OneCycle.{config_of, wrong_mode, quiet_in, view_of, called, will_vote}
 use Rattle.frames.specs.Written.{vote_frame}
+use Rattle.refusal.specs.declared.Refusal.{Refusal}
 use Rattle.refusal.specs.Refusal.{when, first, unless}
-use Rattle.entry_lent.specs.declared.Lent.{Lent}
-use Rattle.entry_lent.specs.declared.Lent.TheVariants.{Holds, Refused}
 use Rattle.entry_lent.specs.Refusals.{wrong_cycle, wrong_channel, lent_conditions}
 
 -- ---- the view of a node: only a member has one, and it holds the member itself; 0 for others
@@ -27,9 +24,9 @@ view_in n (Out r) heard0 heard1 = 0
 view_in n Joining heard0 heard1 = 0
 view_in n (Member g a) heard0 heard1 = own_view n heard0 heard1 g
 
-abbrev pub view_from : Lent → ℕ → ℕ → ℕ → ℕ
-view_from (Holds n) heard0 heard1 view = view_in n n.state heard0 heard1
-view_from (Refused r) heard0 heard1 view = view
+abbrev pub view_from : Result Node Refusal → ℕ → ℕ → ℕ → ℕ
+view_from (Ok n) heard0 heard1 view = view_in n n.state heard0 heard1
+view_from (Err r) heard0 heard1 view = view
 
 -- ---- whether it votes
 
@@ -58,10 +55,9 @@ votes_byte quiet n (Out r) heard0 heard1 requests = 0
 votes_byte quiet n Joining heard0 heard1 requests = 0
 votes_byte quiet n (Member g a) heard0 heard1 requests = cond (votes_on quiet n g a heard0 heard1 requests) 1 0
 
-abbrev pub voted_of : Bool → Decoded → ℕ → ℕ → ℕ → ℕ
-voted_of quiet (Good n) heard0 heard1 requests = votes_byte quiet n n.state heard0 heard1 requests
-voted_of quiet WrongLength heard0 heard1 requests = 0
-voted_of quiet Malformed heard0 heard1 requests = 0
+abbrev pub voted_of : Bool → Result Node Refusal → ℕ → ℕ → ℕ → ℕ
+voted_of quiet (Ok n) heard0 heard1 requests = votes_byte quiet n n.state heard0 heard1 requests
+voted_of quiet (Err r) heard0 heard1 requests = 0
 
 -- a member that does not vote leaves the frame as it came in, and so do all others
 abbrev pub vote_in : Bool → Node → State → ℕ → ℕ → ℕ → ℕ → ℕ → List ℕ → List ℕ
@@ -70,10 +66,9 @@ vote_in quiet n Joining heard0 heard1 requests cycle channel f = f
 vote_in quiet n (Member g a) heard0 heard1 requests cycle channel f =
     cond (votes_on quiet n g a heard0 heard1 requests) (vote_frame n.id (record { group = g; view = own_view n heard0 heard1 g }) cycle channel) f
 
-abbrev pub vote_from : Bool → Decoded → ℕ → ℕ → ℕ → ℕ → ℕ → List ℕ → List ℕ
-vote_from quiet (Good n) heard0 heard1 requests cycle channel f = vote_in quiet n n.state heard0 heard1 requests cycle channel f
-vote_from quiet WrongLength heard0 heard1 requests cycle channel f = f
-vote_from quiet Malformed heard0 heard1 requests cycle channel f = f
+abbrev pub vote_from : Bool → Result Node Refusal → ℕ → ℕ → ℕ → ℕ → ℕ → List ℕ → List ℕ
+vote_from quiet (Ok n) heard0 heard1 requests cycle channel f = vote_in quiet n n.state heard0 heard1 requests cycle channel f
+vote_from quiet (Err r) heard0 heard1 requests cycle channel f = f
 
 unfoldable pub send_vote_left : ℕ → List ℕ → ℕ → ℕ → ℕ → ℕ → ℕ → List ℕ → List ℕ
 send_vote_left mode s heard0 heard1 requests cycle channel f =
