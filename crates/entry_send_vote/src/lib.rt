@@ -56,14 +56,7 @@ pub fn votes_with(quiet: bool, n: Node, own: Vote, asks: bool, heard: Heard) -> 
 }
 
 // What node n sends: how many frames.
-fn send_of(
-    quiet: bool,
-    n: Node,
-    heard: Heard,
-    cycle: u32,
-    channel: u32,
-    frame: &mut [u8],
-) -> u32
+fn send_of(quiet: bool, n: Node, heard: Heard, cycle: u32, channel: u32, frame: &mut [u8]) -> u32
     requires nodes_bound { (n.nodes ≤ 64) × (n.id < n.nodes) }
     requires cycle_bound { cycle < 64 }
     requires frame_len { length frame.old ≡ 36 }

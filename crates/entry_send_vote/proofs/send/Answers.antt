@@ -51,41 +51,41 @@ returns-in_err-quiet-clause-sent_after c = unless_err _ _ _ _ (by_mode _ _ _ _ _
 
 pub returns-in_err-check_cycle-clause-value : goal.returns-in_err-check_cycle-clause-value
 returns-in_err-check_cycle-clause-value c =
-    exit_status _ _ c.from_residual-in_err-check_cycle.ensures.1 ∙ by_cycle _ _ _ _ _ _ c.in_ok-quiet.ensures _ c.in_err-check_cycle.ensures
+    exit_status _ _ c.from_residual-in_err-check_cycle.ensures.1 ∙ by_cycle c.args.mode c.args.state.now c.args.cycle c.args.channel c.args.frame.now _ c.in_ok-quiet.ensures _ c.in_err-check_cycle.ensures
 
 pub returns-in_err-check_cycle-clause-frame_after : goal.returns-in_err-check_cycle-clause-frame_after
 unfolding send_vote_left
-returns-in_err-check_cycle-clause-frame_after c = unless_err _ _ _ _ (by_cycle _ _ _ _ _ _ c.in_ok-quiet.ensures _ c.in_err-check_cycle.ensures)
+returns-in_err-check_cycle-clause-frame_after c = unless_err _ _ _ _ (by_cycle c.args.mode c.args.state.now c.args.cycle c.args.channel c.args.frame.now _ c.in_ok-quiet.ensures _ c.in_err-check_cycle.ensures)
 
 pub returns-in_err-check_cycle-clause-sent_after : goal.returns-in_err-check_cycle-clause-sent_after
 unfolding send_vote_sent
-returns-in_err-check_cycle-clause-sent_after c = unless_err _ _ _ _ (by_cycle _ _ _ _ _ _ c.in_ok-quiet.ensures _ c.in_err-check_cycle.ensures)
+returns-in_err-check_cycle-clause-sent_after c = unless_err _ _ _ _ (by_cycle c.args.mode c.args.state.now c.args.cycle c.args.channel c.args.frame.now _ c.in_ok-quiet.ensures _ c.in_err-check_cycle.ensures)
 
 pub returns-in_err-n-clause-value : goal.returns-in_err-n-clause-value
 returns-in_err-n-clause-value c =
-    exit_status _ _ c.from_residual-in_err-n.ensures.1 ∙ by_node _ _ _ _ c.args.frame.now _ c.in_ok-quiet.ensures c.in_ok-check_cycle.ensures _ c.in_err-n.ensures
+    exit_status _ _ c.from_residual-in_err-n.ensures.1 ∙ by_node c.args.mode c.args.state.now c.args.cycle c.args.channel c.args.frame.now _ c.in_ok-quiet.ensures c.in_ok-check_cycle.ensures _ c.in_err-n.ensures
 
 pub returns-in_err-n-clause-frame_after : goal.returns-in_err-n-clause-frame_after
 unfolding send_vote_left
 returns-in_err-n-clause-frame_after c =
-    unless_err _ _ _ _ (by_node _ _ _ _ c.args.frame.now _ c.in_ok-quiet.ensures c.in_ok-check_cycle.ensures _ c.in_err-n.ensures)
+    unless_err _ _ _ _ (by_node c.args.mode c.args.state.now c.args.cycle c.args.channel c.args.frame.now _ c.in_ok-quiet.ensures c.in_ok-check_cycle.ensures _ c.in_err-n.ensures)
 
 pub returns-in_err-n-clause-sent_after : goal.returns-in_err-n-clause-sent_after
 unfolding send_vote_sent
 returns-in_err-n-clause-sent_after c =
-    unless_err _ _ _ _ (by_node _ _ _ _ c.args.frame.now _ c.in_ok-quiet.ensures c.in_ok-check_cycle.ensures _ c.in_err-n.ensures)
+    unless_err _ _ _ _ (by_node c.args.mode c.args.state.now c.args.cycle c.args.channel c.args.frame.now _ c.in_ok-quiet.ensures c.in_ok-check_cycle.ensures _ c.in_err-n.ensures)
 
 pub send_of-requires-clause-nodes_bound : goal.send_of-requires-clause-nodes_bound
 send_of-requires-clause-nodes_bound c =
-    let t = there _ _ _ _ c.args.frame.now _ c.in_ok-quiet.ensures c.in_ok-check_cycle.ensures _ c.in_ok-n.ensures in
+    let t = there c.args.mode c.args.state.now c.args.cycle c.args.channel c.args.frame.now _ c.in_ok-quiet.ensures c.in_ok-check_cycle.ensures _ c.in_ok-n.ensures in
     good_place _ c.args.state.now _ (λ i. (c.type_inv.state i).fits) t.image
 
 pub send_of-requires-clause-frame_len : goal.send_of-requires-clause-frame_len
-send_of-requires-clause-frame_len c = (there _ _ _ _ c.args.frame.now _ c.in_ok-quiet.ensures c.in_ok-check_cycle.ensures _ c.in_ok-n.ensures).sized
+send_of-requires-clause-frame_len c = (there c.args.mode c.args.state.now c.args.cycle c.args.channel c.args.frame.now _ c.in_ok-quiet.ensures c.in_ok-check_cycle.ensures _ c.in_ok-n.ensures).sized
 
 pub returns-clause-value : goal.returns-clause-value
 unfolding send_vote_status
-returns-clause-value c = (there _ _ _ _ c.args.frame.now _ c.in_ok-quiet.ensures c.in_ok-check_cycle.ensures _ c.in_ok-n.ensures).accepted
+returns-clause-value c = (there c.args.mode c.args.state.now c.args.cycle c.args.channel c.args.frame.now _ c.in_ok-quiet.ensures c.in_ok-check_cycle.ensures _ c.in_ok-n.ensures).accepted
 
 pub returns-clause-frame_after : goal.returns-clause-frame_after
 unfolding send_vote_left send_vote_status
