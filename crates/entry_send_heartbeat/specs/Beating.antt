@@ -1,14 +1,13 @@
 -- What the entry that sends a heartbeat from a state answers and leaves.
 -- Assumes nothing.
-use Rattle.std.specs.Prelude.{Bool, ◌||◌, cond, List, ◌∷◌, ℕ, ◌+◌, eqb, length}
+use Rattle.std.specs.Prelude.{Bool, ◌||◌, cond, List, ◌∷◌, ℕ, ◌+◌, eqb, length, Result, Ok, Err}
 use Rattle.state.specs.declared.State.{State}
 use Rattle.state.specs.declared.State.TheVariants.{Out, Joining, Member}
 use Rattle.state.specs.declared.Node.{Node}
-use Rattle.state.specs.declared.Decoded.{Decoded}
-use Rattle.state.specs.declared.Decoded.TheVariants.{Good, WrongLength, Malformed}
 use Rattle.state.specs.Image.{decoded}
 use Rattle.rules.specs.OneCycle.{wrong_mode, quiet_in, sends_join, asks}
 use Rattle.frames.specs.Written.{heartbeat_frame, wrong_drive}
+use Rattle.refusal.specs.declared.Refusal.{Refusal}
 use Rattle.refusal.specs.Refusal.{when, first, unless}
 use Rattle.entry_lent.specs.Refusals.{wrong_cycle, wrong_channel, wrong_indicators, lent_conditions}
 
@@ -39,19 +38,17 @@ abbrev pub request_bit : State → ℕ
 request_bit s = cond (asks s) 1 0
 
 -- whether a frame is sent, and the frame
-abbrev pub sent_of : Decoded → ℕ
-sent_of (Good n) = sends_byte n.state
-sent_of WrongLength = 0
-sent_of Malformed = 0
+abbrev pub sent_of : Result Node Refusal → ℕ
+sent_of (Ok n) = sends_byte n.state
+sent_of (Err r) = 0
 
 abbrev pub heartbeat_of : Node → ℕ → ℕ → ℕ → ℕ → List ℕ → List ℕ → List ℕ
 heartbeat_of n sync startup cycle channel d f =
     cond (eqb (sends_byte n.state) 1) (heartbeat_frame n.id (join_bit n.state) (request_bit n.state) sync startup cycle channel d) f
 
-abbrev pub heartbeat_from : Decoded → ℕ → ℕ → ℕ → ℕ → List ℕ → List ℕ → List ℕ
-heartbeat_from (Good n) sync startup cycle channel d f = heartbeat_of n sync startup cycle channel d f
-heartbeat_from WrongLength sync startup cycle channel d f = f
-heartbeat_from Malformed sync startup cycle channel d f = f
+abbrev pub heartbeat_from : Result Node Refusal → ℕ → ℕ → ℕ → ℕ → List ℕ → List ℕ → List ℕ
+heartbeat_from (Ok n) sync startup cycle channel d f = heartbeat_of n sync startup cycle channel d f
+heartbeat_from (Err r) sync startup cycle channel d f = f
 
 unfoldable pub send_heartbeat_left : ℕ → List ℕ → ℕ → ℕ → ℕ → ℕ → List ℕ → List ℕ → List ℕ
 send_heartbeat_left mode s sync startup cycle channel d f =

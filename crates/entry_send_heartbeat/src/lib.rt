@@ -1,87 +1,67 @@
 // A node's heartbeat, from its state.
 #![tactic(auto)]
 
-ghost use Rattle.std.specs.Prelude.{◌≡◌, false, ◌+◌, ◌≤◌, ◌<◌, length};
-ghost use Rattle.frames.specs.Written.{wrong_drive};
-ghost use Rattle.entry_send_heartbeat.specs.Beating.{wrong_sending, send_heartbeat_status, sends_byte, join_bit, request_bit, heartbeat_of, send_heartbeat_left, send_heartbeat_sent};
+ghost use Rattle.std.specs.Prelude.{◌≡◌, false, cond, IfOk, ◌+◌, ◌<◌, length};
+ghost use Rattle.refusal.specs.Codes.{status_of};
+ghost use Rattle.rules.specs.OneCycle.{quiet_in};
+ghost use Rattle.frames.specs.Written.{bit, wrong_drive};
+ghost use Rattle.entry_send_heartbeat.specs.Beating.{wrong_sending, send_heartbeat_status, sends_byte, heartbeat_of, send_heartbeat_left, send_heartbeat_sent};
 
-use entry_lent::{Lent, lent_node, wrong_indicators, wrong_slot};
+use entry_lent::{check_cycle, check_indicators, lent_node};
+use frames::{Bits, Slot};
+use refusal::Refusal;
 use state::{Node, State};
 
-// Who sends, and with which bits.
-fn sends_byte(s: State) -> u32
-    ensures { result ≡ sends_byte s }
-{
-    match s {
-        State::Out(_) => 0,
-        State::Joining => 1,
-        State::Member(_, _) => 1,
-    }
-}
-
-fn join_bit(s: State) -> u32
-    ensures value { result ≡ join_bit s }
-    ensures upper_bound { result < 2 }
-{
-    if rule_steps::sends_join(s) { 1 } else { 0 }
-}
-
-fn request_bit(s: State) -> u32
-    ensures value { result ≡ request_bit s }
-    ensures upper_bound { result < 2 }
-{
-    if rule_steps::asks(s) { 1 } else { 0 }
-}
-
-// Refusal 2, of what a node sends with.
-fn wrong_sending(mode: u32, sync: u32, startup: u32, cycle: u32, channel: u32) -> bool
-    ensures { result ≡ wrong_sending mode sync startup cycle channel }
-{
-    if rule_steps::wrong_mode(mode) {
-        return true;
-    }
-    if wrong_indicators(sync, startup) {
-        return true;
-    }
-    wrong_slot(1, 0, cycle, channel)
-}
-
-// What node n sends.
-fn send_of(
-    n: Node,
+// Refusal 2, of what a node sends with; where there is none, whether the mode is that of a quiet press.
+fn check_sending(
+    mode: u32,
     sync: u32,
     startup: u32,
     cycle: u32,
     channel: u32,
+) -> Result<bool, Refusal>
+    ensures value { status_of result ≡ cond (wrong_sending mode sync startup cycle channel) 2 0 }
+    ensures quiet { IfOk result (λ quiet. quiet ≡ quiet_in mode) }
+{
+    let quiet = rule_steps::check_mode(mode)?;
+    check_indicators(sync, startup)?;
+    check_cycle(cycle, channel)?;
+    Ok(quiet)
+}
+
+// What node n sends: how many frames.
+fn send_of(
+    n: Node,
+    sync: bool,
+    startup: bool,
+    cycle: u32,
+    channel: u32,
     drive: &[u8],
     frame: &mut [u8],
-    sent: &mut u32,
-)
+) -> u32
     requires id_bound { n.id < 64 }
-    requires sync_bound { sync < 2 }
-    requires startup_le_sync { startup ≤ sync }
     requires cycle_bound { cycle < 64 }
     requires drive_value { wrong_drive drive.now ≡ false }
     requires frame_len { length frame.old ≡ 10 + length drive.now }
-    ensures frame_after { frame.new ≡ heartbeat_of n sync startup cycle channel drive.now frame.old }
-    ensures sent_after { sent.new ≡ sends_byte n.state }
+    ensures value { result ≡ sends_byte n.state }
+    ensures frame_after { frame.new ≡ heartbeat_of n (bit sync) (bit startup) cycle channel drive.now frame.old }
 {
-    let s = n.state;
-    let sends = sends_byte(s);
-    *sent = sends;
-    if sends == 1 {
-        frame_writing::write_heartbeat(
-            n.id as u32,
-            join_bit(s),
-            request_bit(s),
-            sync,
-            startup,
-            cycle,
-            channel,
-            drive,
-            frame,
-        );
+    if matches!(n.state, State::Out(_)) {
+        return 0;
     }
+    let slot = Slot {
+        node: u32::from(n.id),
+        cycle,
+        channel,
+    };
+    let bits = Bits {
+        join: rule_steps::sends_join(n.state),
+        request: rule_steps::asks(n.state),
+        sync,
+        startup,
+    };
+    frame_writing::write_heartbeat(slot, bits, drive, frame);
+    1
 }
 
 // Rule 2: the heartbeat that a node sends, if it sends one, with these drive bytes.
@@ -95,23 +75,16 @@ pub fn send(
     drive: &[u8],
     frame: &mut [u8],
     sent: &mut u32,
-) -> u32
-    ensures value { result ≡ send_heartbeat_status mode state.now sync startup cycle channel drive.now frame.old }
+) -> Result<(), Refusal>
+    ensures value { status_of result ≡ send_heartbeat_status mode state.now sync startup cycle channel drive.now frame.old }
     ensures frame_after { frame.new ≡ send_heartbeat_left mode state.now sync startup cycle channel drive.now frame.old }
     ensures sent_after { sent.new ≡ send_heartbeat_sent mode state.now sync startup cycle channel drive.now frame.old sent.old }
 {
-    if wrong_sending(mode, sync, startup, cycle, channel) {
-        return 2;
-    }
+    let quiet = check_sending(mode, sync, startup, cycle, channel)?;
     if frame_writing::wrong_drive(drive) {
-        return 3;
+        return Err(Refusal::Length);
     }
-    let quiet = rule_steps::is_quiet(mode);
-    match lent_node(quiet, false, state, frame.len(), 10 + drive.len()) {
-        Lent::Holds(n) => {
-            send_of(n, sync, startup, cycle, channel, drive, frame, sent);
-            0
-        }
-        Lent::Refused(k) => k,
-    }
+    let n = lent_node(quiet, state, frame.len(), 10 + drive.len())?;
+    *sent = send_of(n, sync == 1, startup == 1, cycle, channel, drive, frame);
+    Ok(())
 }

@@ -7,6 +7,7 @@ ghost use Rattle.entry_lent.specs.Found.{lent_state, image_status};
 ghost use Rattle.entry_send_vote.specs.Voting.{own_view, view_in, view_from, votes_with, votes_byte, vote_in, send_vote_status, send_vote_left, send_vote_sent};
 
 use entry_lent::{check_cycle, lent_node, lent_state};
+use frames::Slot;
 use refusal::Refusal;
 use rules::{Config, Heard, Vote};
 use state::{Group, Node, State};
@@ -66,10 +67,12 @@ fn send_of(quiet: bool, n: Node, heard: Heard, cycle: u32, channel: u32, frame: 
     if let State::Member(group, asks) = n.state {
         let vote = own_vote(n, group, heard);
         if votes_with(quiet, n, vote, asks, heard) {
-            parts::copy(
-                &frame_writing::write_vote(n.id as u32, vote, cycle, channel),
-                frame,
-            );
+            let slot = Slot {
+                node: u32::from(n.id),
+                cycle,
+                channel,
+            };
+            parts::copy(&frame_writing::write_vote(slot, vote), frame);
             return 1;
         }
     }

@@ -45,9 +45,9 @@ module _ (n mode q join request sync startup cycle channel : ℕ) (d f : List �
       (omega arith, (omega arith, (omega arith, (omega arith, (omega arith, (omega arith, (or_f_l (wrong_drive d) (wrong_length (10 + length d) f) numbers.2, room)))))))
 
   pub written : (left : List ℕ) → left ≡ heartbeat_frame q join request sync startup cycle channel d
-      → (0 ≡ write_heartbeat_status n mode q join request sync startup cycle channel d f) × (left ≡ write_heartbeat_left n mode q join request sync startup cycle channel d f)
+      → left ≡ write_heartbeat_left n mode q join request sync startup cycle channel d f
   unfolding write_heartbeat_left
-  written left w = (sym e, w ∙ sym (unless-done (write_heartbeat_status n mode q join request sync startup cycle channel d f) _ f e))
+  written left w = w ∙ sym (unless-done (write_heartbeat_status n mode q join request sync startup cycle channel d f) _ f e)
 
 -- without a request the entry answers and leaves the same in both modes
 pub same_in_both : (n q join sync startup cycle channel : ℕ) (d f : List ℕ)

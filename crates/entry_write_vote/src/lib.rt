@@ -8,6 +8,7 @@ ghost use Rattle.entry_lent.specs.Refusals.{wrong_count, wrong_node, wrong_cycle
 ghost use Rattle.entry_write_vote.specs.Votes.{write_vote_status, write_vote_left};
 
 use entry_lent::{check_count, check_length, check_slot};
+use frames::Slot;
 use refusal::Refusal;
 use rules::Vote;
 
@@ -59,9 +60,11 @@ pub fn write(
     ensures frame_after { frame.new ≡ write_vote_left n node vote cycle channel frame.old }
 {
     check(n, node, vote, cycle, channel, frame)?;
-    parts::copy(
-        &frame_writing::write_vote(node, vote, cycle, channel),
-        frame,
-    );
+    let slot = Slot {
+        node,
+        cycle,
+        channel,
+    };
+    parts::copy(&frame_writing::write_vote(slot, vote), frame);
     Ok(())
 }

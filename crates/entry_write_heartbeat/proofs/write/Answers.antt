@@ -1,22 +1,29 @@
-use mathlib.Core.Path.{◌≡◌, sym, ◌∙◌}
-use Rattle.refusal.proofs.Laws.{unless-refused}
-use Rattle.entry_write_heartbeat.specs.Heartbeats.{write_heartbeat_status, write_heartbeat_left}
+use Rattle.std.proofs.Common.{◌≡◌, ℕ, ◌<◌, ◌≤◌, List, eqb, sym, ◌∙◌, arith}
+use Rattle.frames.specs.Written.{bit, heartbeat_frame}
+use Rattle.frames.proofs.Converted.{bit-number}
+use Rattle.refusal.proofs.Codes.{unless_err}
+use Rattle.entry_write_heartbeat.specs.Heartbeats.{write_heartbeat_left}
 use Rattle.entry_write_heartbeat.proofs.Beats.{write-bounds, written}
 use Rattle.entry_write_heartbeat.proofs.write.Goals as goal
 
-pub returns-then-status-ne0 : goal.returns-then-status-ne0
-unfolding write_heartbeat_left
-returns-then-status-ne0 c = record { value = c.write_refusal-status.ensures; frame_after = sym (unless-refused _ _ _ (λ z. c.if-status-ne0.true (c.write_refusal-status.ensures ∙ z))) }
+-- the bits of numbers that are bits
+same_bits : (q join request sync startup cycle channel : ℕ) (d : List ℕ) → join < 2 → request < 2 → sync < 2 → startup < 2
+    → heartbeat_frame q (bit (eqb join 1)) (bit (eqb request 1)) (bit (eqb sync 1)) (bit (eqb startup 1)) cycle channel d ≡ heartbeat_frame q join request sync startup cycle channel d
+same_bits q join request sync startup cycle channel d lj lr ls lt = simp (bit-number join lj, bit-number request lr, bit-number sync ls, bit-number startup lt)
 
--- above what the call asks: a frame of other numbers is wrong here alone
-pub returns : goal.returns
-returns c =
-    let fine : let a = c.args in
-    write_heartbeat_status a.n a.mode a.node a.join a.request a.sync a.startup a.cycle a.channel a.drive.now a.frame.now ≡ 0 = sym c.write_refusal-status.ensures ∙ c.if-status-ne0.false in
-    let told = written _ _ _ _ _ _ _ _ _ _ _ (fine) _ c.write_heartbeat.ensures in record { value = told.0; frame_after = told.1 }
+pub returns-in_err-check-clause-frame_after : goal.returns-in_err-check-clause-frame_after
+unfolding write_heartbeat_left
+returns-in_err-check-clause-frame_after c = unless_err _ _ _ _ c.in_err-check.ensures
+
+pub invariant_of-slot : goal.invariant_of-slot
+invariant_of-slot c = let b = write-bounds _ _ _ _ _ _ _ _ _ _ _ (sym c.in_ok-check.ensures) in record { node_bound = b.0; cycle_bound = b.1.1.1.1.1.0 }
 
 pub write_heartbeat-requires : goal.write_heartbeat-requires
-write_heartbeat-requires c =
-    let fine : let a = c.args in
-    write_heartbeat_status a.n a.mode a.node a.join a.request a.sync a.startup a.cycle a.channel a.drive.now a.frame.now ≡ 0 = sym c.write_refusal-status.ensures ∙ c.if-status-ne0.false in
-    let told = write-bounds _ _ _ _ _ _ _ _ _ _ _ (fine) in record { q_bound = told.0; join_bound = told.1.0; request_bound = told.1.1.0; sync_bound = told.1.1.1.0; startup_le_sync = told.1.1.1.1.0; cycle_bound = told.1.1.1.1.1.0; drive_value = told.1.1.1.1.1.1.0; frame_len = told.1.1.1.1.1.1.1 }
+write_heartbeat-requires c = let b = write-bounds _ _ _ _ _ _ _ _ _ _ _ (sym c.in_ok-check.ensures) in record { drive_value = b.1.1.1.1.1.1.0; frame_len = b.1.1.1.1.1.1.1 }
+
+pub returns-clause-frame_after : goal.returns-clause-frame_after
+returns-clause-frame_after c =
+    let h = c.args.h in
+    let b = write-bounds _ _ _ _ _ _ _ _ _ _ _ (sym c.in_ok-check.ensures) in
+    written _ _ _ _ _ _ _ _ _ _ _ (sym c.in_ok-check.ensures) _
+    (c.write_heartbeat.ensures ∙ same_bits h.node h.join h.request h.sync h.startup h.cycle h.channel _ b.1.0 b.1.1.0 b.1.1.1.0 (omega arith))

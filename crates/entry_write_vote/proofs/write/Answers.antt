@@ -26,8 +26,8 @@ pub returns-in_err-check-clause-frame_after : goal.returns-in_err-check-clause-f
 unfolding write_vote_left
 returns-in_err-check-clause-frame_after c = unless_err _ _ _ _ c.in_err-check.ensures
 
-pub write_vote-requires : goal.write_vote-requires
-write_vote-requires c = let a = taken _ _ _ _ _ c.args.frame.now c.in_ok-check.ensures in record { q_bound = small a; cycle_bound = a.timed }
+pub invariant_of-slot : goal.invariant_of-slot
+invariant_of-slot c = let a = taken _ _ _ _ _ c.args.frame.now c.in_ok-check.ensures in record { node_bound = small a; cycle_bound = a.timed }
 
 pub copy-requires : goal.copy-requires
 copy-requires c =
