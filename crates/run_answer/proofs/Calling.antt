@@ -149,8 +149,7 @@ module _ (mode len : ℕ) (s : List ℕ) (z : (table_of true len s).cycles.refus
     unfolding table_of beginning
     run-leaves states =
         at_count (λ (D : Config). row_of D.nodes states ≡ row_after D (row_of D.nodes start) (cycles_of D.nodes).whole → Leaves D.nodes states len (ran_to mode (table_of true len s)))
-        (λ e. let n = count_at s in
-        (
+        (λ e. let n = count_at s in (
           sym (eqb-true len n (not_f (eqb len n) begun.row)),
           begun.most,
           ap (nodes_of n) (e ∙ ap₂ (λ (row : Row) (c : Cycles). row_after (in_mode mode n) row c.whole) b.2 (sym all)

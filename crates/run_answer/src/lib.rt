@@ -45,7 +45,13 @@ fn is_longer(s: &[u8]) -> bool
 
 // Refusals 1 to 4 of a single cycle, or the cluster in its mode and the states of its row: in a press that votes in every cycle nobody is asking.
 #[tactic(auto, unfolding(row_calls::specs::Calls::row_status, refusal::specs::Refusal::first))]
-fn check_row(n: u32, mode: u32, len: usize, gathered: Option<States>, s: &[u8]) -> Result<(Config, States), Refusal>
+fn check_row(
+    n: u32,
+    mode: u32,
+    len: usize,
+    gathered: Option<States>,
+    s: &[u8],
+) -> Result<(Config, States), Refusal>
     ensures refused { status_of result ≡ row_status n mode len (ordered (quiet_in mode) gathered) s.now }
     ensures row { IfOk result (λ found. (found.0 ≡ in_mode mode n) × (found.0.nodes ≡ n) × (n ≤ 64) × (gathered ≡ Some found.1)) }
 {
@@ -65,7 +71,13 @@ fn check_row(n: u32, mode: u32, len: usize, gathered: Option<States>, s: &[u8]) 
 }
 
 // A single cycle on the row as it is lent.
-fn cycle_answer(n: u32, mode: u32, len: usize, gathered: Option<States>, s: &[u8]) -> Result<Left, Refusal>
+fn cycle_answer(
+    n: u32,
+    mode: u32,
+    len: usize,
+    gathered: Option<States>,
+    s: &[u8],
+) -> Result<Left, Refusal>
     ensures answered { (nodes : List Node) → GatheredFrom n gathered len nodes → status_of result ≡ cycle_status n mode nodes s.now }
     ensures left { (nodes : List Node) → GatheredFrom n gathered len nodes → IfOk result (λ l. Leaves l.nodes l.states len (cycle_left n mode nodes s.now)) }
 {
@@ -110,14 +122,20 @@ fn run_answer(mode: u32, len: usize, s: &[u8]) -> Result<Left, Refusal>
     })
 }
 
-// The same through frames. Where the buffer lent for them has another length than theirs, no row fits.
+// The entries of a row that a run through frames takes: none where the buffer lent for them has another length than theirs, so that no row fits.
+fn lent_entries(room: usize, len: usize) -> usize
+    ensures { result ≡ framed_entries room len }
+{
+    if room == FRAMES { len } else { 0 }
+}
+
+// The same through frames.
 fn framed_answer(mode: u32, len: usize, s: &[u8], frames: &mut [u8]) -> Result<Left, Refusal>
     ensures answered { status_of result ≡ ran_status mode (framed_entries (length frames.old) len) s.now }
     ensures left { IfOk result (λ l. Leaves l.nodes l.states len (ran_to mode (table_of true len s.now))) }
     ensures shown { frames.new ≡ frames_left mode len s.now frames.old }
 {
-    let entries = if frames.len() == FRAMES { len } else { 0 };
-    let begun = begin(mode, entries, s)?;
+    let begun = begin(mode, lent_entries(frames.len(), len), s)?;
     Ok(Left {
         nodes: begun.config.nodes as u8,
         states: run_framed::run_framed(begun.config, begun.states, &s[Start::LENGTH..], frames),

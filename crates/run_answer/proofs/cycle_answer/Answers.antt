@@ -24,7 +24,7 @@ returns-in_err-cycle-clause-answered c = λ nodes h.
     let a = c.args in
     let row = c.in_ok-config.ensures in
     let k : code_of c.in_err-cycle.field-0.0 ≡ cycle_status a.n a.mode nodes a.s.now =
-        record_is a.n a.mode a.len a.gathered nodes a.s.now h row.refused _ (c.in_err-cycle.ensures.refused ∙ ap (λ (n : ℕ). cycle_refusal n 1 a.s.now) row.row.1) in
+    record_is a.n a.mode a.len a.gathered nodes a.s.now h row.refused _ (c.in_err-cycle.ensures.refused ∙ ap (λ (n : ℕ). cycle_refusal n 1 a.s.now) row.row.1) in
     search rules
 
 pub returns-clause-answered : goal.returns-clause-answered
