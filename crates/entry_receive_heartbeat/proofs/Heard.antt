@@ -1,23 +1,22 @@
 -- What the entries for heartbeats that come in answer. Assumes nothing.
-use mathlib.Core.Path.{◌≡◌, refl, sym, ap, ◌∙◌}
+use mathlib.Core.Path.{◌≡◌, refl, sym, ap, ◌∙◌, subst}
 use mathlib.Core.Bool.{Bool, true, ◌||◌, or-false}
 use mathlib.Core.List.{List}
 use Prim.Native.Nat.{ℕ, ◌≤◌, ◌<◌}
 use native.Mathlib.Omega.{arith}
 use lib.ListN.{length}
 use borrow.Author.Tests.{eq-eqb, ne_eqb}
+use Rattle.std.specs.Prelude.{Option, None, Some, Result, Ok, Err}
 use Rattle.sets.proofs.Booleans.{or_f_r}
 use Rattle.parts.specs.Parts.{at_front}
 use Rattle.rules.specs.OneCycle.{wrong_mode, quiet_in}
 use Rattle.frames.specs.declared.Fault.{Fault}
 use Rattle.frames.specs.declared.Fault.TheVariants.{Length, HeaderCheck, FrameCheck, NullFrame, NotDue, Content}
-use Rattle.frames.specs.declared.HeartbeatRead.{HeartbeatRead}
-use Rattle.frames.specs.declared.HeartbeatRead.TheVariants.{Alive, Join, Request, Refused}
-use Rattle.frames.specs.declared.HeartbeatCounted.{HeartbeatCounted}
-use Rattle.frames.specs.declared.Copy.{Copy}
-use Rattle.frames.specs.declared.Copy.TheVariants.{Neither, OnA, OnB}
-use Rattle.frames.specs.Read.{fault_code, payload_of, drive_of, read_heartbeat, is_good, receive_heartbeat, drive_counted, join_of, request_of}
-use Rattle.frames.proofs.TwoChannels.{missed, Heard, heard_with, good_length, other-copies, a-counts, b-counts, drive-of-copy}
+use Rattle.frames.specs.declared.Heartbeat.{Heartbeat}
+use Rattle.frames.specs.declared.Channel.{Channel}
+use Rattle.frames.specs.declared.Counted.{Counted}
+use Rattle.frames.specs.Read.{fault_code, payload_of, drive_of, read_heartbeat, is_good, receive_heartbeat, heard_in, drive_on, drive_counted, join_of, request_of}
+use Rattle.frames.proofs.TwoChannels.{Heard, heard_with, good_length, other-copies, copy_on, copy-counts, drive-counts}
 use Rattle.refusal.proofs.Laws.{none, unless-done, unless-refused}
 use Rattle.entry_lent.specs.Refusals.{wrong_count, wrong_node, wrong_cycle, wrong_channel, wrong_length}
 use Rattle.entry_receive_heartbeat.specs.Hearing.{read_status, heartbeat_refusal, read_heartbeat_status, read_heartbeat_join, read_heartbeat_request, read_heartbeat_drive_bytes, read_heartbeat_drive}
@@ -33,13 +32,6 @@ fault_number FrameCheck e = omega arith
 fault_number NullFrame e = omega arith
 fault_number NotDue e = omega arith
 fault_number Content e = omega arith
-
--- a copy that is not refused is good
-unrefused : (x : HeartbeatRead) → heartbeat_refusal x ≡ 0 → is_good x ≡ true
-unrefused Alive e = refl
-unrefused Join e = refl
-unrefused Request e = refl
-unrefused (Refused f) e = absurd (fault_number f e)
 
 module _ (n mode q cycle channel : ℕ) (d : List ℕ) where
   pub read-bounds : read_status n mode q cycle channel d ≡ 0 → (q < 64) × (length d ≡ 252)
@@ -73,7 +65,7 @@ module _ (n mode q cycle channel : ℕ) (d : List ℕ) where
     read-refused k e h = kept k (simp (ne_eqb _ 0 (λ z. h (e ∙ z))) e) h
 
     -- numbers and buffer are not refused, and x is what was read in that mode
-    module _ (fine : read_status n mode q cycle channel d ≡ 0) (p : Bool) (m : p ≡ quiet_in mode) (x : HeartbeatRead) (g : x ≡ read_heartbeat p q cycle channel f) where
+    module _ (fine : read_status n mode q cycle channel d ≡ 0) (p : Bool) (m : p ≡ quiet_in mode) (x : Result Heartbeat Fault) (g : x ≡ read_heartbeat p q cycle channel f) where
       beat : x ≡ read_heartbeat (quiet_in mode) q cycle channel f
       beat = g ∙ ap (λ (b : Bool). read_heartbeat b q cycle channel f) m
 
@@ -81,23 +73,23 @@ module _ (n mode q cycle channel : ℕ) (d : List ℕ) where
       unfolding read_heartbeat_status
       status = simp (eq-eqb _ 0 fine) (ap heartbeat_refusal beat)
 
-      pub read-faulty : (r : ℕ) → r ≡ heartbeat_refusal x → (r ≡ 0 → ⊥) → Reads r d join request number
-      read-faulty r e h = kept r (e ∙ status) h
+      pub read-faulty : (fault : Fault) → x ≡ Err fault → (r : ℕ) → r ≡ fault_code fault → Reads r d join request number
+      read-faulty fault i r e = kept r (e ∙ sym (ap heartbeat_refusal i) ∙ status) (λ z. fault_number fault (sym e ∙ z))
 
-      pub read-good : (left : List ℕ) (bytes : ℕ) → heartbeat_refusal x ≡ 0 → left ≡ at_front (drive_of f) d → bytes ≡ length (drive_of f) → Reads 0 left (join_of x) (request_of x) bytes
+      pub read-good : (h : Heartbeat) → x ≡ Ok h → (left : List ℕ) (bytes : ℕ) → left ≡ at_front (drive_of f) d → bytes ≡ length (drive_of f) → Reads 0 left (join_of (Ok h)) (request_of (Ok h)) bytes
       unfolding read_heartbeat_drive read_heartbeat_join read_heartbeat_request read_heartbeat_drive_bytes
-      read-good left bytes e el eb =
-          let z = sym status ∙ e in (
+      read-good h i left bytes el eb =
+          let z = sym status ∙ ap heartbeat_refusal i in (
             sym z,
             (
               el ∙ sym (unless-done _ _ d z),
-              (ap join_of beat ∙ sym (unless-done _ _ join z), (ap request_of beat ∙ sym (unless-done _ _ request z), eb ∙ sym (unless-done _ _ number z))),
+              (ap join_of (sym i ∙ beat) ∙ sym (unless-done _ _ join z), (ap request_of (sym i ∙ beat) ∙ sym (unless-done _ _ request z), eb ∙ sym (unless-done _ _ number z))),
             ),
           )
 
       -- what the copying of drive bytes requires
-      pub room : heartbeat_refusal x ≡ 0 → (10 ≤ length f) × ((length f ≤ 262) × (length d ≡ 252))
-      room e = let l = good_length p q cycle channel f (ap is_good (sym g) ∙ unrefused x e) in (l.0, (l.1, (read-bounds fine).1))
+      pub room : (h : Heartbeat) → x ≡ Ok h → (10 ≤ length f) × ((length f ≤ 262) × (length d ≡ 252))
+      room h i = let l = good_length p q cycle channel f (ap is_good (sym g ∙ i)) in (l.0, (l.1, (read-bounds fine).1))
 
 -- ---- received on both
 
@@ -122,36 +114,42 @@ module _ (n mode q cycle : ℕ) (a b d : List ℕ) (heard number : ℕ) where
       (r, (sym (unless-refused _ _ d never), (sym (unless-refused _ _ heard never), sym (unless-refused _ _ number never))))
 
   -- numbers and buffer are not refused, and r is what counted in that mode
-  module _ (fine : read_status n mode q cycle 0 d ≡ 0) (p : Bool) (m : p ≡ quiet_in mode) (r : HeartbeatCounted) (g : r ≡ receive_heartbeat p q cycle a b) where
+  module _ (fine : read_status n mode q cycle 0 d ≡ 0) (p : Bool) (m : p ≡ quiet_in mode) (r : Option Counted) (g : r ≡ receive_heartbeat p q cycle a b) where
     counted : r ≡ receive_heartbeat (quiet_in mode) q cycle a b
     counted = g ∙ ap (λ (x : Bool). receive_heartbeat x q cycle a b) m
 
-    copy_is : (copy : Copy) → r.copy ≡ copy → (receive_heartbeat (quiet_in mode) q cycle a b).copy ≡ copy
-    copy_is copy k = ap (λ (x : HeartbeatCounted). x.copy) (sym counted) ∙ k
-
     -- what the copying of the drive bytes of the copy that counts requires
-    pub room-of-a : r.copy ≡ OnA → (10 ≤ length a) × ((length a ≤ 262) × (length d ≡ 252))
-    room-of-a k = let l = a-counts (quiet_in mode) q cycle a b (copy_is OnA k) in (l.0, (l.1, (read-bounds n mode q cycle 0 d fine).1))
+    pub room_of : (k : Counted) → r ≡ Some k → (channel : Channel) → k.channel ≡ channel
+        → (10 ≤ length (copy_on p q cycle a b channel)) × ((length (copy_on p q cycle a b channel) ≤ 262) × (length d ≡ 252))
+    room_of k i channel e =
+        let l = copy-counts p q cycle a b k (sym g ∙ i) in
+        subst (λ (x : Channel). (10 ≤ length (copy_on p q cycle a b x)) × ((length (copy_on p q cycle a b x) ≤ 262) × (length d ≡ 252))) e
+        (l.0, (l.1, (read-bounds n mode q cycle 0 d fine).1))
 
-    pub room-of-b : r.copy ≡ OnB → (10 ≤ length b) × ((length b ≤ 262) × (length d ≡ 252))
-    room-of-b k = let l = b-counts (quiet_in mode) q cycle a b (copy_is OnB k) in (l.0, (l.1, (read-bounds n mode q cycle 0 d fine).1))
-
-    pub receive-copies : (copy : Copy) (left : List ℕ) (code bytes : ℕ) → code ≡ heard_code r.heard → r.copy ≡ copy → left ≡ at_front (drive_counted copy a b) d
-        → bytes ≡ length (drive_counted copy a b) → Receives 0 left code bytes
+    pub receive-copies : (o : Option Counted) → r ≡ o → (left : List ℕ) (code bytes : ℕ) → code ≡ heard_code (heard_in o) → left ≡ at_front (drive_counted o a b) d
+        → bytes ≡ length (drive_counted o a b) → Receives 0 left code bytes
     unfolding receive_heartbeat_heard receive_heartbeat_drive receive_heartbeat_drive_bytes
-    receive-copies copy left code bytes c k el eb =
+    receive-copies o i left code bytes c el eb =
         let z = sym (receive_status n mode q cycle d) ∙ fine in
-        let h = drive-of-copy (quiet_in mode) q cycle a b copy (copy_is copy k) in (
+        let k = sym counted ∙ i in
+        let h = drive-counts (quiet_in mode) q cycle a b o k in (
           sym z,
           (
             el ∙ ap (λ (x : List ℕ). at_front x d) (sym h) ∙ sym (unless-done _ _ d z),
-            (c ∙ ap (λ (x : HeartbeatCounted). heard_code x.heard) counted ∙ sym (unless-done _ _ heard z), eb ∙ ap length (sym h) ∙ sym (unless-done _ _ number z)),
+            (c ∙ ap (λ (x : Option Counted). heard_code (heard_in x)) (sym k) ∙ sym (unless-done _ _ heard z), eb ∙ ap length (sym h) ∙ sym (unless-done _ _ number z)),
           ),
         )
 
+    -- the same by the channel of the copy that counts
+    pub receive-on : (k : Counted) → r ≡ Some k → (channel : Channel) → k.channel ≡ channel → (left : List ℕ) (code bytes : ℕ) → code ≡ heard_code (Some k.heartbeat)
+        → left ≡ at_front (drive_on channel a b) d → bytes ≡ length (drive_on channel a b) → Receives 0 left code bytes
+    receive-on k i channel e left code bytes c el eb =
+        let h = ap (λ (x : Channel). drive_on x a b) (sym e) in
+        receive-copies (Some k) i left code bytes c (el ∙ ap (λ (x : List ℕ). at_front x d) h) (eb ∙ ap length h)
+
   -- a missed frame is no refusal: nothing is heard, there are no drive bytes, and the buffer is as it came in
-  pub missed-untouched : receive_heartbeat_status n mode q cycle d ≡ 0 → receive_heartbeat (quiet_in mode) q cycle a b ≡ missed → Receives 0 d 0 0
-  missed-untouched e m = receive-copies (receive_status n mode q cycle d ∙ e) (quiet_in mode) refl missed (sym m) Neither d 0 0 refl refl refl refl
+  pub missed-untouched : receive_heartbeat_status n mode q cycle d ≡ 0 → receive_heartbeat (quiet_in mode) q cycle a b ≡ None → Receives 0 d 0 0
+  missed-untouched e m = receive-copies (receive_status n mode q cycle d ∙ e) (quiet_in mode) refl None (sym m) None refl d 0 0 refl refl refl
 
   -- so are two good copies that differ in any byte of their payloads
   pub differing-missed : receive_heartbeat_status n mode q cycle d ≡ 0 → is_good (read_heartbeat (quiet_in mode) q cycle 0 a) ≡ true → is_good (read_heartbeat (quiet_in mode) q cycle 1 b) ≡ true

@@ -1,13 +1,12 @@
 -- What the entries for heartbeats that come in answer and leave.
 -- Assumes nothing.
-use Rattle.std.specs.Prelude.{◌||◌, cond, List, [], ◌∷◌, ℕ, eqb, length}
+use Rattle.std.specs.Prelude.{Option, None, Some, Result, Ok, Err, ◌||◌, cond, List, [], ◌∷◌, ℕ, eqb, length}
 use Rattle.parts.specs.Parts.{at_front}
 use Rattle.rules.specs.OneCycle.{wrong_mode, quiet_in}
-use Rattle.frames.specs.declared.HeartbeatRead.{HeartbeatRead}
-use Rattle.frames.specs.declared.HeartbeatRead.TheVariants as read
-use Rattle.frames.specs.declared.HeartbeatReceived.{HeartbeatReceived}
-use Rattle.frames.specs.declared.HeartbeatReceived.TheVariants as received
-use Rattle.frames.specs.Read.{fault_code, drive_of, read_heartbeat, join_of, request_of, receive_heartbeat, drive_heard}
+use Rattle.frames.specs.declared.Fault.{Fault}
+use Rattle.frames.specs.declared.Heartbeat.{Heartbeat}
+use Rattle.frames.specs.declared.Heartbeat.TheVariants.{Alive, Join, Request}
+use Rattle.frames.specs.Read.{fault_code, drive_of, read_heartbeat, join_of, request_of, receive_heartbeat, heard_in, drive_heard}
 use Rattle.refusal.specs.Refusal.{when, first, unless}
 use Rattle.entry_lent.specs.Refusals.{wrong_count, wrong_node, wrong_cycle, wrong_channel, wrong_length}
 
@@ -24,11 +23,9 @@ read_status n mode q cycle channel d =
     ∷ when (wrong_length 252 d) 3
     ∷ [])
 
-abbrev pub heartbeat_refusal : HeartbeatRead → ℕ
-heartbeat_refusal read.Alive = 0
-heartbeat_refusal read.Join = 0
-heartbeat_refusal read.Request = 0
-heartbeat_refusal (read.Refused f) = fault_code f
+abbrev pub heartbeat_refusal : Result Heartbeat Fault → ℕ
+heartbeat_refusal (Ok h) = 0
+heartbeat_refusal (Err f) = fault_code f
 
 unfoldable pub read_heartbeat_status : ℕ → ℕ → ℕ → ℕ → ℕ → List ℕ → List ℕ → ℕ
 read_heartbeat_status n mode q cycle channel f d =
@@ -52,11 +49,11 @@ read_heartbeat_drive n mode q cycle channel f d = unless (read_heartbeat_status 
 
 -- ---- receiving the copies a and b on both channels: 0 missed, 1 a member's, 2 a joining node's, 3 that of a member that requests; missed, there are no drive bytes
 
-abbrev pub heard_code : HeartbeatReceived → ℕ
-heard_code received.Missed = 0
-heard_code received.Alive = 1
-heard_code received.Join = 2
-heard_code received.Request = 3
+abbrev pub heard_code : Option Heartbeat → ℕ
+heard_code None = 0
+heard_code (Some Alive) = 1
+heard_code (Some Join) = 2
+heard_code (Some Request) = 3
 
 unfoldable pub receive_heartbeat_status : ℕ → ℕ → ℕ → ℕ → List ℕ → ℕ
 receive_heartbeat_status n mode q cycle d =
@@ -64,7 +61,7 @@ receive_heartbeat_status n mode q cycle d =
 
 unfoldable pub receive_heartbeat_heard : ℕ → ℕ → ℕ → ℕ → List ℕ → List ℕ → List ℕ → ℕ → ℕ
 receive_heartbeat_heard n mode q cycle a b d heard =
-    unless (receive_heartbeat_status n mode q cycle d) (heard_code (receive_heartbeat (quiet_in mode) q cycle a b).heard) heard
+    unless (receive_heartbeat_status n mode q cycle d) (heard_code (heard_in (receive_heartbeat (quiet_in mode) q cycle a b))) heard
 
 unfoldable pub receive_heartbeat_drive_bytes : ℕ → ℕ → ℕ → ℕ → List ℕ → List ℕ → List ℕ → ℕ → ℕ
 receive_heartbeat_drive_bytes n mode q cycle a b d bytes = unless (receive_heartbeat_status n mode q cycle d) (length (drive_heard (quiet_in mode) q cycle a b)) bytes
