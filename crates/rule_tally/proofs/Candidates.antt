@@ -230,3 +230,14 @@ module _ (numbers sets bases views : List ℕ) (n present : ℕ) (g : Group) whe
               let u : v ≡ vote_at numbers sets bases views k = some_inj (sym a ∙ alike left k K s h ek x i j ∙ full k (s.within k h).1) in
               wins-not v w (λ y. record { group = e y; view = (u y).view })
           other v e w x i a (inr j) = wins-not v w (some_inj (sym a ∙ (t.voted x j).1))
+
+-- ---- by what the loops keep: the next candidate is a node that is left, and the next voter one of the rest
+
+module _ {numbers sets bases views : List ℕ} {n present : ℕ} {g : Group} {left : ℕ} (small : n ≤ 64) (s : Tried numbers sets bases views n present g left) where
+  pub next-candidate : (lead k : ℕ) (r : Bool) → r ≡ quorum left g.base → r ≡ true → k ≡ lowest 64 (λ x. has x (cond (eqb (left ∩ lead) 0) left (left ∩ lead)))
+      → (k < n) × (has k left ≡ true)
+  next-candidate lead k r e t = candidate-in numbers sets bases views n present g left lead k small s (sym e ∙ t)
+
+  pub next-voter : {v : Vote} {m rest p : ℕ} → Counted numbers sets bases views n present g v left m rest → (rest ≡ 0 → ⊥) → p ≡ lowest 64 (λ x. has x rest)
+      → (p < n) × (has p rest ≡ true)
+  next-voter {rest = rest} {p = p} t some_left e = lowest_node n rest p small (λ x h. (s.within x (t.inside x h)).0) some_left e
