@@ -5,10 +5,10 @@ ghost use Rattle.std.specs.Prelude.{false};
 ghost use Rattle.print_program.specs.Run.{Does};
 
 use print_options::Program;
-use print_program::Done;
+use print_program::Run;
 
 // The whole, in mode 0.
-fn run(rt: HostRuntime) -> Done
+fn run(rt: HostRuntime) -> Option<Run>
     ensures { Does false result }
 {
     print_program::do_asked(rt, Program::Group)

@@ -1,243 +1,169 @@
 // What the program prints for a table, record by record.
 #![tactic(auto)]
 
-ghost use Rattle.std.specs.Prelude.{◌≡◌, true, false, ◌+◌, ◌≤◌, length};
+ghost use Rattle.std.specs.Prelude.{◌≡◌, ◌+◌, ◌≤◌, length};
 ghost use Rattle.table.specs.Records.{cycle_refusal};
-ghost use Rattle.print_pieces.specs.Pieces.{whole_in, held, Sound, Fresh, SessionBegun, Gives};
+ghost use Rattle.print_pieces.specs.declared.Session.TheVariants.{Fresh, Begun};
+ghost use Rattle.print_pieces.specs.Pieces.{is_begun, whole_in, CourseBegun, Gives};
 
-use cluster_states::Roles;
+use cluster_states::States;
 use cluster_watched::Watch;
 use rules::Config;
+use table::{CycleRecord, Start};
 
-// A table's run between two records: whether its first record is read, and the mode; and then its nodes, the number of the next cycle, who is what, and
-// what is watched. The caller holds the groups of the nodes, in three arrays.
+// A table's run between two of its cycles: the press, the number of the next cycle, and what is watched. The caller holds the states of the nodes, which would be
+// copied with it at every call.
 #[derive(Clone, Copy)]
-pub struct Session {
-    pub begun: bool,
+pub struct Course {
     pub config: Config,
     pub cycle: u64,
-    pub roles: Roles,
     pub watch: Watch,
+    ghost few: { config.nodes ≤ 64 },
+    // a cycle after number 4294967295 is refused
+    ghost counted: { cycle ≤ 4294967296 },
 }
 
-// What one record gave: the session after it, the bytes of the table that it took, the cursor after what it wrote, and whether that was the last.
+// A table's run between two records: before the first of them whether the press is quiet is all that is known.
+#[derive(Clone, Copy)]
+pub enum Session {
+    Fresh(bool),
+    Begun(Course),
+}
+
+impl Session {
+    // Whether the next record is whole in what is seen of the rest of a table.
+    pub fn is_whole(self, left: &[u8]) -> bool
+        ensures { result ≡ whole_in (is_begun self) left.now }
+    {
+        match self {
+            Session::Fresh(_) => Start::LENGTH <= left.len(),
+            Session::Begun(_) => CycleRecord::read(left).is_some(),
+        }
+    }
+}
+
+// What one record gave: the session after it, none where it was the last; the bytes of the table that it took; and the cursor after what it wrote.
 #[derive(Clone, Copy)]
 pub struct Piece {
-    pub session: Session,
+    pub session: Option<Session>,
     pub taken: usize,
     pub at: usize,
-    pub over: bool,
 }
 
-// The run of a table of which nothing is read. Free: all of it but `begun` and the mode, since nothing is printed by it before the first record.
-pub fn fresh(quiet: bool) -> Session
-    ensures { Fresh quiet result }
-{
-    Session {
-        begun: false,
-        config: Config { nodes: 0, quiet },
-        cycle: 0,
-        roles: Roles {
-            members: 0,
-            asking: 0,
-            joining: 0,
-            no_quorum: 0,
-            outvoted: 0,
-        },
-        watch: cluster_reference::begin(0),
-    }
-}
-
-// Whether the next record is whole in what is seen of the rest of a table.
-pub fn is_whole(begun: bool, left: &[u8]) -> bool
-    ensures { result ≡ whole_in begun left.now }
-{
-    if !begun {
-        return 12 <= left.len();
-    }
-    if left.len() < 36 {
-        return false;
-    }
-    table_records::cycle_length(left) <= left.len()
-}
-
-// A session before cycle 1, and into the arrays the groups of its nodes.
-fn begin(
-    config: Config,
-    founding: u64,
-    numbers: &mut [u32; 64],
-    sets: &mut [u64; 64],
-    bases: &mut [u64; 64],
-) -> Session
+// A run before cycle 1, and the states of its nodes.
+fn begin(config: Config, founding: u64, states: &mut States) -> Course
     requires { config.nodes ≤ 64 }
-    ensures { SessionBegun config founding result (held numbers.new sets.new bases.new) }
+    ensures { CourseBegun config founding result states.new }
 {
-    let states = cluster_states::begin(config.nodes, founding);
-    let watch = cluster_reference::begin(founding);
-    let first_numbers = states.numbers;
-    let first_sets = states.sets;
-    let first_bases = states.bases;
-    *numbers = first_numbers;
-    *sets = first_sets;
-    *bases = first_bases;
-    Session {
-        begun: true,
+    *states = cluster_states::begin(config.nodes, founding);
+    Course {
         config,
         cycle: 1,
-        roles: Roles {
-            members: states.members,
-            asking: states.asking,
-            joining: states.joining,
-            no_quorum: states.no_quorum,
-            outvoted: states.outvoted,
-        },
-        watch,
+        watch: cluster_reference::begin(founding),
     }
 }
 
 // The first record: nothing, or the line of its refusal.
-fn open(
-    z: Session,
-    left: &[u8],
-    out: &mut [u8],
-    at: usize,
-    numbers: &mut [u32; 64],
-    sets: &mut [u64; 64],
-    bases: &mut [u64; 64],
-) -> Piece
-    requires begun_value { z.begun ≡ false }
-    requires sound { Sound z }
-    requires at_in_bounds { at + 128 ≤ length out.old }
-    ensures { Gives z (held numbers.old sets.old bases.old) left.now out.old at out.new result (held numbers.new sets.new bases.new) }
+fn open(quiet: bool, left: &[u8], out: &mut [u8], at: usize, states: &mut States) -> Piece
+    requires { at + 128 ≤ length out.old }
+    ensures { Gives (Fresh quiet) states.old left.now out.old at out.new result states.new }
 {
-    let refusal = table_first::start_refusal(false, 0, left);
-    if refusal != 0 {
-        let end = print_lines::put_refusal(out, at, refusal);
-        return Piece {
-            session: z,
+    match table_first::check_start(None, left) {
+        Err(refusal) => Piece {
+            session: None,
             taken: 0,
-            at: end,
-            over: true,
-        };
-    }
-    let nodes = table_first::start_count(left) as usize;
-    Piece {
-        session: begin(
-            Config {
-                nodes,
-                quiet: z.config.quiet,
-            },
-            table_first::start_founding(left),
-            numbers,
-            sets,
-            bases,
-        ),
-        taken: 12,
-        at,
-        over: false,
+            at: print_lines::put_refusal(out, at, u32::from(refusal)),
+        },
+        Ok(start) => {
+            let nodes = usize::from(start.nodes);
+            let course = begin(Config { nodes, quiet }, start.founding, states);
+            Piece {
+                session: Some(Session::Begun(course)),
+                taken: Start::LENGTH,
+                at,
+            }
+        }
     }
 }
 
-// One cycle, from a record that is not refused.
+// One cycle, from its record.
 fn run_cycle(
-    z: Session,
-    left: &[u8],
+    z: Course,
+    record: CycleRecord,
     out: &mut [u8],
     at: usize,
-    numbers: &mut [u32; 64],
-    sets: &mut [u64; 64],
-    bases: &mut [u64; 64],
+    states: &mut States,
 ) -> Piece
-    requires begun_value { z.begun ≡ true }
-    requires sound { Sound z }
-    requires left_value { cycle_refusal z.config.nodes z.cycle left.now ≡ 0 }
+    requires accepted { cycle_refusal z.config.nodes z.cycle record.bytes.now ≡ 0 }
     requires at_in_bounds { at + 100 ≤ length out.old }
-    ensures { Gives z (held numbers.old sets.old bases.old) left.now out.old at out.new result (held numbers.new sets.new bases.new) }
+    ensures { Gives (Begun z) states.old record.entry.bytes.now out.old at out.new result states.new }
 {
-    let config = z.config;
-    let cycle = z.cycle;
-    let roles = z.roles;
-    let watch = z.watch;
     let mut unheard = [0u64; 64];
     let mut missed = [0u64; 64];
-    table_faults::cycle_missed(left, &mut unheard, &mut missed);
-    let marks = table_faults::marks_at(left);
+    table_faults::cycle_missed(record, &mut unheard, &mut missed);
     let turn = cluster_reference::step(
-        config, roles, numbers, sets, bases, watch, marks, &unheard, &missed,
+        z.config,
+        states,
+        z.watch,
+        record.marks(),
+        &unheard,
+        &missed,
     );
-    let next = turn.watch;
-    let end = print_lines::put_line(out, at, cycle, turn.kept, next, turn.halted, turn.entered);
-    let after = turn.roles;
-    let later = cycle + 1;
+    let end = print_lines::put_line(
+        out,
+        at,
+        z.cycle,
+        turn.kept,
+        turn.watch,
+        turn.halted,
+        turn.entered,
+    );
+    let course = Course {
+        config: z.config,
+        cycle: z.cycle + 1,
+        watch: turn.watch,
+    };
     Piece {
-        session: Session {
-            begun: true,
-            config,
-            cycle: later,
-            roles: after,
-            watch: next,
-        },
-        taken: table_records::cycle_length(left),
+        session: Some(Session::Begun(course)),
+        taken: record.length(),
         at: end,
-        over: false,
     }
 }
 
 // A record after the first: the line of its cycle, or of its refusal, or nothing at the end of the file.
-fn next(
-    z: Session,
-    left: &[u8],
-    out: &mut [u8],
-    at: usize,
-    numbers: &mut [u32; 64],
-    sets: &mut [u64; 64],
-    bases: &mut [u64; 64],
-) -> Piece
-    requires begun_value { z.begun ≡ true }
-    requires sound { Sound z }
-    requires at_in_bounds { at + 128 ≤ length out.old }
-    ensures { Gives z (held numbers.old sets.old bases.old) left.now out.old at out.new result (held numbers.new sets.new bases.new) }
+fn next(z: Course, left: &[u8], out: &mut [u8], at: usize, states: &mut States) -> Piece
+    requires { at + 128 ≤ length out.old }
+    ensures { Gives (Begun z) states.old left.now out.old at out.new result states.new }
 {
-    if left.len() == 0 {
+    if left.is_empty() {
         return Piece {
-            session: z,
+            session: None,
             taken: 0,
             at,
-            over: true,
         };
     }
-    let refusal = table_records::cycle_refusal(z.config.nodes, z.cycle, left);
-    if refusal != 0 {
-        let last = print_lines::put_refusal(out, at, refusal);
-        return Piece {
-            session: z,
-            taken: 0,
-            at: last,
-            over: true,
-        };
+    match table_records::check_cycle(z.config.nodes, z.cycle, left) {
+        Err(refusal) => {
+            let last = print_lines::put_refusal(out, at, u32::from(refusal));
+            Piece {
+                session: None,
+                taken: 0,
+                at: last,
+            }
+        }
+        Ok(record) => run_cycle(z, record, out, at, states),
     }
-    run_cycle(z, left, out, at, numbers, sets, bases)
 }
 
-// Takes one record of a table, or its end: `left` is what is seen of the rest, the record whole or all of it. The arrays hold the groups of the nodes.
-// Free: what the cluster as it stands (`standing`) does not show of session and arrays, all of them once it is over, and everything where a record that is cut
+// Takes one record of a table, or its end: `left` is what is seen of the rest, the record whole or all of it. `states` are those of the nodes.
+// Free: what the cluster as it stands (`standing`) does not show of session and states, the states once it is over, and everything where a record that is cut
 // is taken before the end of the file.
-pub fn turn(
-    z: Session,
-    left: &[u8],
-    out: &mut [u8],
-    at: usize,
-    numbers: &mut [u32; 64],
-    sets: &mut [u64; 64],
-    bases: &mut [u64; 64],
-) -> Piece
-    requires sound { Sound z }
-    requires at_in_bounds { at + 128 ≤ length out.old }
-    ensures { Gives z (held numbers.old sets.old bases.old) left.now out.old at out.new result (held numbers.new sets.new bases.new) }
+pub fn turn(z: Session, left: &[u8], out: &mut [u8], at: usize, states: &mut States) -> Piece
+    requires { at + 128 ≤ length out.old }
+    ensures { Gives z states.old left.now out.old at out.new result states.new }
 {
-    if z.begun {
-        next(z, left, out, at, numbers, sets, bases)
-    } else {
-        open(z, left, out, at, numbers, sets, bases)
+    match z {
+        Session::Fresh(quiet) => open(quiet, left, out, at, states),
+        Session::Begun(course) => next(course, left, out, at, states),
     }
 }

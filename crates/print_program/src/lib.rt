@@ -3,9 +3,9 @@
 
 ghost use Rattle.std.specs.Prelude.{◌≡◌, ◌+◌, ◌*◌, ◌≤◌, ◌<◌, IfOk, length, take};
 ghost use Rattle.print_options.specs.Options.{is_quiet};
-ghost use Rattle.print_pieces.specs.Pieces.{held};
 ghost use Rattle.print_program.specs.Run.{Ready, Goes, has_ended, Ended, Prints, Does};
 
+use cluster_states::States;
 use print_answers::Failed;
 use print_options::{Asked, Program};
 use print_stream::Taken;
@@ -13,20 +13,13 @@ use std::env::{Env, FillError};
 use std::io;
 use std::io::{IsTerminal, Read, Write};
 
-// A run between two reads: what the last call left, how many reads there were, and whether the last read or the last write failed.
+// A run between two reads: what the last call left, how many reads there were, and whether the last read or the last write failed, or both.
 #[derive(Clone, Copy)]
 pub struct Run {
     pub last: Taken,
     pub reads: u64,
     pub unread: bool,
     pub lost: bool,
-}
-
-// What a program did: it printed a run, which ended so, or it answered its arguments.
-#[derive(Clone, Copy)]
-pub enum Done {
-    Printed(Run),
-    Answered,
 }
 
 // Reads behind the bytes kept, which stay.
@@ -39,58 +32,36 @@ fn read_on(rt: HostRuntime, input: &mut [u8], kept: usize) -> io::Result<usize>
 }
 
 // One read, the call on what it brought, and the write of what that gave.
-fn next(
-    rt: HostRuntime,
-    input: &mut [u8],
-    out: &mut [u8],
-    r: Run,
-    numbers: &mut [u32; 64],
-    sets: &mut [u64; 64],
-    bases: &mut [u64; 64],
-) -> Run
+fn next(rt: HostRuntime, input: &mut [u8], out: &mut [u8], r: Run, states: &mut States) -> Run
     requires ready { Ready input.old out.old r.last }
     requires reads_bound { r.reads < 18446744073709551615 }
     ensures reads_value { result.reads ≡ r.reads + 1 }
-    ensures goes { Goes r (held numbers.old sets.old bases.old) input.old result (held numbers.new sets.new bases.new) input.new out.new }
+    ensures goes { Goes r states.old input.old result states.new input.new out.new }
 {
     let reads = r.reads + 1;
     let before = r.last;
-    let session = before.session;
+    let session = before.session.unwrap();
     let kept = before.kept;
     let at = before.at;
     let Ok(more) = read_on(rt, input, kept) else {
-        let done = rt.stdout().write_all(&out[..at]).is_ok();
         return Run {
             last: before,
             reads,
             unread: true,
-            lost: !done,
+            lost: rt.stdout().write_all(&out[..at]).is_err(),
         };
     };
-    let taken = print_stream::take(
-        session,
-        input,
-        kept + more,
-        more == 0,
-        out,
-        at,
-        numbers,
-        sets,
-        bases,
-    );
-    let after = taken.session;
-    let end = taken.at;
-    let done = rt.stdout().write_all(&out[..end]).is_ok();
+    let taken = print_stream::take(session, input, kept + more, more == 0, out, at, states);
+    let lost = rt.stdout().write_all(&out[..taken.at]).is_err();
     Run {
         last: Taken {
-            session: after,
+            session: taken.session,
             kept: taken.kept,
             at: 0,
-            over: taken.over,
         },
         reads,
         unread: false,
-        lost: !done,
+        lost,
     }
 }
 
@@ -98,30 +69,13 @@ fn next(
 fn has_ended(r: Run) -> bool
     ensures { result ≡ has_ended r }
 {
-    if r.last.over {
-        return true;
-    }
-    if r.unread {
-        return true;
-    }
-    if r.lost {
-        return true;
-    }
-    r.reads == u64::MAX
+    r.last.session.is_none() || (r.unread || (r.lost || r.reads == u64::MAX))
 }
 
 // The whole print in a mode, in as many reads as it takes.
-fn print(
-    rt: HostRuntime,
-    quiet: bool,
-    input: &mut [u8],
-    out: &mut [u8],
-    numbers: &mut [u32; 64],
-    sets: &mut [u64; 64],
-    bases: &mut [u64; 64],
-) -> Run
+fn print(rt: HostRuntime, quiet: bool, input: &mut [u8], out: &mut [u8], states: &mut States) -> Run
     requires { (2331 ≤ length input.old) × (39 + (3 * length input.old + 128) ≤ length out.old) }
-    ensures { Ended quiet result (held numbers.new sets.new bases.new) input.new }
+    ensures { Ended quiet result states.new input.new }
 {
     let mut run = Run {
         last: print_stream::begin(quiet, out),
@@ -129,10 +83,8 @@ fn print(
         unread: false,
         lost: false,
     };
-    let mut ended = has_ended(run);
-    while !ended {
-        run = next(rt, input, out, run, numbers, sets, bases);
-        ended = has_ended(run);
+    while !has_ended(run) {
+        run = next(rt, input, out, run, states);
     }
     run
 }
@@ -150,19 +102,9 @@ fn print_table(rt: HostRuntime, p: Program) -> Run
 {
     let mut input = [0u8; 32768];
     let mut out = [0u8; 131072];
-    let mut numbers = [0u32; 64];
-    let mut sets = [0u64; 64];
-    let mut bases = [0u64; 64];
+    let mut states = cluster_states::begin(0, 0);
     let quiet = print_options::is_quiet(p);
-    let run = print(
-        rt,
-        quiet,
-        &mut input,
-        &mut out,
-        &mut numbers,
-        &mut sets,
-        &mut bases,
-    );
+    let run = print(rt, quiet, &mut input, &mut out, &mut states);
     if run.unread {
         tell(rt, p, Failed::Read);
     }
@@ -200,20 +142,20 @@ fn answer(rt: HostRuntime, p: Program, asked: Asked) -> bool {
     }
 }
 
-// The whole of a program: what its arguments ask for.
-pub fn do_asked(rt: HostRuntime, p: Program) -> Done
+// The whole of a program: what its arguments ask for. Answers the run that it printed, none where it answered them.
+pub fn do_asked(rt: HostRuntime, p: Program) -> Option<Run>
     ensures { Does (is_quiet p) result }
 {
     let asked = read_arguments(rt);
-    if let Asked::Run = asked {
+    if asked == Asked::Run {
         if rt.stdin().is_terminal() {
             answer(rt, p, asked);
         }
-        Done::Printed(print_table(rt, p))
+        Some(print_table(rt, p))
     } else {
         if !answer(rt, p, asked) {
             tell(rt, p, Failed::Write);
         }
-        Done::Answered
+        None
     }
 }

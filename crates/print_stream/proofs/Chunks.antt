@@ -1,6 +1,6 @@
 -- The two theorems of a print in chunks. Assumes nothing.
 use mathlib.Core.Path.{◌≡◌, refl, sym, ap, ap₂, ◌∙◌}
-use mathlib.Core.Bool.{Bool, true, false, ◌&&◌, cond, true≢false}
+use mathlib.Core.Bool.{Bool, true, false, ◌&&◌, true≢false}
 use mathlib.Core.List.{List, [], ◌++◌, append-nil}
 use Prim.Native.Nat.{ℕ, ◌≤◌}
 use lib.Dec.{eqb}
@@ -13,8 +13,12 @@ use Rattle.print_run.specs.Printed.{header_line}
 use Rattle.print_window.specs.Window.{Report, text_of}
 use Rattle.print_window.specs.Chunks.{joined}
 use Rattle.print_window.proofs.Chunks.{chunks-give, reached-due, reached-none}
+use Rattle.std.specs.Prelude.{Option, None, Some}
+use Rattle.cluster_states.specs.declared.States.{States}
+use Rattle.print_pieces.specs.declared.Course.{Course}
 use Rattle.print_pieces.specs.declared.Session.{Session}
-use Rattle.print_pieces.specs.Pieces.{Groups, following, opening, remaining, whole_in, longest, standing, due, whole}
+use Rattle.print_pieces.specs.declared.Session.TheVariants.{Fresh, Begun}
+use Rattle.print_pieces.specs.Pieces.{following, opening, remaining, remaining_if, is_begun, is_begun_if, whole_in, longest, standing, Print, due, whole}
 use Rattle.print_pieces.proofs.Following.{following-end, following-refused, opening-refused, printed-is}
 use Rattle.print_stream.specs.declared.Taken.{Taken}
 use Rattle.print_stream.specs.Stream.{Begins}
@@ -37,7 +41,7 @@ no_first quiet s w = go (eqb (start_refusal false 0 s) 0) refl
     go true e = absurd (true≢false (sym (first_if s (begins false 0 s (eqb-true (start_refusal false 0 s) 0 e)).there) ∙ w))
     go false e = ap (λ (r : Report). r.lines) (opening-refused quiet s (start_refusal false 0 s) refl (eqb-false (start_refusal false 0 s) 0 e))
 
-module _ (z : Session) (g : Groups) (s : List ℕ) where
+module _ (z : Course) (g : States) (s : List ℕ) where
   no-cycle : whole_in true s ≡ false → (following z.config z.cycle (standing z g) s).lines ≡ []
   no-cycle w = go (eqb (length s) 0) refl (eqb (cycle_refusal z.config.nodes z.cycle s) 0) refl
     where
@@ -52,24 +56,27 @@ module _ (z : Session) (g : Groups) (s : List ℕ) where
           (following-refused z.config z.cycle (standing z g) s (cycle_refusal z.config.nodes z.cycle s) refl (eqb-false (length s) 0 ea)
           (eqb-false (cycle_refusal z.config.nodes z.cycle s) 0 eb))
 
-  none-due : whole_in z.begun s ≡ false → (remaining z g s).lines ≡ []
-  unfolding remaining
-  none-due w = go z.begun w
-    where
-      go : (b : Bool) → whole_in b s ≡ false → (cond b (following z.config z.cycle (standing z g) s) (opening z.config.quiet s)).lines ≡ []
-      go true e = no-cycle e
-      go false e = no_first z.config.quiet s e
+none-due : (p : Print) (s : List ℕ) → whole p s ≡ false → (due p s).lines ≡ []
+unfolding remaining
+none-due p s = go p.session
+  where
+    of : (z : Session) → whole_in (is_begun z) s ≡ false → (remaining z p.states s).lines ≡ []
+    of (Fresh quiet) e = no_first quiet s e
+    of (Begun z) e = no-cycle z p.states s e
+
+    go : (z : Option Session) → whole_in (is_begun_if z) s ≡ false → (remaining_if z p.states s).lines ≡ []
+    go None e = refl
+    go (Some z) e = of z e
 
 -- ---- the whole
 
-module _ (quiet : Bool) (out out' : List ℕ) (r : Taken) (g : Groups) (b : Begins quiet out out' r) where
+module _ (quiet : Bool) (out out' : List ℕ) (r : Taken) (g : States) (b : Begins quiet out out' r) where
   first-is : first_text out' r ≡ header_line
   first-is = front b.header
 
   all-due : (s : List ℕ) → due (begun r g) s ≡ opening quiet s
   unfolding remaining
-  all-due s =
-      ap₂ (λ (u q : Bool). cond u (following r.session.config r.session.cycle (standing r.session g) s) (opening q s)) b.fresh.begun b.fresh.mode
+  all-due s = ap (λ (z : Option Session). remaining_if z g s) b.fresh
 
 pub chunks_print : ChunksPrint
 chunks_print quiet out out' r g chunks t b calls =
@@ -82,8 +89,8 @@ unfolding whole_in
 failed_prints quiet out out' r g chunks s kept t b calls =
     ap₂ (λ (h l : List ℕ). h ++ l) (first-is quiet out out' r g b)
     (sym (append-nil t)
-    ∙ ap (λ (l : List ℕ). t ++ l) (sym (none-due s.session s.groups kept (reached-none due whole longest fresh calls)))
+    ∙ ap (λ (l : List ℕ). t ++ l) (sym (none-due s kept (reached-none due whole longest fresh calls)))
     ∙ ap (λ (d : Report). d.lines) (sym (reached-due due whole longest calls) ∙ all-due quiet out out' r g b (joined chunks)))
   where
-    fresh : whole_in r.session.begun [] ≡ false
-    fresh = ap (λ (u : Bool). whole_in u []) b.fresh.begun
+    fresh : whole_in (is_begun_if r.session) [] ≡ false
+    fresh = ap (λ (z : Option Session). whole_in (is_begun_if z) []) b.fresh

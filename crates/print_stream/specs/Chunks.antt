@@ -5,7 +5,8 @@ use Rattle.std.specs.Prelude.{◌≡◌, Bool, List, [], ◌++◌, ℕ, take}
 use Rattle.print_run.specs.Printed.{header_line, printed}
 use Rattle.print_window.specs.Stream.{Called}
 use Rattle.print_window.specs.Chunks.{joined, Streamed, Reached}
-use Rattle.print_pieces.specs.Pieces.{Groups, longest, opening, Print, print_of, due, whole}
+use Rattle.cluster_states.specs.declared.States.{States}
+use Rattle.print_pieces.specs.Pieces.{longest, opening, Print, print_of, due, whole}
 use Rattle.print_stream.specs.declared.Taken.{Taken}
 use Rattle.print_stream.specs.Stream.{Begins}
 
@@ -17,8 +18,8 @@ Calls = Called due whole longest
 abbrev pub first_text : List ℕ → Taken → List ℕ
 first_text out' r = take r.at out'
 
--- after `begin`, with anything in the arrays
-abbrev pub begun : Taken → Groups → Print
+-- after `begin`, with any states
+abbrev pub begun : Taken → States → Print
 begun r g = print_of r.session g
 
 -- the header and the lines of the whole cycles of a file that may be cut anywhere, and no refusal
@@ -27,10 +28,10 @@ whole_lines quiet s = header_line ++ (opening quiet s).lines
 
 -- For every file and every way to cut it into chunks, none of them empty, the texts one after the other are `printed` of the file.
 abbrev pub ChunksPrint : Type 0
-ChunksPrint = (quiet : Bool) (out out' : List ℕ) (r : Taken) (g : Groups) (chunks : List (List ℕ)) (t : List ℕ) → Begins quiet out out' r
+ChunksPrint = (quiet : Bool) (out out' : List ℕ) (r : Taken) (g : States) (chunks : List (List ℕ)) (t : List ℕ) → Begins quiet out out' r
     → Streamed Calls (begun r g) [] chunks t → first_text out' r ++ t ≡ printed quiet (joined chunks)
 
 -- Where the read after some chunks fails, what was given are the header and the lines of the whole cycles before it.
 abbrev pub FailedPrints : Type 0
-FailedPrints = (quiet : Bool) (out out' : List ℕ) (r : Taken) (g : Groups) (chunks : List (List ℕ)) (b : Print) (kept t : List ℕ) → Begins quiet out out' r
+FailedPrints = (quiet : Bool) (out out' : List ℕ) (r : Taken) (g : States) (chunks : List (List ℕ)) (b : Print) (kept t : List ℕ) → Begins quiet out out' r
     → Reached Calls (begun r g) [] chunks b kept t → first_text out' r ++ t ≡ whole_lines quiet (joined chunks)
