@@ -89,23 +89,23 @@ fn open(quiet: bool, left: &[u8], out: &mut [u8], at: usize, states: &mut States
 // One cycle, from its record.
 fn run_cycle(
     z: Course,
-    record: CycleRecord,
+    cycle: CycleRecord,
     out: &mut [u8],
     at: usize,
     states: &mut States,
 ) -> Piece
-    requires accepted { cycle_refusal z.config.nodes z.cycle record.bytes.now ≡ 0 }
+    requires accepted { cycle_refusal z.config.nodes z.cycle cycle.bytes.now ≡ 0 }
     requires at_in_bounds { at + 100 ≤ length out.old }
-    ensures { Gives (Begun z) states.old record.entry.bytes.now out.old at out.new result states.new }
+    ensures { Gives (Begun z) states.old cycle.entry.bytes.now out.old at out.new result states.new }
 {
     let mut unheard = [0u64; 64];
     let mut missed = [0u64; 64];
-    table_faults::cycle_missed(record, &mut unheard, &mut missed);
+    table_faults::cycle_missed(cycle, &mut unheard, &mut missed);
     let turn = cluster_reference::step(
         z.config,
         states,
         z.watch,
-        record.marks(),
+        cycle.marks(),
         &unheard,
         &missed,
     );
@@ -125,7 +125,7 @@ fn run_cycle(
     };
     Piece {
         session: Some(Session::Begun(course)),
-        taken: record.length(),
+        taken: cycle.length(),
         at: end,
     }
 }
@@ -151,7 +151,7 @@ fn next(z: Course, left: &[u8], out: &mut [u8], at: usize, states: &mut States) 
                 at: last,
             }
         }
-        Ok(record) => run_cycle(z, record, out, at, states),
+        Ok(cycle) => run_cycle(z, cycle, out, at, states),
     }
 }
 
