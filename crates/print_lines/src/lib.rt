@@ -24,12 +24,14 @@ fn put_group(out: &mut [u8], at: usize, w: Watch) -> usize
     requires { at + 37 ≤ length out.old }
     ensures { Appended out.old at (group_text (reference_of w)) out.new result }
 {
-    if !w.defined {
-        return print_text::put(out, at, b"- -");
+    match w.group {
+        None => print_text::put(out, at, b"- -"),
+        Some(g) => {
+            let number = print_text::put_decimal(out, at, u64::from(g.number));
+            let space = print_text::put_byte(out, number, b' ');
+            print_text::put_hex(out, space, g.set)
+        }
     }
-    let number = print_text::put_decimal(out, at, w.group.number as u64);
-    let space = print_text::put_byte(out, number, b' ');
-    print_text::put_hex(out, space, w.group.set)
 }
 
 // The last two fields of a line.
