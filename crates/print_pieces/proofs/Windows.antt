@@ -8,7 +8,7 @@ use native.Mathlib.Omega.{arith}
 use lib.Dec.{eqb, ltb, leb}
 use lib.ListN.{get_or, length, length-take}
 use lib.Seq.{get_or-take}
-use borrow.Author.Tests.{le-ltb, leb-true, leb-false}
+use borrow.Author.Tests.{le-ltb, le-leb, leb-true, leb-false}
 use Rattle.sets.specs.Sets.{has, every}
 use Rattle.sets.proofs.Booleans.{and_l, and_r}
 use Rattle.bigendian.specs.BigEndian.{number_at}
@@ -128,6 +128,20 @@ whole-cycle s e =
     let a = leb 36 (length s) in
     let b = leb (cycle_length s) (length s) in
     (leb-true 36 (length s) (and_l a b e), leb-true (cycle_length s) (length s) (and_r a b e))
+
+-- a later record is whole where all its bytes are there
+pub whole-there : (s : List ℕ) (r : Bool) → (r ≡ true → cycle_length s ≤ length s) → (cycle_length s ≤ length s → r ≡ true) → r ≡ whole_in true s
+unfolding whole_in
+whole-there s r there full = go r refl (leb (cycle_length s) (length s)) refl
+  where
+    go : (b : Bool) → r ≡ b → (d : Bool) → leb (cycle_length s) (length s) ≡ d → r ≡ (leb 36 (length s) && leb (cycle_length s) (length s))
+    go true e d k = let l = there e in e ∙ sym (ap₂ (λ (x y : Bool). x && y) (le-leb 36 (length s) (omega (arith, l))) (le-leb (cycle_length s) (length s) l))
+    go false e true k = absurd (true≢false (sym (full (leb-true (cycle_length s) (length s) k)) ∙ e))
+    go false e false k = e ∙ sym (ap (λ (y : Bool). leb 36 (length s) && y) k ∙ nothing (leb 36 (length s)))
+      where
+        nothing : (x : Bool) → (x && false) ≡ false
+        nothing true = refl
+        nothing false = refl
 
 -- a record that is not whole is shorter than the longest
 pub not_whole_short : (begun : Bool) (s : List ℕ) → get_or s 35 0 < 256 → whole_in begun s ≡ false → length s < longest

@@ -14,7 +14,7 @@ use Rattle.print_window.specs.Stream.{Took}
 use Rattle.print_window.specs.Chunks.{Streamed, Reached}
 use Rattle.print_window.proofs.Chunks.{some_read, reached-more, reached-stops, reached-ends}
 use Rattle.print_pieces.specs.declared.Session.{Session}
-use Rattle.std.specs.Prelude.{Option, None, Some, is_none, IsSome}
+use Rattle.std.specs.Prelude.{Option, None, Some, is_none, is_some, IsSome}
 use Rattle.cluster_states.specs.declared.States.{States}
 use Rattle.print_pieces.specs.Pieces.{longest, Print, print_of, due, whole}
 use Rattle.print_stream.specs.declared.Taken.{Taken}
@@ -63,11 +63,11 @@ module _ (z : Session) (s : Option Session) (same-session : s ≡ Some z) (g g' 
 -- ---- a session that is there
 
 there : {s : Option Session} {z : Session} → s ≡ Some z → IsSome s
-there {s} {z} e = subst IsSome (sym e) tt
+there e = ap is_some e
 
 pub still : (s : Option Session) → is_none s ≡ false → IsSome s
 still None e = absurd (true≢false e)
-still (Some z) e = tt
+still (Some z) e = refl
 
 -- ---- a run that begins
 
