@@ -3,7 +3,7 @@ use mathlib.Core.Path.{sym, ◌∙◌}
 use native.Mathlib.Omega.{arith}
 use lib.ListN.{length}
 use borrow.Author.Tests.{eqb-true, eqb-false}
-use Rattle.refusal.proofs.Laws.{numbered}
+use Rattle.refusal.proofs.Codes.{numbered}
 use Rattle.print_pieces.proofs.Giving.{gives-end, gives-refused}
 use Rattle.print_pieces.proofs.Course.next.Goals as goal
 

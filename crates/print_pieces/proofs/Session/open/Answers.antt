@@ -1,7 +1,7 @@
 -- `print_pieces::Session::open` meets its contract. Assumes nothing.
 use mathlib.Core.Path.{sym, ◌∙◌}
 use native.Mathlib.Omega.{arith}
-use Rattle.refusal.proofs.Laws.{numbered}
+use Rattle.refusal.proofs.Codes.{numbered}
 use Rattle.print_pieces.proofs.Giving.{opens-refused, opens-goes}
 use Rattle.print_pieces.proofs.Session.open.Goals as goal
 
@@ -14,5 +14,5 @@ returns-in-Err c =
 pub returns-in-Ok : goal.returns-in-Ok
 returns-in-Ok c =
     let a = c.args in
-    opens-goes a.quiet a.states.now a.left.now (sym c.in-Ok.ensures.refused) c.from-nodes.result c.in-Ok.start.founding (c.from-nodes.ensures ∙ c.in-Ok.ensures.read.1)
-    c.in-Ok.ensures.read.2 c.begin-course.result _ c.begin-course.ensures a.out.now a.at (omega (arith, c.requires))
+    opens-goes a.quiet a.states.now a.left.now (sym c.in-Ok.ensures.refused) c.from-nodes.result c.in-Ok.start.founding (c.from-nodes.ensures ∙ c.in-Ok.ensures.read.2)
+    c.in-Ok.ensures.read.3 c.begin-course.result _ c.begin-course.ensures a.out.now a.at (omega (arith, c.requires))
