@@ -28,6 +28,13 @@ pub struct Left {
     pub states: States,
 }
 
+// A cluster before a cycle: its nodes and their mode, and their states.
+#[derive(Clone, Copy)]
+struct Cluster {
+    config: Config,
+    states: States,
+}
+
 // N as the entries of a row hold it; 0, which no entry holds, for a number that no cluster has.
 #[tactic(auto, unfolding(crate::specs::Answered::count_byte))]
 pub fn count_byte(n: u32) -> u8
@@ -43,7 +50,7 @@ fn is_longer(s: &[u8]) -> bool
     CycleRecord::read(s).is_some_and(|cycle| cycle.length() < s.len())
 }
 
-// Refusals 1 to 4 of a single cycle, or the cluster in its mode and the states of its row: in a press that votes in every cycle nobody is asking.
+// Refusals 1 to 4 of a single cycle, or the cluster of its row: in a press that votes in every cycle nobody is asking.
 #[tactic(auto, unfolding(row_calls::specs::Calls::row_status, refusal::specs::Refusal::first))]
 fn check_row(
     n: u32,
@@ -51,9 +58,9 @@ fn check_row(
     len: usize,
     gathered: Option<States>,
     s: &[u8],
-) -> Result<(Config, States), Refusal>
+) -> Result<Cluster, Refusal>
     ensures refused { status_of result ≡ row_status n mode len (ordered (quiet_in mode) gathered) s.now }
-    ensures row { IfOk result (λ found. (found.0 ≡ in_mode mode n) × (found.0.nodes ≡ n) × (n ≤ 64) × (gathered ≡ Some found.1)) }
+    ensures row { IfOk result (λ row. (row.config ≡ in_mode mode n) × (row.config.nodes ≡ n) × (n ≤ 64) × (gathered ≡ Some row.states)) }
 {
     if n < 2 || n > 64 {
         return Err(Refusal::NodeCount);
@@ -67,7 +74,10 @@ fn check_row(
     if !quiet && states.roles.asking != 0 {
         return Err(Refusal::Image);
     }
-    Ok((Config { nodes, quiet }, states))
+    Ok(Cluster {
+        config: Config { nodes, quiet },
+        states,
+    })
 }
 
 // A single cycle on the row as it is lent.
@@ -81,30 +91,23 @@ fn cycle_answer(
     ensures answered { (nodes : List Node) → GatheredFrom n gathered len nodes → status_of result ≡ cycle_status n mode nodes s.now }
     ensures left { (nodes : List Node) → GatheredFrom n gathered len nodes → IfOk result (λ l. Leaves l.nodes l.states len (cycle_left n mode nodes s.now)) }
 {
-    let (config, states) = check_row(n, mode, len, gathered, s)?;
-    let cycle = table_records::check_cycle(config.nodes, 1, s)?;
+    let row = check_row(n, mode, len, gathered, s)?;
+    let cycle = table_records::check_cycle(row.config.nodes, 1, s)?;
     Ok(Left {
-        nodes: config.nodes as u8,
-        states: cluster_cycle::cycle(config, states, table_faults::cycle_faults(cycle)),
+        nodes: row.config.nodes as u8,
+        states: cluster_cycle::cycle(row.config, row.states, table_faults::cycle_faults(cycle)),
     })
 }
 
-// A table's run before its first cycle: the cluster in its mode, and the states of its nodes.
-#[derive(Clone, Copy)]
-struct Beginning {
-    config: Config,
-    states: States,
-}
-
 // The beginning of a run on a row of so many entries. The whole table is looked at before anything is set.
-fn begin(mode: u32, entries: usize, s: &[u8]) -> Result<Beginning, Refusal>
+fn begin(mode: u32, entries: usize, s: &[u8]) -> Result<Cluster, Refusal>
     ensures refused { status_of result ≡ ran_status mode entries s.now }
     ensures begun { IfOk result (λ b. BeginsTable mode s.now b.config b.states) }
 {
     let quiet = rule_steps::check_mode(mode)?;
     let start = table_records::check_table(Some(entries), s)?;
     let nodes = usize::from(start.nodes);
-    Ok(Beginning {
+    Ok(Cluster {
         config: Config { nodes, quiet },
         states: cluster_states::begin(nodes, start.founding),
     })
