@@ -1,11 +1,9 @@
 -- What the entries for votes that arrive answer and leave.
 -- Assumes nothing.
-use Rattle.std.specs.Prelude.{◌||◌, cond, List, [], ◌∷◌, ℕ, eqb}
+use Rattle.std.specs.Prelude.{Option, None, Some, Result, Ok, Err, ◌||◌, cond, List, [], ◌∷◌, ℕ, eqb}
 use Rattle.sets.specs.Sets.{single, ◌∪◌, ◌∖◌}
-use Rattle.frames.specs.declared.VoteRead.{VoteRead}
-use Rattle.frames.specs.declared.VoteRead.TheVariants as read
-use Rattle.frames.specs.declared.VoteReceived.{VoteReceived}
-use Rattle.frames.specs.declared.VoteReceived.TheVariants as received
+use Rattle.rules.specs.declared.Vote.{Vote}
+use Rattle.frames.specs.declared.Fault.{Fault}
 use Rattle.frames.specs.Written.{vote_payload}
 use Rattle.frames.specs.Read.{fault_code, read_vote, receive_vote}
 use Rattle.refusal.specs.Refusal.{when, first, unless}
@@ -18,13 +16,13 @@ unfoldable pub read_vote_numbers : ℕ → ℕ → ℕ → ℕ → List ℕ → 
 read_vote_numbers n q cycle channel out =
     first (when (wrong_count n) 1 ∷ when (wrong_node n q || wrong_cycle cycle || wrong_channel channel) 2 ∷ when (wrong_length 28 out) 3 ∷ [])
 
-abbrev pub vote_refusal : VoteRead → ℕ
-vote_refusal (read.Whole v) = 0
-vote_refusal (read.Refused f) = fault_code f
+abbrev pub vote_refusal : Result Vote Fault → ℕ
+vote_refusal (Ok v) = 0
+vote_refusal (Err f) = fault_code f
 
-abbrev pub payload_or : VoteRead → List ℕ → List ℕ
-payload_or (read.Whole v) out = vote_payload v
-payload_or (read.Refused f) out = out
+abbrev pub payload_or : Result Vote Fault → List ℕ → List ℕ
+payload_or (Ok v) out = vote_payload v
+payload_or (Err f) out = out
 
 unfoldable pub read_vote_status : ℕ → ℕ → ℕ → ℕ → List ℕ → List ℕ → ℕ
 read_vote_status n q cycle channel f out =
@@ -40,16 +38,16 @@ unfoldable pub receive_vote_status : ℕ → ℕ → ℕ → List ℕ → ℕ
 receive_vote_status n q cycle votes =
     first (when (wrong_count n) 1 ∷ when (wrong_node n q || wrong_cycle cycle) 2 ∷ when (wrong_length 1792 votes) 3 ∷ [])
 
-abbrev pub slot_or : VoteReceived → ℕ → List ℕ → List ℕ
-slot_or received.Missed q votes = votes
-slot_or (received.Whole v) q votes = with_slot q (vote_payload v) votes
+abbrev pub slot_or : Option Vote → ℕ → List ℕ → List ℕ
+slot_or None q votes = votes
+slot_or (Some v) q votes = with_slot q (vote_payload v) votes
 
 -- the sender's bit says whether its vote arrived
-abbrev pub arrived_or : VoteReceived → ℕ → ℕ → ℕ
-arrived_or received.Missed q arrived = arrived ∖ single q
-arrived_or (received.Whole v) q arrived = single q ∪ arrived
+abbrev pub arrived_or : Option Vote → ℕ → ℕ → ℕ
+arrived_or None q arrived = arrived ∖ single q
+arrived_or (Some v) q arrived = single q ∪ arrived
 
-abbrev pub received_vote : ℕ → ℕ → ℕ → List ℕ → List ℕ → VoteReceived
+abbrev pub received_vote : ℕ → ℕ → ℕ → List ℕ → List ℕ → Option Vote
 received_vote n q cycle a b = receive_vote (read_vote n q cycle 0 a) (read_vote n q cycle 1 b)
 
 unfoldable pub receive_vote_left : ℕ → ℕ → ℕ → List ℕ → List ℕ → List ℕ → List ℕ
