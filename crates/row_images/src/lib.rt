@@ -1,7 +1,8 @@
-// The row as C lends it: N images of 24 bytes, one after the other, read to values and written from them.
+// The row as C lends it: N images of 24 bytes, one after the other, read to values and written from them. And what it has in common with one of node structs.
 #![tactic(auto)]
 
-ghost use Rattle.std.specs.Prelude.{◌≡◌, ◌*◌, ◌+◌, ◌≤◌, length};
+ghost use Rattle.std.specs.Prelude.{◌≡◌, ◌*◌, ◌+◌, ◌<◌, ◌≤◌, List, length};
+ghost use Rattle.state.specs.declared.Node.{Node};
 ghost use Rattle.cluster_states.specs.States.{row_of};
 ghost use Rattle.row.specs.Row.{nodes_of};
 ghost use Rattle.row.specs.Gathered.{nothing_of, gathered};
@@ -47,5 +48,61 @@ pub fn scatter(n: u8, states: &States, images: &mut [u8])
     for q in 0..usize::from(n) {
         let x = row::node_of(n, states, q);
         parts::put(images, 24 * q, &state_encoding::encode(x));
+    }
+}
+
+// What a row is lent as: a slice of node structs, or of the bytes of their images. `nodes` are the entries of a row, and `lent` is the row of some entries.
+pub trait Lent: Copy {
+    ghost nodes: { List Self → List Node };
+
+    ghost lent: { List Node → List Self };
+
+    // How many entries there are.
+    fn entries(row: &[Self]) -> usize
+        ensures { result ≡ length (nodes row.now) };
+
+    // The states of the entries, if each is the node of its place.
+    fn gather(n: u8, row: &[Self]) -> Option<States>
+        ensures { result ≡ gathered n nothing_of 0 (nodes row.now) };
+
+    // The states put in as a row of n entries.
+    fn scatter(n: u8, states: &States, row: &mut [Self])
+        requires { (0 < n) × (n ≤ 64) × (length (nodes row.old) ≡ n) }
+        ensures { row.new ≡ lent (nodes_of n (row_of n states.now)) };
+}
+
+impl Lent for Node {
+    ghost nodes = { λ row. row };
+
+    ghost lent = { λ row. row };
+
+    fn entries(row: &[Node]) -> usize {
+        row.len()
+    }
+
+    fn gather(n: u8, row: &[Node]) -> Option<States> {
+        row_nodes::gather(n, row)
+    }
+
+    fn scatter(n: u8, states: &States, row: &mut [Node]) {
+        row_nodes::scatter(n, states, row);
+    }
+}
+
+impl Lent for u8 {
+    ghost nodes = { nodes_in };
+
+    ghost lent = { images_of };
+
+    fn entries(row: &[u8]) -> usize {
+        entries(row)
+    }
+
+    fn gather(n: u8, row: &[u8]) -> Option<States> {
+        gather(n, row)
+    }
+
+    fn scatter(n: u8, states: &States, row: &mut [u8]) {
+        scatter(n, states, row);
     }
 }

@@ -5,7 +5,7 @@ use native.Mathlib.Omega.{arith}
 use Rattle.row_images.specs.Images.{entries_in}
 use Rattle.row_images.proofs.Images.{entries-all}
 use Rattle.row_images.proofs.Walks.{nodes_length}
-use Rattle.row_press.proofs.U8Lent.scatter.Goals as goal
+use Rattle.row_images.proofs.U8Lent.scatter.Goals as goal
 
 pub scatter-requires : goal.scatter-requires
 scatter-requires c =
