@@ -1,130 +1,95 @@
 -- `entry_decide::decide` meets its contract: what is found in the lent state decides. Assumes nothing.
-use mathlib.Core.Path.{◌≡◌, sym, ap, ap₂, ◌∙◌}
-use mathlib.Core.Bool.{Bool, true}
-use mathlib.Core.List.{List}
-use Prim.Native.Nat.{ℕ, ◌≤◌, ◌<◌}
-use native.Mathlib.Omega.{arith}
-use lib.ListN.{length, get_or}
+use Rattle.std.proofs.Common.{◌≡◌, ℕ, ◌≤◌, ◌<◌, Bool, false, cond, List, length, get_or, sym, ap, ap₂, ◌∙◌, arith, Result, Ok, Err}
 use Rattle.bigendian.proofs.Laws.{Bytes}
 use Rattle.state.specs.declared.State.{State}
-use Rattle.state.specs.declared.State.TheVariants.{Member}
 use Rattle.state.specs.declared.Node.{Node}
-use Rattle.state.specs.declared.Decoded.{Decoded}
-use Rattle.state.specs.declared.Decoded.TheVariants.{Good}
-use Rattle.state.specs.Image.{image_of, node_at, decoded}
-use Rattle.refusal.proofs.Laws.{unless-done, unless-refused}
+use Rattle.state.specs.Image.{image_of, node_at}
+use Rattle.refusal.specs.declared.Refusal.{Refusal}
+use Rattle.refusal.specs.declared.Refusal.TheVariants.{Number}
+use Rattle.refusal.specs.Codes.{code_of}
+use Rattle.refusal.proofs.Codes.{exit_status, unless_err}
 use Rattle.rules.specs.OneCycle.{wrong_mode, quiet_in}
-use Rattle.entry_lent.specs.declared.Lent.{Lent}
-use Rattle.entry_lent.specs.declared.Lent.TheVariants.{Holds, Refused}
 use Rattle.entry_lent.specs.Found.{lent_node}
-use Rattle.entry_lent.proofs.Images.{good_length, good_node, good_place}
-use Rattle.entry_lent.proofs.Sending.{status-found, numbered, seen, found}
-use Rattle.entry_decide.specs.declared.Going.{Going}
-use Rattle.entry_decide.specs.Decide.{decide_status, decision, Tells, decided_from, decide_left}
+use Rattle.entry_lent.proofs.Images.{good_length, good_node, good_place, mode_found, mode_refused}
+use Rattle.entry_lent.proofs.Sending.{wrong_status, none_status, Found, found, left_found}
+use Rattle.entry_decide.specs.Decide.{decide_status, decision, decided_from, decide_left}
 use Rattle.entry_decide.proofs.decide.Goals as goal
 
 module _ (mode : ℕ) (s votes : List ℕ) where
-  -- what is found in the lent state
-  abbrev lent : Lent
-  lent = lent_node (quiet_in mode) (wrong_mode mode) s (length votes) 1792
+  by_mode : (r : Refusal) → Err r ≡ cond (wrong_mode mode) (Err Number) (Ok (quiet_in mode)) → code_of r ≡ decide_status mode s votes
+  unfolding decide_status
+  by_mode r e = let h = mode_refused mode r e in wrong_status (quiet_in mode) (wrong_mode mode) s 1792 votes r h.0 (simp h.1)
 
-  there : (n : Node) → lent ≡ Holds n → (length votes ≡ 1792) × (decoded (quiet_in mode) s ≡ Good n)
-  there n e = let z = found (quiet_in mode) (wrong_mode mode) s 1792 votes n e in (z.1, z.2)
+  module _ (q : Bool) (e : Ok q ≡ cond (wrong_mode mode) (Err Number) (Ok (quiet_in mode))) where
+    by_node : (r : Refusal) → Err r ≡ lent_node q false s (length votes) 1792 → code_of r ≡ decide_status mode s votes
+    unfolding decide_status
+    by_node r = none_status (quiet_in mode) (wrong_mode mode) s 1792 votes q r (mode_found mode q e).1 (mode_found mode q e).0
 
-  module _ (heard0 heard1 requests arrived : ℕ) where
-    refused : (k : ℕ) → lent ≡ Refused k → (k ≡ decide_status mode s votes) × (s ≡ decide_left mode s heard0 heard1 requests votes arrived)
-    unfolding decide_status decide_left
-    refused k e =
-        let status = status-found (quiet_in mode) (wrong_mode mode) s 1792 votes (Refused k) (sym e) in
-        (status, sym (unless-refused _ _ s (λ z. numbered (quiet_in mode) (wrong_mode mode) s 1792 votes k e (status ∙ z))))
+    -- a node that was found, and the bytes that it was found in
+    there : (n : Node) → Ok n ≡ lent_node q false s (length votes) 1792 → Found (quiet_in mode) (wrong_mode mode) s 1792 votes n
+    there n = found (quiet_in mode) (wrong_mode mode) s 1792 votes q n (mode_found mode q e).1 (mode_found mode q e).0
 
-    decided : (n : Node) (t : State) {left : List ℕ} → lent ≡ Holds n → t ≡ decision (quiet_in mode) n n.state heard0 heard1 requests votes arrived
-        → left ≡ image_of (record { state = t; id = get_or s 2 0; nodes = get_or s 3 0 }) → (0 ≡ decide_status mode s votes) × (left ≡ decide_left mode s heard0 heard1 requests votes arrived)
-    unfolding decide_status decide_left
-    decided n t e k i =
-        let status = status-found (quiet_in mode) (wrong_mode mode) s 1792 votes (Holds n) (sym e) in
-        let good = (there n e).1 in (
-          status,
-          i
-              ∙ ap₂ (λ (x : State) (m : Node). image_of (record { state = x; id = m.id; nodes = m.nodes })) k (good_node (quiet_in mode) s n good)
-              ∙ sym (unless-done _ _ _ (sym status) ∙ ap (λ (d : Decoded). decided_from (quiet_in mode) d heard0 heard1 requests votes arrived s) good),
-        )
+  module _ (n : Node) (h : Found (quiet_in mode) (wrong_mode mode) s 1792 votes n) where
+    of_bytes : node_at s ≡ n
+    of_bytes = good_node (quiet_in mode) s n h.image
 
-    -- what the buffer tells
-    told : (n : Node) (b : Bool) (r : Going) → lent ≡ Holds n → b ≡ quiet_in mode → Tells r (decision b (node_at s) (node_at s).state heard0 heard1 requests votes arrived) → r.told ≡ true
-        → Member r.group r.request ≡ decision (quiet_in mode) n n.state heard0 heard1 requests votes arrived
-    told n b r e q h k =
-        sym (h k)
-        ∙ ap₂ (λ (x : Bool) (m : Node). decision x m m.state heard0 heard1 requests votes arrived) q (good_node (quiet_in mode) s n (there n e).1)
+    bounds : Bytes s → (length s ≡ 24) × ((n.nodes ≤ 64) × (n.id < n.nodes))
+    bounds b = (good_length (quiet_in mode) s n h.image, good_place (quiet_in mode) s n b h.image)
 
-  -- what is known of the lent bytes and of the node
-  bounds : (n : Node) → Bytes s → lent ≡ Holds n → ((length s ≡ 24) × (length votes ≡ 1792)) × ((n.nodes ≤ 64) × (n.id < n.nodes))
-  bounds n b e = let z = there n e in ((good_length (quiet_in mode) s n z.1, z.0), good_place (quiet_in mode) s n b z.1)
+    module _ (heard0 heard1 requests arrived : ℕ) where
+      decided : (q : Bool) (t : State) {left : List ℕ} → Ok q ≡ cond (wrong_mode mode) (Err Number) (Ok (quiet_in mode)) → decision q n n.state heard0 heard1 requests votes arrived ≡ t
+          → left ≡ image_of (record { state = t; id = get_or s 2 0; nodes = get_or s 3 0 }) → left ≡ decide_left mode s heard0 heard1 requests votes arrived
+      unfolding decide_status decide_left
+      decided q t e k i =
+          left_found (quiet_in mode) (wrong_mode mode) s 1792 votes (λ (b : Bool) (d : Result Node Refusal). decided_from b d heard0 heard1 requests votes arrived s) s _ q n
+          (mode_found mode q e).1 h
+          (i ∙ ap₂ (λ (x : State) (m : Node). image_of (record { state = x; id = m.id; nodes = m.nodes })) (sym k) of_bytes)
 
-pub goes_on-on-requires : goal.goes_on-on-requires
-goes_on-on-requires c =
-    let noded : Node = c.in-Holds.n in
-    let looked : (r : Lent) → c.lent_node.result ≡ r → let a = c.args in lent a.mode a.state.now a.votes.now ≡ r = λ r e. let a = c.args in
-    seen (quiet_in a.mode) (wrong_mode a.mode) a.state.now 1792 a.votes.now _ _ _ _ c.is_quiet-quiet.ensures c.wrong_mode.ensures c.lent_node.ensures e in
-    let held : let a = c.args in lent a.mode a.state.now a.votes.now ≡ Holds (noded) = looked _ c.in-Holds.is in
-    let known : let a = c.args in ((length a.state.now ≡ 24) × (length a.votes.now ≡ 1792)) × (((noded).nodes ≤ 64) × ((noded).id < (noded).nodes)) = let a = c.args in
-    bounds a.mode a.state.now a.votes.now (noded) (λ i. (c.slice_known-1.given i).fits) (held) in
-    let a = c.args in
-    let e = good_node _ a.state.now _ (there a.mode a.state.now a.votes.now (noded) (held)).1 in
-    let z = known in record { s_len = z.0; s_bound = (omega (arith, ap (λ (x : Node). x.nodes) e, z.1.0), omega (arith, ap (λ (x : Node). x.nodes) e, ap (λ (x : Node). x.id) e, z.1.1)) }
+pub returns-in_err-quiet-clause-value : goal.returns-in_err-quiet-clause-value
+returns-in_err-quiet-clause-value c = exit_status _ _ c.from_residual.ensures.1 ∙ (by_mode c.args.mode c.args.state.now c.args.votes.now _ c.in_err-quiet.ensures)
+
+pub returns-in_err-quiet-clause-state_after : goal.returns-in_err-quiet-clause-state_after
+unfolding decide_left
+returns-in_err-quiet-clause-state_after c = unless_err _ _ _ _ (by_mode c.args.mode c.args.state.now c.args.votes.now _ c.in_err-quiet.ensures)
+
+pub returns-in_err-n-clause-value : goal.returns-in_err-n-clause-value
+returns-in_err-n-clause-value c = exit_status _ _ c.from_residual-in_err-n.ensures.1 ∙ (by_node c.args.mode c.args.state.now c.args.votes.now _ c.in_ok-quiet.ensures _ c.in_err-n.ensures)
+
+pub returns-in_err-n-clause-state_after : goal.returns-in_err-n-clause-state_after
+unfolding decide_left
+returns-in_err-n-clause-state_after c = unless_err _ _ _ _ (by_node c.args.mode c.args.state.now c.args.votes.now _ c.in_ok-quiet.ensures _ c.in_err-n.ensures)
+
+pub goes_on-requires-clause-s_len : goal.goes_on-requires-clause-s_len
+goes_on-requires-clause-s_len c = ((bounds c.args.mode c.args.state.now c.args.votes.now _ (there c.args.mode c.args.state.now c.args.votes.now _ c.in_ok-quiet.ensures _ c.in_ok-n.ensures) (λ i. (c.slice_known-1.given i).fits)).0, (there c.args.mode c.args.state.now c.args.votes.now _ c.in_ok-quiet.ensures _ c.in_ok-n.ensures).sized)
+
+pub goes_on-requires-clause-s_bound : goal.goes_on-requires-clause-s_bound
+goes_on-requires-clause-s_bound c =
+    let e = (of_bytes c.args.mode c.args.state.now c.args.votes.now _ (there c.args.mode c.args.state.now c.args.votes.now _ c.in_ok-quiet.ensures _ c.in_ok-n.ensures)) in
+    let z = (bounds c.args.mode c.args.state.now c.args.votes.now _ (there c.args.mode c.args.state.now c.args.votes.now _ c.in_ok-quiet.ensures _ c.in_ok-n.ensures) (λ i. (c.slice_known-1.given i).fits)) in
+    (omega (arith, ap (λ (x : Node). x.nodes) e, z.1.0), omega (arith, ap (λ (x : Node). x.nodes) e, ap (λ (x : Node). x.id) e, z.1.1))
 
 pub put_state-requires : goal.put_state-requires
-put_state-requires c =
-    let noded : Node = c.in-Holds.n in
-    let looked : (r : Lent) → c.lent_node.result ≡ r → let a = c.args in lent a.mode a.state.now a.votes.now ≡ r = λ r e. let a = c.args in
-    seen (quiet_in a.mode) (wrong_mode a.mode) a.state.now 1792 a.votes.now _ _ _ _ c.is_quiet-quiet.ensures c.wrong_mode.ensures c.lent_node.ensures e in
-    let held : let a = c.args in lent a.mode a.state.now a.votes.now ≡ Holds (noded) = looked _ c.in-Holds.is in
-    let known : let a = c.args in ((length a.state.now ≡ 24) × (length a.votes.now ≡ 1792)) × (((noded).nodes ≤ 64) × ((noded).id < (noded).nodes)) = let a = c.args in
-    bounds a.mode a.state.now a.votes.now (noded) (λ i. (c.slice_known-1.given i).fits) (held) in
-    (known).0.0
+put_state-requires c = (bounds c.args.mode c.args.state.now c.args.votes.now _ (there c.args.mode c.args.state.now c.args.votes.now _ c.in_ok-quiet.ensures _ c.in_ok-n.ensures) (λ i. (c.slice_known-1.given i).fits)).0
+
+pub put_state-requires-in_default : goal.put_state-requires-in_default
+put_state-requires-in_default c = (bounds c.args.mode c.args.state.now c.args.votes.now _ (there c.args.mode c.args.state.now c.args.votes.now _ c.in_ok-quiet.ensures _ c.in_ok-n.ensures) (λ i. (c.slice_known-1.given i).fits)).0
 
 pub next_state-requires : goal.next_state-requires
-next_state-requires c =
-    let noded : Node = c.in-Holds.n in
-    let looked : (r : Lent) → c.lent_node.result ≡ r → let a = c.args in lent a.mode a.state.now a.votes.now ≡ r = λ r e. let a = c.args in
-    seen (quiet_in a.mode) (wrong_mode a.mode) a.state.now 1792 a.votes.now _ _ _ _ c.is_quiet-quiet.ensures c.wrong_mode.ensures c.lent_node.ensures e in
-    let held : let a = c.args in lent a.mode a.state.now a.votes.now ≡ Holds (noded) = looked _ c.in-Holds.is in
-    let known : let a = c.args in ((length a.state.now ≡ 24) × (length a.votes.now ≡ 1792)) × (((noded).nodes ≤ 64) × ((noded).id < (noded).nodes)) = let a = c.args in
-    bounds a.mode a.state.now a.votes.now (noded) (λ i. (c.slice_known-1.given i).fits) (held) in
-    let z = known in (z.1.0, z.1.1, z.0.1)
+next_state-requires c = let z = (bounds c.args.mode c.args.state.now c.args.votes.now _ (there c.args.mode c.args.state.now c.args.votes.now _ c.in_ok-quiet.ensures _ c.in_ok-n.ensures) (λ i. (c.slice_known-1.given i).fits)) in (z.1.0, z.1.1, (there c.args.mode c.args.state.now c.args.votes.now _ c.in_ok-quiet.ensures _ c.in_ok-n.ensures).sized)
 
-pub put_state-requires-else-on : goal.put_state-requires-else-on
-put_state-requires-else-on c =
-    let noded : Node = c.in-Holds.n in
-    let looked : (r : Lent) → c.lent_node.result ≡ r → let a = c.args in lent a.mode a.state.now a.votes.now ≡ r = λ r e. let a = c.args in
-    seen (quiet_in a.mode) (wrong_mode a.mode) a.state.now 1792 a.votes.now _ _ _ _ c.is_quiet-quiet.ensures c.wrong_mode.ensures c.lent_node.ensures e in
-    let held : let a = c.args in lent a.mode a.state.now a.votes.now ≡ Holds (noded) = looked _ c.in-Holds.is in
-    let known : let a = c.args in ((length a.state.now ≡ 24) × (length a.votes.now ≡ 1792)) × (((noded).nodes ≤ 64) × ((noded).id < (noded).nodes)) = let a = c.args in
-    bounds a.mode a.state.now a.votes.now (noded) (λ i. (c.slice_known-1.given i).fits) (held) in
-    (known).0.0
+pub returns-in-Some-clause-value : goal.returns-in-Some-clause-value
+unfolding decide_status
+returns-in-Some-clause-value c = (there c.args.mode c.args.state.now c.args.votes.now _ c.in_ok-quiet.ensures _ c.in_ok-n.ensures).accepted
 
-pub returns-then-on : goal.returns-then-on
-returns-then-on c =
-    let noded : Node = c.in-Holds.n in
-    let looked : (r : Lent) → c.lent_node.result ≡ r → let a = c.args in lent a.mode a.state.now a.votes.now ≡ r = λ r e. let a = c.args in
-    seen (quiet_in a.mode) (wrong_mode a.mode) a.state.now 1792 a.votes.now _ _ _ _ c.is_quiet-quiet.ensures c.wrong_mode.ensures c.lent_node.ensures e in
-    let held : let a = c.args in lent a.mode a.state.now a.votes.now ≡ Holds (noded) = looked _ c.in-Holds.is in
-    let a = c.args in let told = decided a.mode a.state.now a.votes.now a.heard0 a.heard1 a.requests a.arrived (noded) _ (held)
-    (told a.mode a.state.now a.votes.now a.heard0 a.heard1 a.requests a.arrived (noded) _ c.goes_on-on.result (held) c.is_quiet-quiet.ensures c.goes_on-on.ensures c.if-on.true)
-    c.put_state.ensures in record { value = told.0; state_after = told.1 }
+pub returns-in_default-clause-value : goal.returns-in_default-clause-value
+unfolding decide_status
+returns-in_default-clause-value c = (there c.args.mode c.args.state.now c.args.votes.now _ c.in_ok-quiet.ensures _ c.in_ok-n.ensures).accepted
 
-pub returns-else-on : goal.returns-else-on
-returns-else-on c =
-    let noded : Node = c.in-Holds.n in
-    let looked : (r : Lent) → c.lent_node.result ≡ r → let a = c.args in lent a.mode a.state.now a.votes.now ≡ r = λ r e. let a = c.args in
-    seen (quiet_in a.mode) (wrong_mode a.mode) a.state.now 1792 a.votes.now _ _ _ _ c.is_quiet-quiet.ensures c.wrong_mode.ensures c.lent_node.ensures e in
-    let held : let a = c.args in lent a.mode a.state.now a.votes.now ≡ Holds (noded) = looked _ c.in-Holds.is in
-    let a = c.args in let told = decided a.mode a.state.now a.votes.now a.heard0 a.heard1 a.requests a.arrived (noded) _ (held)
-    (c.next_state.ensures ∙ ap (λ (b : Bool). decision b (noded) (noded).state a.heard0 a.heard1 a.requests a.votes.now a.arrived) c.is_quiet-quiet.ensures)
-    c.put_state-else-on.ensures in record { value = told.0; state_after = told.1 }
+pub returns-in-Some-clause-state_after : goal.returns-in-Some-clause-state_after
+returns-in-Some-clause-state_after c =
+    let a = c.args in
+    decided c.args.mode c.args.state.now c.args.votes.now _ (there c.args.mode c.args.state.now c.args.votes.now _ c.in_ok-quiet.ensures _ c.in_ok-n.ensures) c.args.heard.members c.args.heard.joining c.args.heard.requests c.args.arrived _ _ c.in_ok-quiet.ensures
+    (ap (λ (m : Node). decision c.in_ok-quiet.quiet m m.state a.heard.members a.heard.joining a.heard.requests a.votes.now a.arrived) (sym (of_bytes c.args.mode c.args.state.now c.args.votes.now _ (there c.args.mode c.args.state.now c.args.votes.now _ c.in_ok-quiet.ensures _ c.in_ok-n.ensures))) ∙ c.in-Some.ensures) c.put_state.ensures
 
-pub returns-in-Refused : goal.returns-in-Refused
-returns-in-Refused c =
-    let looked : (r : Lent) → c.lent_node.result ≡ r → let a = c.args in lent a.mode a.state.now a.votes.now ≡ r = λ r e. let a = c.args in
-    seen (quiet_in a.mode) (wrong_mode a.mode) a.state.now 1792 a.votes.now _ _ _ _ c.is_quiet-quiet.ensures c.wrong_mode.ensures c.lent_node.ensures e in
-    let a = c.args in let told = refused a.mode a.state.now a.votes.now a.heard0 a.heard1 a.requests a.arrived _ (looked _ c.in-Refused.is) in record { value = told.0; state_after = told.1 }
+pub returns-in_default-clause-state_after : goal.returns-in_default-clause-state_after
+returns-in_default-clause-state_after c = decided c.args.mode c.args.state.now c.args.votes.now _ (there c.args.mode c.args.state.now c.args.votes.now _ c.in_ok-quiet.ensures _ c.in_ok-n.ensures) c.args.heard.members c.args.heard.joining c.args.heard.requests c.args.arrived _ _ c.in_ok-quiet.ensures (sym c.next_state.ensures) c.put_state-in_default.ensures

@@ -1,6 +1,4 @@
-use mathlib.Core.Path.{sym, ap, ◌∙◌}
-use mathlib.Core.Bool.{true, false}
-use Prim.Native.Nat.{ℕ}
+use Rattle.std.proofs.Common.{ℕ, false, sym, ap, ◌∙◌}
 use Rattle.sets.specs.Quorum.{quorum}
 use Rattle.state.specs.declared.Group.{Group}
 use Rattle.state.specs.declared.State.TheVariants.{Member}
@@ -8,26 +6,15 @@ use Rattle.rules.proofs.Own.{rests_few}
 use Rattle.entry_send_vote.specs.Voting.{press_of}
 use Rattle.entry_slots.specs.Slots.{buffer_ballots}
 use Rattle.entry_slots.proofs.Buffers.{slot-came}
-use Rattle.entry_decide.proofs.Deciding.{by_test, tells_nothing, tells_same}
+use Rattle.entry_decide.proofs.Deciding.{by_test}
 use Rattle.entry_decide.proofs.going_member.Goals as goal
-
-pub returns-then-votes_with : goal.returns-then-votes_with
-returns-then-votes_with c =
-    let a = c.args in
-    tells_same _
-    (by_test a.quiet a.n a.g a.asks a.heard0 a.heard1 a.requests _ c.own_vote-vote.result c.own_vote-vote.ensures true (sym c.votes_with.ensures ∙ c.if-votes_with.true))
-    c.going_on_vote.ensures
-
-pub returns-then-is_quorum : goal.returns-then-is_quorum
-returns-then-is_quorum c = tells_nothing _ _ c.not_told.ensures
 
 pub returns-else-is_quorum : goal.returns-else-is_quorum
 returns-else-is_quorum c =
     let a = c.args in
     let b = buffer_ballots a.n.nodes a.n.id a.votes.now a.arrived in
-    tells_same _
+    sym
     (ap (λ (x : Group). Member x false) c.resting.ensures
     ∙ sym (rests_few (press_of a.quiet a.n) a.n.id a.g b a.arrived (slot-came a.n.nodes a.n.id a.votes.now a.arrived)
     (ap (λ (x : ℕ). quorum x a.g.base) (sym c.intersection.ensures) ∙ sym c.is_quorum.ensures ∙ c.if-is_quorum.false))
-    ∙ by_test a.quiet a.n a.g a.asks a.heard0 a.heard1 a.requests b c.own_vote-vote.result c.own_vote-vote.ensures false (sym c.votes_with.ensures ∙ c.if-votes_with.false))
-    c.told_of.ensures
+    ∙ by_test a.quiet a.n a.g a.asks a.heard.members a.heard.joining a.heard.requests b c.own_vote-vote.result c.own_vote-vote.ensures false (sym c.votes_with.ensures ∙ c.if-votes_with.false))

@@ -24,23 +24,18 @@ module _ (quiet : Bool) (n : Node) (heard0 heard1 requests : ℕ) (votes : List 
     by-member : (g : Group) (a : Bool) → n.state ≡ Member g a → t ≡ member_decision quiet n g a heard0 heard1 requests b → t ≡ decision quiet n n.state heard0 heard1 requests votes arrived
     by-member g a e h = h ∙ ap (member_decision quiet n g a heard0 heard1 requests) k ∙ by_state quiet n heard0 heard1 requests votes arrived e
 
-pub returns-in-Out : goal.returns-in-Out
-returns-in-Out c =
-    let a = c.args in
-    by_state a.quiet a.n a.heard0 a.heard1 a.requests a.votes.now a.arrived c.in-Out.is
-
 pub returns-in-Joining : goal.returns-in-Joining
 returns-in-Joining c =
-    let read : let a = c.args in let r = c.read_votes-present in ballots_of r.new.numbers r.new.sets r.new.bases r.new.views r.result ≡ buffer_ballots a.n.nodes a.n.id a.votes.now a.arrived = let a = c.args in
-    let r = c.read_votes-present in
-    same-ballots a.n.nodes a.n.id a.votes.now a.arrived r.new.numbers r.new.sets r.new.bases r.new.views r.result r.ensures.value r.ensures.by_index in
     let a = c.args in
-    by-joining a.quiet a.n a.heard0 a.heard1 a.requests a.votes.now a.arrived (read) c.in-Joining.is c.joiner_decides.ensures
+    let r = c.read_votes-present in
+    let g = r.new.groups in
+    by-joining a.quiet a.n a.heard.members a.heard.joining a.heard.requests a.votes.now a.arrived
+    (same-ballots a.n.nodes a.n.id a.votes.now a.arrived g.numbers g.sets g.bases r.new.views r.result r.ensures.value r.ensures.by_index) c.in-Joining.is c.joiner_decides.ensures
 
 pub returns-in-Member : goal.returns-in-Member
 returns-in-Member c =
-    let read : let a = c.args in let r = c.read_votes-present in ballots_of r.new.numbers r.new.sets r.new.bases r.new.views r.result ≡ buffer_ballots a.n.nodes a.n.id a.votes.now a.arrived = let a = c.args in
-    let r = c.read_votes-present in
-    same-ballots a.n.nodes a.n.id a.votes.now a.arrived r.new.numbers r.new.sets r.new.bases r.new.views r.result r.ensures.value r.ensures.by_index in
     let a = c.args in
-    by-member a.quiet a.n a.heard0 a.heard1 a.requests a.votes.now a.arrived (read) _ _ c.in-Member.is c.member_decides.ensures
+    let r = c.read_votes-present in
+    let g = r.new.groups in
+    by-member a.quiet a.n a.heard.members a.heard.joining a.heard.requests a.votes.now a.arrived
+    (same-ballots a.n.nodes a.n.id a.votes.now a.arrived g.numbers g.sets g.bases r.new.views r.result r.ensures.value r.ensures.by_index) _ _ c.in-Member.is c.member_decides.ensures
