@@ -7,6 +7,8 @@ use mathlib.Core.Option.{Option, none, some}
 use Prim.Native.Nat.{ℕ, ◌^◌, ◌<◌}
 use native.Mathlib.Omega.{arith}
 use lib.Dec.{eqb, lit<}
+use Rattle.std.specs.Prelude as std
+use Rattle.frames.specs.declared.Heartbeat.{Heartbeat}
 use Rattle.sets.specs.Sets.{has, single, ◌∩◌}
 use Rattle.sets.proofs.Membership.{set_ext, has_inter, has_diff, has-single}
 use Rattle.refusal.proofs.Laws.{unless-done}
@@ -19,11 +21,7 @@ use Rattle.rules.specs.declared.Config.{Config}
 use Rattle.rules.specs.OneCycle.{quiet_in, in_mode, Ballots, stop_and_start, view_of, called, will_vote, member_decides, silent_decides, joiner_decides}
 use Rattle.rules.proofs.Votes.{view_others}
 use Rattle.theorem_formed.proofs.Formed.{Bound, set_bound, stop_start_formed}
-use Rattle.frames.specs.declared.HeartbeatReceived.{HeartbeatReceived}
-use Rattle.frames.specs.declared.HeartbeatReceived.TheVariants.{Missed}
-use Rattle.frames.specs.declared.HeartbeatCounted.{HeartbeatCounted}
-use Rattle.frames.specs.declared.VoteReceived.TheVariants.{Whole}
-use Rattle.frames.specs.Read.{is_good, receive_heartbeat}
+use Rattle.frames.specs.Read.{is_good, receive_heartbeat, heard_in}
 use Rattle.bus_units.specs.Units.{Bus, heartbeat_sent, heartbeat_got, is_alive, is_join, is_request, unit_hears, unit_vote, unit_votes, vote_cast, vote_framed, vote_sent, vote_got, unit_ballots, unit_decides}
 use Rattle.bus_units.specs.Carried.{HeartbeatSent, VoteSent, sends_heartbeat, sends_vote}
 use Rattle.frames.proofs.Faults.{no_heartbeat}
@@ -43,10 +41,10 @@ abbrev pub As : (Sent : State → ℕ → List ℕ → Type 0) (speaks : State �
 As Sent speaks frames s = ((channel : ℕ) → channel < 2 → (y : List ℕ) → Wrote frames channel y → Sent s channel y) × (sends frames ≡ speaks s)
 
 -- what a copy that is not there is read as
-silent_heartbeat : (quiet : Bool) (count p : ℕ) (copies : ℕ → List ℕ) → Silent copies → (receive_heartbeat quiet p count (copies 0) (copies 1)).heard ≡ Missed
+silent_heartbeat : (quiet : Bool) (count p : ℕ) (copies : ℕ → List ℕ) → Silent copies → heard_in (receive_heartbeat quiet p count (copies 0) (copies 1)) ≡ std.None
 silent_heartbeat quiet count p copies w =
-    ap₂ (λ (x y : List ℕ). (receive_heartbeat quiet p count x y).heard) w.0 w.1
-    ∙ ap (λ (r : HeartbeatCounted). r.heard) (neither-good quiet p count [] [] (ap is_good (no_heartbeat quiet p count 0)) (ap is_good (no_heartbeat quiet p count 1))).0
+    ap₂ (λ (x y : List ℕ). heard_in (receive_heartbeat quiet p count x y)) w.0 w.1
+    ∙ ap heard_in (neither-good quiet p count [] [] (ap is_good (no_heartbeat quiet p count 0)) (ap is_good (no_heartbeat quiet p count 1))).0
 
 module _ (E : Entries) (told : Within E by_definition) (mode n q : ℕ) (place : formed_place q n ≡ true) where
   abbrev C : Config
@@ -101,10 +99,10 @@ module _ (E : Entries) (told : Within E by_definition) (mode n q : ℕ) (place :
 
     -- ---- rule 3: what it heard of another unit is what it reads of it
 
-    abbrev got : ℕ → HeartbeatReceived
+    abbrev got : ℕ → std.Option Heartbeat
     got p = heartbeat_got quiet count bus.heartbeats q p
 
-    abbrev hearing : (HeartbeatReceived → Bool) → ℕ
+    abbrev hearing : (std.Option Heartbeat → Bool) → ℕ
     hearing kind = unit_hears C count bus.heartbeats kind q
 
     heard-is : (p : ℕ) → p < n → eqb p q ≡ false
@@ -112,7 +110,7 @@ module _ (E : Entries) (told : Within E by_definition) (mode n q : ℕ) (place :
     unfolding receive_heartbeat_heard
     heard-is p l o = go (d.hears p l o)
       where
-        r : HeartbeatReceived
+        r : std.Option Heartbeat
         r = got p
 
         go : ((heard : ℕ) × E.receive_heartbeat n mode p count (bus.heartbeats p q 0) (bus.heartbeats p q 1) heard × InMasks heard p d.heard0 d.heard1 d.requests)
@@ -125,7 +123,7 @@ module _ (E : Entries) (told : Within E by_definition) (mode n q : ℕ) (place :
             let asked = k.2.2 ∙ ap (λ (x : ℕ). eqb x 3) h ∙ request_code r in
             (alive, k.2.1 ∙ ap (λ (x : ℕ). eqb x 2) h ∙ join_code r, ap₂ (λ (a b : Bool). a && b) alive asked ∙ request_alive r)
         go (inr k) =
-            let m : r ≡ Missed = silent_heartbeat quiet count p (bus.heartbeats p q) k.0 in
+            let m : r ≡ std.None = silent_heartbeat quiet count p (bus.heartbeats p q) k.0 in
             (k.1 ∙ sym (ap is_alive m), k.2 ∙ sym (ap is_join m), ap (λ (b : Bool). b && has p d.requests) k.1 ∙ sym (ap is_request m))
 
     own-vote : (g : Group) → ◌≡◌ {A = Vote} (record { group = g; view = view_of n q g.set d.heard0 d.heard1 }) (unit_vote C count bus.heartbeats q g)
@@ -187,7 +185,7 @@ module _ (E : Entries) (told : Within E by_definition) (mode n q : ℕ) (place :
 
     -- ---- rules 5 and 6
 
-    module _ (small : (p : ℕ) → p < n → eqb p q ≡ false → (v : Vote) → vote_got n count bus.votes q p ≡ Whole v → v.group.number < 2 ^ 32) where
+    module _ (small : (p : ℕ) → p < n → eqb p q ≡ false → (v : Vote) → vote_got n count bus.votes q p ≡ std.Some v → v.group.number < 2 ^ 32) where
       abbrev buffered : Ballots
       buffered = buffer_ballots n q d.votes d.arrived
 

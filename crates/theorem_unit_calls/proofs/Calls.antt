@@ -6,6 +6,9 @@ use mathlib.Core.Option.{Option, none, some}
 use Prim.Native.Nat.{ℕ, ◌≤◌, ◌<◌}
 use native.Mathlib.Omega.{arith}
 use lib.Dec.{eqb}
+use Rattle.std.specs.Prelude as std
+use Rattle.frames.specs.declared.Heartbeat.{Heartbeat}
+use Rattle.frames.specs.declared.Heartbeat.TheVariants.{Alive, Join, Request}
 use Rattle.sets.specs.Sets.{has}
 use Rattle.sets.proofs.Booleans.{and_i, or_f_r}
 use Rattle.sets.proofs.Nodes.{those_in}
@@ -21,8 +24,6 @@ use Rattle.state.proofs.RoundTrip.{round_trip}
 use Rattle.rules.specs.declared.Vote.{Vote}
 use Rattle.rules.specs.declared.Config.{Config}
 use Rattle.rules.specs.OneCycle.{wrong_mode, quiet_in, stopped, stop_and_start}
-use Rattle.frames.specs.declared.HeartbeatReceived.{HeartbeatReceived}
-use Rattle.frames.specs.declared.HeartbeatReceived.TheVariants as beats
 use Rattle.frames.specs.Written.{wrong_drive, vote_frame}
 use Rattle.bus_units.specs.Units.{Copies, heartbeat_sent, heartbeat_got, is_alive, is_join, is_request, unit_hears, vote_framed}
 use Rattle.bus_units.specs.Carried.{is_some, sends_heartbeat}
@@ -71,34 +72,34 @@ vote_speaks count q channel (some v) = refl
 
 -- ---- the number that `gm_receive_heartbeat` answers
 
-pub alive_code : (r : HeartbeatReceived) → (eqb (heard_code r) 1 || eqb (heard_code r) 3) ≡ is_alive r
-alive_code beats.Missed = refl
-alive_code beats.Alive = refl
-alive_code beats.Join = refl
-alive_code beats.Request = refl
+pub alive_code : (r : std.Option Heartbeat) → (eqb (heard_code r) 1 || eqb (heard_code r) 3) ≡ is_alive r
+alive_code std.None = refl
+alive_code (std.Some Alive) = refl
+alive_code (std.Some Join) = refl
+alive_code (std.Some Request) = refl
 
-pub join_code : (r : HeartbeatReceived) → eqb (heard_code r) 2 ≡ is_join r
-join_code beats.Missed = refl
-join_code beats.Alive = refl
-join_code beats.Join = refl
-join_code beats.Request = refl
+pub join_code : (r : std.Option Heartbeat) → eqb (heard_code r) 2 ≡ is_join r
+join_code std.None = refl
+join_code (std.Some Alive) = refl
+join_code (std.Some Join) = refl
+join_code (std.Some Request) = refl
 
-pub request_code : (r : HeartbeatReceived) → eqb (heard_code r) 3 ≡ is_request r
-request_code beats.Missed = refl
-request_code beats.Alive = refl
-request_code beats.Join = refl
-request_code beats.Request = refl
+pub request_code : (r : std.Option Heartbeat) → eqb (heard_code r) 3 ≡ is_request r
+request_code std.None = refl
+request_code (std.Some Alive) = refl
+request_code (std.Some Join) = refl
+request_code (std.Some Request) = refl
 
 -- who requests is heard with join 0
-pub request_alive : (r : HeartbeatReceived) → (is_alive r && is_request r) ≡ is_request r
-request_alive beats.Missed = refl
-request_alive beats.Alive = refl
-request_alive beats.Join = refl
-request_alive beats.Request = refl
+pub request_alive : (r : std.Option Heartbeat) → (is_alive r && is_request r) ≡ is_request r
+request_alive std.None = refl
+request_alive (std.Some Alive) = refl
+request_alive (std.Some Join) = refl
+request_alive (std.Some Request) = refl
 
 -- ---- what a unit hears of another, by its bit
 
-pub hears_bit : (C : Config) (count : ℕ) (h : Copies) (kind : HeartbeatReceived → Bool) (p q : ℕ) → p < C.nodes → eqb p q ≡ false
+pub hears_bit : (C : Config) (count : ℕ) (h : Copies) (kind : std.Option Heartbeat → Bool) (p q : ℕ) → p < C.nodes → eqb p q ≡ false
     → has p (unit_hears C count h kind q) ≡ kind (heartbeat_got C.quiet count h q p)
 unfolding unit_hears
 hears_bit C count h kind p q l o =
@@ -106,7 +107,7 @@ hears_bit C count h kind p q l o =
     ∙ ap (λ (b : Bool). not b && kind (heartbeat_got C.quiet count h q p)) o
 
 -- it does not listen to itself
-pub hears_self : (C : Config) (count : ℕ) (h : Copies) (kind : HeartbeatReceived → Bool) (p q : ℕ) → p < C.nodes → eqb p q ≡ true → has p (unit_hears C count h kind q) ≡ false
+pub hears_self : (C : Config) (count : ℕ) (h : Copies) (kind : std.Option Heartbeat → Bool) (p q : ℕ) → p < C.nodes → eqb p q ≡ true → has p (unit_hears C count h kind q) ≡ false
 unfolding unit_hears
 hears_self C count h kind p q l o =
     those_in p C.nodes (λ y. not (eqb y q) && kind (heartbeat_got C.quiet count h q y)) l

@@ -9,6 +9,7 @@ use native.Mathlib.Omega.{arith}
 use lib.Dec.{eqb, leb, ltb, lit<}
 use lib.ListN.{get_or}
 use borrow.Author.Tests.{le-leb}
+use Rattle.std.specs.Prelude as std
 use Rattle.sets.specs.Sets.{has, below}
 use Rattle.sets.proofs.Booleans.{and_i, eqb-true, ltb-true, not_f, or_f_r}
 use Rattle.refusal.proofs.Laws.{none as passed}
@@ -27,7 +28,6 @@ use Rattle.rules.proofs.Rows.{get-tabulate}
 use Rattle.rules.proofs.States.{none-some}
 use Rattle.theorem_agreement.proofs.Histories.{demand3}
 use Rattle.theorem_formed.proofs.Formed.{FormedRow, rule_one_formed, founding-formed, cycle-formed}
-use Rattle.frames.specs.declared.VoteReceived.TheVariants.{Whole}
 use Rattle.bus_units.specs.Units.{Bus, drive_got, vote_cast, vote_got, received, unit_decides, units_cycle}
 use Rattle.bus_units.specs.Carried.{Came, on_both, on_a, on_b, on_none, HeartbeatSent, HeartbeatRefused, VoteSent, VoteRefused, sends_heartbeat, sends_vote, Carries, Delivers}
 use Rattle.bus_units.specs.Recorded.{Sound, beat_heard, record_of}
@@ -153,7 +153,7 @@ module _ (E : Entries) (told : Within E by_definition) (mode n : ℕ) (two : 2 �
 
     module _ (carries : Carries C count bus c r) where
       -- a vote that arrives is one that was cast, and so its number fits
-      small : (q : ℕ) → q < n → (p : ℕ) → p < n → eqb p q ≡ false → (v : Vote) → vote_got n count bus.votes q p ≡ Whole v → v.group.number < 2 ^ 32
+      small : (q : ℕ) → q < n → (p : ℕ) → p < n → eqb p q ≡ false → (v : Vote) → vote_got n count bus.votes q p ≡ std.Some v → v.group.number < 2 ^ 32
       small q lq p lp o v k = cast (vote_reaches c p q) (sym (carries.ballots p q lp lq o) ∙ ap received k)
         where
           cast : (t : Bool) → arrive_if t (vote_cast C count bus.heartbeats p (at r p)) ≡ some v → v.group.number < 2 ^ 32

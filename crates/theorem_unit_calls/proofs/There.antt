@@ -10,6 +10,8 @@ use native.Mathlib.Omega.{arith}
 use lib.Dec.{eqb, lit<}
 use lib.ListN.{length, replicate, length-replicate}
 use borrow.Author.Tests.{eqb-false}
+use Rattle.std.specs.Prelude as std
+use Rattle.frames.specs.declared.Heartbeat.{Heartbeat}
 use Rattle.sets.specs.Sets.{has, below}
 use Rattle.sets.proofs.Booleans.{eqb-true}
 use Rattle.refusal.proofs.Laws.{unless-done}
@@ -24,9 +26,6 @@ use Rattle.rules.specs.OneCycle.{wrong_mode, quiet_in, in_mode, stopped, stop_an
 use Rattle.rules.specs.Faults.{Row, at, founding, rule_one, heartbeat_reaches, vote_reaches, cycle}
 use Rattle.rules.proofs.Rows.{get-tabulate}
 use Rattle.theorem_formed.proofs.Formed.{FormedRow, stop_start_formed, founding-formed, cycle-formed}
-use Rattle.frames.specs.declared.HeartbeatReceived.{HeartbeatReceived}
-use Rattle.frames.specs.declared.VoteReceived.{VoteReceived}
-use Rattle.frames.specs.declared.VoteReceived.TheVariants.{Missed, Whole}
 use Rattle.frames.specs.Written.{wrong_drive, vote_payload}
 use Rattle.frames.proofs.Lengths.{length_payload}
 use Rattle.bus_units.specs.Units.{Bus, heartbeat_sent, vote_sent, heartbeat_got, is_alive, is_join, is_request, unit_hears, vote_cast, vote_framed}
@@ -99,9 +98,9 @@ module _ (E : Entries) (had : Within by_definition E) (n count : ℕ) (two : 2 �
       ap (λ (x : List ℕ). length x) (unless-done (receive_vote_status n p count s) (slot_or (received_vote n p count (copies p 0) (copies p 1)) p s) s (sym (arrive-good n p count two few l counted s e)))
       ∙ go (received_vote n p count (copies p 0) (copies p 1))
     where
-      go : (r : VoteReceived) → length (slot_or r p s) ≡ 1792
-      go Missed = e
-      go (Whole v) = slot-length p (vote_payload v) s (length_payload v) (omega arith) ∙ e
+      go : (r : std.Option Vote) → length (slot_or r p s) ≡ 1792
+      go std.None = e
+      go (std.Some v) = slot-length p (vote_payload v) s (length_payload v) (omega arith) ∙ e
 
   collects : (k : ℕ) (s : List ℕ) (m : ℕ) → k ≤ n → length s ≡ 1792
       → Collected E n count copies (upto k) s m (votes_left n count copies (upto k) s) (mask_left n count copies (upto k) s m) × Lift {0, 1} (length (votes_left n count copies (upto k) s) ≡ 1792)
@@ -158,7 +157,7 @@ module _ (drive : ℕ → List ℕ) (writable : (q : ℕ) → wrong_drive (drive
   abbrev now : ℕ → State
   now q = stop_and_start (has q c.stop) (has q c.start) (at row q)
 
-  abbrev heard : (HeartbeatReceived → Bool) → ℕ → ℕ
+  abbrev heard : (std.Option Heartbeat → Bool) → ℕ → ℕ
   heard kind q = unit_hears C count bus.heartbeats kind q
 
   abbrev beat_frame : ℕ → ℕ → Frame
@@ -233,7 +232,7 @@ module _ (drive : ℕ → List ℕ) (writable : (q : ℕ) → wrong_drive (drive
       place : formed_place q n ≡ true
       place = placed n q two few l
 
-      r : ℕ → HeartbeatReceived
+      r : ℕ → std.Option Heartbeat
       r p = heartbeat_got quiet count bus.heartbeats q p
 
       all : Collected E n count (λ p. bus.votes p q) (upto n) buffer mask (buffer_after q) (arrived_after q) × Lift {0, 1} (length (buffer_after q) ≡ 1792)

@@ -3,7 +3,6 @@ use mathlib.Core.Path.{◌≡◌, sym, ap, ◌∙◌}
 use mathlib.Core.Bool.{true, false}
 use mathlib.Core.List.{List}
 use Prim.Native.Nat.{ℕ, ◌+◌, ◌*◌, ◌/◌, ◌%◌, ◌≤◌}
-use native.Mathlib.Omega.{arith}
 use lib.ListN.{length}
 use borrow.Author.Tests.{eq-eqb, ne_eqb, lt-ltb, le-ltb}
 use Rattle.bigendian.specs.BigEndian.{number_at}
@@ -20,16 +19,9 @@ even : (s : List ℕ) (h : ℕ) → number_at s 0 5 ≡ h → 8 ≤ length s →
 unfolding wrong_length
 even s h e l n = simp (e, le-ltb (length s) 8 l, eq-eqb _ _ n)
 
--- ---- the needs
 pub returns-then-s-lt8 : goal.returns-then-s-lt8
 unfolding wrong_length
 returns-then-s-lt8 c = sym (ap looked (by_length _ _ _ _ _ _ (rw (lt-ltb _ _ c.if-s-lt8.true))))
-
-pub overflow_mul-h : goal.overflow_mul-h
-overflow_mul-h c = omega arith
-
-pub overflow_add-h : goal.overflow_add-h
-overflow_add-h c = omega arith
 
 pub returns-then-s-h : goal.returns-then-s-h
 returns-then-s-h c =
