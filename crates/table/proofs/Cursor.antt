@@ -1,4 +1,4 @@
--- A walk over the records of s with a cursor: what a turn at `at` says of all the cycles from there on. Assumes nothing.
+-- A walk over the records of s: what a turn says of all the cycles from there on. Assumes nothing.
 use mathlib.Core.Path.{◌≡◌, sym, ap, ap₂, ◌∙◌}
 use mathlib.Core.Bool.{Bool, true, false}
 use mathlib.Core.List.{List}
@@ -8,12 +8,12 @@ use native.Mathlib.Numerals.{add-one}
 use lib.Dec.{eqb}
 use borrow.Author.Tests.{eqb-true, eqb-false}
 use lib.ListN.{length, take, drop, length-drop}
-use lib.Seq.{take_all, drop-drop}
+use lib.Seq.{take_all}
 use Rattle.refusal.specs.declared.Refusal.{Refusal}
 use Rattle.refusal.specs.Codes.{code_of}
 use Rattle.refusal.proofs.Codes.{numbered}
-use Rattle.table.specs.Records.{count_at, start_refusal, cycle_length, cycle_refusal, faults_at}
-use Rattle.table.specs.Table.{Cycles, with_cycle, cycles_in, table_of}
+use Rattle.table.specs.Records.{count_at, start_refusal, cycle_length, cycle_refusal}
+use Rattle.table.specs.Table.{Cycles, cycles_in, table_of}
 use Rattle.table.proofs.Laws.{no_cycle, accepted, cycles_end, cycles_refused, cycles_next, table_refused, table_cycles}
 
 -- what is left of s from the cursor on, as `&s[at..]` has it
@@ -26,41 +26,6 @@ left-drop s at = take_all (length s - at) (drop at s) (omega (arith, length-drop
 -- the cycles from the cursor on, the first of which is cycle k
 abbrev pub from : ℕ → ℕ → List ℕ → ℕ → Cycles
 from n k s at = cycles_in (length s) n k (drop at s)
-
-module _ (n k : ℕ) (s : List ℕ) (at : ℕ) where
-  shorter : length (drop at s) ≤ length s
-  shorter = omega (arith, length-drop at s)
-
-  pub from_end : length s ≤ at → from n k s at ≡ no_cycle 0
-  from_end h = cycles_end (length s) n k (drop at s) (omega (arith, length-drop at s))
-
-  -- r is the refusal of the record at the cursor, and l its length
-  module _ (r : ℕ) (kr : r ≡ cycle_refusal n k (left s at)) where
-    here : r ≡ cycle_refusal n k (drop at s)
-    here = kr ∙ ap (cycle_refusal n k) (left-drop s at)
-
-    pub from-refused : at < length s → (r ≡ 0 → ⊥) → from n k s at ≡ no_cycle r
-    from-refused h z =
-        cycles_refused (length s) n k (drop at s) shorter (λ e. omega (arith, length-drop at s)) (λ e. z (here ∙ e))
-        ∙ ap (λ (x : ℕ). no_cycle x) (sym here)
-
-    pub from-head : r ≡ 0 → 36 ≤ length (left s at)
-    from-head z = (accepted n k (left s at) (sym kr ∙ z)).head
-
-    pub from-there : r ≡ 0 → (l : ℕ) → l ≡ cycle_length (left s at) → (36 ≤ l) × (at + l ≤ length s)
-    from-there z l kl =
-        let t = accepted n k (drop at s) (sym here ∙ z) in
-        let h : l ≡ cycle_length (drop at s) = kl ∙ ap (λ (x : List ℕ). cycle_length x) (left-drop s at) in
-        (omega arith, omega (arith, t.head, t.there, length-drop at s))
-
-    pub from_next : r ≡ 0 → (l : ℕ) → l ≡ cycle_length (left s at) → from n k s at ≡ with_cycle (faults_at (left s at)) (from n (k + 1) s (at + l))
-    from_next z l kl =
-        cycles_next (length s) n k (drop at s) shorter (sym here ∙ z)
-        ∙ ap₂ (λ (x : List ℕ) (c : Cycles). with_cycle (faults_at x) c) (sym (left-drop s at))
-        (ap₂ (λ (j : ℕ) (x : List ℕ). cycles_in (length s) n j x) (sym (add-one k)) (drop-drop (cycle_length (drop at s)) at s ∙ same))
-      where
-        same : drop (at + cycle_length (drop at s)) s ≡ drop (at + l) s
-        same = ap (λ (x : ℕ). drop (at + x) s) (sym (kl ∙ ap (λ (x : List ℕ). cycle_length x) (left-drop s at)))
 
 -- a walk over the records by what is left of s, of which `rest` is cycle k on
 module _ (n k : ℕ) (s rest : List ℕ) (shorter : length rest ≤ length s) where
