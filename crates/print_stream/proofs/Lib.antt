@@ -1,2 +1,3 @@
 pub mod Short
+mod Taking
 pub mod Chunks

@@ -59,7 +59,7 @@ pub fn take(
     let mut used: usize = 0;
     let mut end = at;
     while let Some(before) = going(session, ended, &window[used..have]) {
-        let piece = print_pieces::turn(before, &window[used..have], out, end, states);
+        let piece = before.turn(&window[used..have], out, end, states);
         session = piece.session;
         used += piece.taken;
         end = piece.at;
