@@ -14,8 +14,9 @@ use Rattle.bigendian.proofs.Laws.{Bytes}
 use Rattle.state.specs.declared.State.{State}
 use Rattle.state.specs.declared.State.TheVariants.{Out, Joining, Member}
 use Rattle.state.specs.declared.Node.{Node}
-use Rattle.state.specs.declared.Decoded.{Decoded}
-use Rattle.state.specs.declared.Decoded.TheVariants.{Good, WrongLength as OfAnotherLength, Malformed as NoImage}
+use Rattle.std.specs.Prelude.{Result, Ok, Err}
+use Rattle.refusal.specs.declared.Refusal.{Refusal}
+use Rattle.refusal.specs.declared.Refusal.TheVariants.{Image}
 use Rattle.state.specs.State.{formed_place, formed_state, formed}
 use Rattle.state.specs.Image.{image_of, decoded}
 use Rattle.state.proofs.Fields.{of_member}
@@ -98,7 +99,7 @@ held_block quiet s m b = go (eqb (length s) 64) (reads_so s) (decoded quiet (tak
     front = bytes_take 24 s b
 
     -- the machine that was read
-    of : (n : Node) → length s ≡ 64 → reads_so s ≡ true → decoded quiet (take 24 s) ≡ Good n
+    of : (n : Node) → length s ≡ 64 → reads_so s ≡ true → decoded quiet (take 24 s) ≡ Ok n
         → (x : Machine) → record { node = n; flags = flags_in (get_or s 24 0); enables = flags_in (get_or s 25 0) } ≡ x → (formed_machine quiet x ≡ true) × (s ≡ image_of x.node ++ behind x)
     of n l r e x k = (
       ap (formed_machine quiet) (sym k) ∙ decoded-formed quiet (take 24 s) n front e,
@@ -106,11 +107,10 @@ held_block quiet s m b = go (eqb (length s) 64) (reads_so s) (decoded quiet (tak
           ∙ ap (λ (y : Machine). image_of y.node ++ behind y) k,
     )
 
-    go : (sized so : Bool) (d : Decoded) → eqb (length s) 64 ≡ sized → reads_so s ≡ so → decoded quiet (take 24 s) ≡ d
+    go : (sized so : Bool) (d : Result Node Refusal) → eqb (length s) 64 ≡ sized → reads_so s ≡ so → decoded quiet (take 24 s) ≡ d
         → cond sized (cond so (machine_in d s) Malformed) WrongLength ≡ Holds m → (formed_machine quiet m ≡ true) × (s ≡ image_of m.node ++ behind m)
-    go true true (Good n) l r e h = of n (eqb-true l) r e m cc
-    go true true OfAnotherLength l r e h = let z : ◌≡◌ {A = ℕ} 0 1 = cc in absurd (omega arith)
-    go true true NoImage l r e h = let z : ◌≡◌ {A = ℕ} 0 1 = cc in absurd (omega arith)
+    go true true (Ok n) l r e h = of n (eqb-true l) r e m cc
+    go true true (Err x) l r e h = let z : ◌≡◌ {A = ℕ} 0 1 = cc in absurd (omega arith)
     go true false d l r e h = let z : ◌≡◌ {A = ℕ} 0 1 = cc in absurd (omega arith)
     go false so d l r e h = let z : ◌≡◌ {A = ℕ} 0 1 = cc in absurd (omega arith)
 
@@ -135,7 +135,7 @@ block_back quiet m f =
 
 -- in a press that votes in every cycle a block whose node requests is none
 no_image : (t : State) (id n : ℕ) → formed_place id n ≡ true → formed_state true id n t ≡ true → formed_state false id n t ≡ false
-    → decoded false (image_of (record { state = t; id = id; nodes = n })) ≡ NoImage
+    → decoded false (image_of (record { state = t; id = id; nodes = n })) ≡ Err Image
 unfolding image_of
 no_image (Out r) id n p f e = absurd (true≢false e)
 no_image Joining id n p f e = absurd (true≢false e)
@@ -174,7 +174,7 @@ zeros_show (suc n) zero = refl
 zeros_show (suc n) (suc i) = zeros_show n i
 
 -- 24 bytes that hold a node, and 40 zero bytes, are its block with no flag and no enable set
-pub begins : (quiet : Bool) (s : List ℕ) (n : Node) → length s ≡ 24 → decoded quiet s ≡ Good n
+pub begins : (quiet : Bool) (s : List ℕ) (n : Node) → length s ≡ 24 → decoded quiet s ≡ Ok n
     → registers_at quiet (s ++ replicate 40 0) ≡ Holds (record { node = n; flags = three false false false; enables = three false false false })
 unfolding registers_at reads_so has
 begins quiet s n l e =

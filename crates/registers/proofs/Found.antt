@@ -9,8 +9,9 @@ use lib.Dec.{eqb}
 use lib.ListN.{length, take}
 use Rattle.refusal.specs.Refusal.{first, unless}
 use Rattle.refusal.proofs.Laws.{unless-done, unless-refused}
-use Rattle.state.specs.declared.Decoded.{Decoded}
-use Rattle.state.specs.declared.Decoded.TheVariants.{Good, WrongLength as OfAnotherLength, Malformed as NoImage}
+use Rattle.std.specs.Prelude.{Result, Ok, Err}
+use Rattle.refusal.specs.declared.Refusal.{Refusal}
+use Rattle.state.specs.declared.Node.{Node}
 use Rattle.state.specs.Image.{decoded}
 use Rattle.rules.specs.OneCycle.{wrong_mode, quiet_in}
 use Rattle.entry_lent.specs.Refusals.{wrong_length}
@@ -29,10 +30,9 @@ length_read : (quiet : Bool) (s : List ℕ) → wrong_length 64 s ≡ is_wrong (
 unfolding registers_at
 length_read quiet s = go (eqb (length s) 64) (reads_so s) (decoded quiet (take 24 s))
   where
-    go : (b c : Bool) (d : Decoded) → not b ≡ is_wrong (cond b (cond c (machine_in d s) Malformed) WrongLength)
-    go true true (Good n) = refl
-    go true true OfAnotherLength = refl
-    go true true NoImage = refl
+    go : (b c : Bool) (d : Result Node Refusal) → not b ≡ is_wrong (cond b (cond c (machine_in d s) Malformed) WrongLength)
+    go true true (Ok n) = refl
+    go true true (Err r) = refl
     go true false d = refl
     go false c d = refl
 
@@ -40,14 +40,13 @@ pub holds_length : (quiet : Bool) (s : List ℕ) (m : Machine) → registers_at 
 holds_length quiet s m e = length-is 64 s (length_read quiet s ∙ ap is_wrong e)
 
 -- the node of a block stands in its first 24 bytes
-pub image_in_lem : (quiet : Bool) (s : List ℕ) (m : Machine) → registers_at quiet s ≡ Holds m → decoded quiet (take 24 s) ≡ Good m.node
+pub image_in_lem : (quiet : Bool) (s : List ℕ) (m : Machine) → registers_at quiet s ≡ Holds m → decoded quiet (take 24 s) ≡ Ok m.node
 unfolding registers_at
 image_in_lem quiet s m = go (eqb (length s) 64) (reads_so s) (decoded quiet (take 24 s))
   where
-    go : (b c : Bool) (d : Decoded) → cond b (cond c (machine_in d s) Malformed) WrongLength ≡ Holds m → d ≡ Good m.node
-    go true true (Good n) h = let z : n ≡ m.node = cc in ap Good z
-    go true true OfAnotherLength h = let z : ◌≡◌ {A = ℕ} 0 1 = cc in absurd (omega arith)
-    go true true NoImage h = let z : ◌≡◌ {A = ℕ} 0 1 = cc in absurd (omega arith)
+    go : (b c : Bool) (d : Result Node Refusal) → cond b (cond c (machine_in d s) Malformed) WrongLength ≡ Holds m → d ≡ Ok m.node
+    go true true (Ok n) h = let z : n ≡ m.node = cc in ap Ok z
+    go true true (Err r) h = let z : ◌≡◌ {A = ℕ} 0 1 = cc in absurd (omega arith)
     go true false d h = let z : ◌≡◌ {A = ℕ} 0 1 = cc in absurd (omega arith)
     go false c d h = let z : ◌≡◌ {A = ℕ} 0 1 = cc in absurd (omega arith)
 

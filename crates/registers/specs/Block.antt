@@ -1,10 +1,9 @@
 -- Request 1, "A register block for the drive card": the 64 bytes of a plain machine, and the machine of 64 bytes.
 -- Assumes nothing.
-use Rattle.std.specs.Prelude.{Bool, true, ◌&&◌, ◌||◌, cond, List, [], ◌∷◌, ◌++◌, ℕ, ◌+◌, eqb, ltb, get_or, length, take, drop, replicate}
+use Rattle.std.specs.Prelude.{Bool, true, ◌&&◌, ◌||◌, cond, List, [], ◌∷◌, ◌++◌, ℕ, ◌+◌, eqb, ltb, get_or, length, take, drop, replicate, Result, Ok, Err}
 use Rattle.sets.specs.Sets.{has}
 use Rattle.state.specs.declared.Node.{Node}
-use Rattle.state.specs.declared.Decoded.{Decoded}
-use Rattle.state.specs.declared.Decoded.TheVariants.{Good, WrongLength as OfAnotherLength, Malformed as NoImage}
+use Rattle.refusal.specs.declared.Refusal.{Refusal}
 use Rattle.state.specs.State.{formed}
 use Rattle.state.specs.Image.{image_of, decoded}
 
@@ -63,10 +62,9 @@ reads_so s =
     ltb (get_or s 24 0) 8 && ltb (get_or s 25 0) 8 && eqb (get_or s 26 0) (pending_byte (flags_in (get_or s 24 0)) (flags_in (get_or s 25 0))) && all_zero (drop 27 s)
 
 -- the machine of a block whose first 24 bytes hold a node
-abbrev pub machine_in : Decoded → List ℕ → LentBlock
-machine_in (Good n) s = Holds (record { node = n; flags = flags_in (get_or s 24 0); enables = flags_in (get_or s 25 0) })
-machine_in OfAnotherLength s = Malformed
-machine_in NoImage s = Malformed
+abbrev pub machine_in : Result Node Refusal → List ℕ → LentBlock
+machine_in (Ok n) s = Holds (record { node = n; flags = flags_in (get_or s 24 0); enables = flags_in (get_or s 25 0) })
+machine_in (Err r) s = Malformed
 
 -- What reading a lent block finds. "3: a lent buffer of another length than named here"; "4: a state image not well formed", and bytes that could not read so.
 unfoldable pub registers_at : Bool → List ℕ → LentBlock
