@@ -2,25 +2,22 @@
 #![tactic(auto)]
 
 ghost use Rattle.std.specs.Prelude.{◌≡◌, ◌+◌, ◌≤◌, length, take, drop};
+ghost use Rattle.refusal.specs.Codes.{status_of};
 ghost use Rattle.registers.specs.Block.{flags_byte, all_zero, reads_so};
 ghost use Rattle.registers.specs.Steps.{raised_by};
 ghost use Rattle.register_block.specs.Bytes.{shares as the_shares, rest_status, with_flags, flags_after, enables_after};
 
+use entry_lent::check_length;
+use refusal::Refusal;
 use state::State;
 
-// Whether the four or eight bytes from a place on are 0.
-fn zero4(s: &[u8], at: usize) -> bool
-    requires { at + 4 ≤ length s.now }
-    ensures { result ≡ all_zero (take 4 (drop at s.now)) }
+// Whether the K bytes from a place on are 0: one number is tested, and no byte for itself.
+fn is_zero<const K: usize>(s: &[u8], at: usize) -> bool
+    requires k_bound { K ≤ 8 }
+    requires within { at + K ≤ length s.now }
+    ensures { result ≡ all_zero (take K (drop at s.now)) }
 {
-    bigendian::read::<4>(s, at) == 0
-}
-
-fn zero8(s: &[u8], at: usize) -> bool
-    requires { at + 8 ≤ length s.now }
-    ensures { result ≡ all_zero (take 8 (drop at s.now)) }
-{
-    bigendian::read::<8>(s, at) == 0
+    bigendian::read::<K>(s, at) == 0
 }
 
 // Whether bytes 27 to 63 are 0.
@@ -28,15 +25,19 @@ fn rest_is_zero(block: &[u8]) -> bool
     requires { length block.now ≡ 64 }
     ensures { result ≡ all_zero (drop 27 block.now) }
 {
-    let first = (block[27] == 0) & zero4(block, 28);
-    first & zero8(block, 32) & zero8(block, 40) & zero8(block, 48) & zero8(block, 56)
+    let first = (block[27] == 0) & is_zero::<4>(block, 28);
+    first
+        & is_zero::<8>(block, 32)
+        & is_zero::<8>(block, 40)
+        & is_zero::<8>(block, 48)
+        & is_zero::<8>(block, 56)
 }
 
 // 1 if two bytes share a bit.
 fn shares(flags: u8, enables: u8) -> u8
     ensures { result ≡ the_shares flags enables }
 {
-    if flags & enables == 0 { 0 } else { 1 }
+    u8::from(flags & enables != 0)
 }
 
 // Whether bytes 24 to 63 are such as a block can have.
@@ -51,13 +52,15 @@ fn reads_so(block: &[u8]) -> bool
 }
 
 // What a block is refused for, apart from its state.
-pub fn rest_refusal(block: &[u8]) -> u32
-    ensures { result ≡ rest_status block.now }
+#[tactic(auto, unfolding(crate::specs::Bytes::rest_status))]
+pub fn check_rest(block: &[u8]) -> Result<(), Refusal>
+    ensures { status_of result ≡ rest_status block.now }
 {
-    if block.len() != 64 {
-        return 3;
+    check_length(block.len(), 64)?;
+    if !reads_so(block) {
+        return Err(Refusal::Image);
     }
-    if reads_so(block) { 0 } else { 4 }
+    Ok(())
 }
 
 // Flags and enables, and the byte that follows from both.
@@ -92,13 +95,9 @@ pub fn raised_by(s: State, t: State) -> u8
         State::Out(_) => 0,
         State::Joining => if rule_steps::sends_member(t) { 4 } else { 0 },
         State::Member(g, _) => match t {
-            State::Out(r) => if state_encoding::reason_code(r) != 0 {
-                2
-            } else {
-                0
-            },
+            State::Out(r) => if u8::from(r) != 0 { 2 } else { 0 },
             State::Joining => 0,
-            State::Member(h, _) => if g.set != h.set { 1 } else { 0 },
+            State::Member(h, _) => u8::from(g.set != h.set),
         },
     }
 }

@@ -1,7 +1,6 @@
 use borrow.Author.Tests.{eq-eqb, ne_eqb}
-use mathlib.Core.Path.{◌≡◌, refl, ap, ◌∙◌, sym}
-use mathlib.Core.Bool.{Bool, true, false, not, cond}
-use lib.Dec.{eqb}
+use Rattle.std.proofs.Common.{◌≡◌, ℕ, Bool, true, false, not, cond, eqb, refl, ap, ◌∙◌, sym}
+use Rattle.std.specs.Int.{from_bool}
 use Rattle.state.specs.declared.Group.{Group}
 use Rattle.state.specs.declared.State.{State}
 use Rattle.state.specs.declared.State.TheVariants.{Out, Joining, Member}
@@ -21,11 +20,11 @@ joined s t b e h = rw e (go t b h)
     go (Member g a) b h = rw (sym h)
 
 -- a member that stays one raises changed if its set differs
-stayed : (s t : State) (g h : Group) (a k b : Bool) → s ≡ Member g a → t ≡ Member h k → not (eqb g.set h.set) ≡ b → cond b 1 0 ≡ flags_byte (raised_by s t)
+stayed : (s t : State) (g h : Group) (a k : Bool) → s ≡ Member g a → t ≡ Member h k → from_bool (not (eqb g.set h.set)) ≡ flags_byte (raised_by s t)
 unfolding raised_by
-stayed s t g h a k b e f d = rw (e, f, d, go b)
+stayed s t g h a k e f = rw (e, f) (go (not (eqb g.set h.set)))
   where
-    go : (b : Bool) → flags_byte (record { changed = b; halted = false; entered = false }) ≡ cond b 1 0
+    go : (b : Bool) → from_bool b ≡ flags_byte (record { changed = b; halted = false; entered = false })
     go true = refl
     go false = refl
 
@@ -39,24 +38,17 @@ returns-then-sends_member c = joined _ c.args.t true c.in-Joining.is (sym c.send
 pub returns-else-sends_member : goal.returns-else-sends_member
 returns-else-sends_member c = joined _ c.args.t false c.in-Joining.is (sym c.sends_member.ensures ∙ c.if-sends_member.false)
 
-pub returns-then-reason_code-ne0 : goal.returns-then-reason_code-ne0
+pub returns-then-from-ne0 : goal.returns-then-from-ne0
 unfolding raised_by
-returns-then-reason_code-ne0 c =
-    rw (c.in-Member.is, c.in-Out-t.is, sym c.reason_code.ensures, ne_eqb _ 0 c.if-reason_code-ne0.true)
+returns-then-from-ne0 c = rw (c.in-Member.is, c.in-Out-t.is, sym c.from.ensures, ne_eqb _ 0 c.if-from-ne0.true)
 
-pub returns-else-reason_code-ne0 : goal.returns-else-reason_code-ne0
+pub returns-else-from-ne0 : goal.returns-else-from-ne0
 unfolding raised_by
-returns-else-reason_code-ne0 c =
-    rw (c.in-Member.is, c.in-Out-t.is, sym c.reason_code.ensures, eq-eqb _ 0 c.if-reason_code-ne0.false)
+returns-else-from-ne0 c = rw (c.in-Member.is, c.in-Out-t.is, sym c.from.ensures, eq-eqb _ 0 c.if-from-ne0.false)
 
 pub returns-in-Joining-t : goal.returns-in-Joining-t
 unfolding raised_by
 returns-in-Joining-t c = rw (c.in-Member.is, c.in-Joining-t.is)
 
-pub returns-then-g-h : goal.returns-then-g-h
-returns-then-g-h c =
-    stayed _ _ _ _ _ _ true c.in-Member.is c.in-Member-t.is (ap not (ne_eqb _ _ c.if-g-h.true))
-
-pub returns-else-g-h : goal.returns-else-g-h
-returns-else-g-h c =
-    stayed _ _ _ _ _ _ false c.in-Member.is c.in-Member-t.is (ap not (eq-eqb _ _ c.if-g-h.false))
+pub returns-in-Member-t : goal.returns-in-Member-t
+returns-in-Member-t c = c.from-in-Member-t.ensures ∙ stayed _ _ _ _ _ _ c.in-Member.is c.in-Member-t.is

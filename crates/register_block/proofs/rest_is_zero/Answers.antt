@@ -3,4 +3,4 @@ use Rattle.register_block.proofs.rest_is_zero.Goals as goal
 
 pub returns : goal.returns
 returns c =
-    rest_zero c.args.block.now _ _ _ _ _ c.requires c.zero4.ensures c.zero8.ensures c.zero8-2.ensures c.zero8-3.ensures c.zero8-4.ensures
+    rest_zero c.args.block.now _ _ _ _ _ c.requires c.is_zero.ensures c.is_zero-2.ensures c.is_zero-3.ensures c.is_zero-4.ensures c.is_zero-5.ensures

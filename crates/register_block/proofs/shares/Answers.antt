@@ -1,11 +1,12 @@
-use borrow.Author.Tests.{eq-eqb, ne_eqb}
+use Rattle.std.proofs.Common.{◌≡◌, ℕ, Bool, true, false, not, cond, refl, ◌∙◌}
+use Rattle.std.specs.Int.{from_bool}
 use Rattle.sets.specs.Sets.{◌∩◌}
 use Rattle.register_block.proofs.shares.Goals as goal
 
-pub returns-then-flags-enables-eq0 : goal.returns-then-flags-enables-eq0
-unfolding ◌∩◌
-returns-then-flags-enables-eq0 c = rw (eq-eqb _ 0 c.if-flags-enables-eq0.true)
+turned : (b : Bool) → from_bool (not b) ≡ cond {A = ℕ} b 0 1
+turned true = refl
+turned false = refl
 
-pub returns-else-flags-enables-eq0 : goal.returns-else-flags-enables-eq0
+pub returns : goal.returns
 unfolding ◌∩◌
-returns-else-flags-enables-eq0 c = rw (ne_eqb _ 0 c.if-flags-enables-eq0.false)
+returns c = c.from.ensures ∙ turned _
