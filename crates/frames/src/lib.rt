@@ -49,7 +49,8 @@ pub enum Heartbeat {
     Request,
 }
 
-// On which channel a copy came.
+// On which channel the copy came that counts. To a reader or a writer a channel is a number: the C interface gives it, and `read_heartbeat`, `read_vote` and
+// `write_vote` promise their answers for every number, as `channel_start` is defined.
 #[derive(Clone, Copy, Debug, PartialEq, Eq)]
 pub enum Channel {
     A,

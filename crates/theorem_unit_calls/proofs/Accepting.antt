@@ -7,18 +7,21 @@ use native.Mathlib.Omega.{arith}
 use lib.Dec.{eqb}
 use lib.ListN.{length, replicate, length-replicate}
 use borrow.Author.Tests.{eq-eqb, le-ltb, lt-leb}
+use Rattle.std.specs.Prelude as std
 use Rattle.sets.specs.Sets.{below}
 use Rattle.sets.proofs.Booleans.{eqb_self}
 use Rattle.frames.specs.Written.{wrong_drive}
+use Rattle.refusal.specs.declared.Refusal.{Refusal}
+use Rattle.refusal.specs.Codes.{status_of}
 use Rattle.refusal.specs.Refusal.{when, first}
 use Rattle.state.specs.declared.State.{State}
-use Rattle.state.specs.declared.Decoded.{Decoded}
+use Rattle.state.specs.declared.Node.{Node}
 use Rattle.state.specs.State.{formed_place, formed_state}
 use Rattle.state.specs.Image.{refusal}
 use Rattle.state.proofs.RoundTrip.{image_length}
 use Rattle.rules.specs.OneCycle.{wrong_mode, quiet_in}
 use Rattle.entry_lent.specs.Refusals.{wrong_count, wrong_node, wrong_cycle, wrong_channel, wrong_indicators, wrong_length, wrong_founding, malformed}
-use Rattle.entry_lent.specs.Found.{status_of, image_status}
+use Rattle.entry_lent.specs.Found.{image_status}
 use Rattle.entry_begin.specs.Begin.{begin_status}
 use Rattle.entry_send_heartbeat.specs.Beating.{wrong_sending, send_heartbeat_status}
 use Rattle.entry_receive_heartbeat.specs.Hearing.{receive_heartbeat_status}
@@ -47,7 +50,7 @@ none_of_three a b c i j k e f g = rw (e, f, g)
 
 module _ (mode n q : ℕ) (s : State) (accepted : wrong_mode mode ≡ false) (place : formed_place q n ≡ true) (w : formed_state (quiet_in mode) q n s ≡ true) where
   good-image : malformed (quiet_in mode) (image_in n q s) ≡ false
-  good-image = ap (λ (d : Decoded). eqb (refusal d) 4) (image_back mode n q s place w)
+  good-image = ap (λ (d : std.Result Node Refusal). eqb (refusal d) 4) (image_back mode n q s place w)
 
   pub image-good : 0 ≡ image_status mode (image_in n q s)
   unfolding image_status

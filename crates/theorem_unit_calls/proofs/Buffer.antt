@@ -47,9 +47,9 @@ read_formed n p count channel s v e = go (vote_fault p count channel s) (sym (vo
     at-content w true f k = let z : w ≡ v = cc in ap (formed_vote n p) (sym z) ∙ f
     at-content w false f k = absurd (refused_whole Content v k)
 
-    go : (o : Option Fault) → vote_unless o n p s ≡ std.Ok v → formed_vote n p v ≡ true
-    go none k = at-content (payload_vote s) (formed_vote n p (payload_vote s)) refl k
-    go (some f) k = absurd (refused_whole f v k)
+    go : (o : std.Option Fault) → vote_unless o n p s ≡ std.Ok v → formed_vote n p v ≡ true
+    go std.None k = at-content (payload_vote s) (formed_vote n p (payload_vote s)) refl k
+    go (std.Some f) k = absurd (refused_whole f v k)
 
 received-formed : (n p count : ℕ) (a b : List ℕ) (v : Vote) → received_vote n p count a b ≡ std.Some v → formed_vote n p v ≡ true
 received-formed n p count a b v e = go (read_vote n p count 0 a) (read_vote n p count 1 b) refl refl e

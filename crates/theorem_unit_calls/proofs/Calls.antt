@@ -12,12 +12,13 @@ use Rattle.frames.specs.declared.Heartbeat.TheVariants.{Alive, Join, Request}
 use Rattle.sets.specs.Sets.{has}
 use Rattle.sets.proofs.Booleans.{and_i, or_f_r}
 use Rattle.sets.proofs.Nodes.{those_in}
+use Rattle.refusal.specs.declared.Refusal.{Refusal}
+use Rattle.refusal.specs.declared.Refusal.TheVariants.{Number}
+use Rattle.refusal.specs.Codes.{status_of}
 use Rattle.refusal.proofs.Laws.{none as passed, unless-done}
 use Rattle.state.specs.declared.State.{State}
 use Rattle.state.specs.declared.State.TheVariants.{Out, Joining, Member}
 use Rattle.state.specs.declared.Node.{Node}
-use Rattle.state.specs.declared.Decoded.{Decoded}
-use Rattle.state.specs.declared.Decoded.TheVariants.{Good}
 use Rattle.state.specs.State.{formed, formed_place, formed_state, founding_group, initial}
 use Rattle.state.specs.Image.{image_of, decoded}
 use Rattle.state.proofs.RoundTrip.{round_trip}
@@ -27,10 +28,8 @@ use Rattle.rules.specs.OneCycle.{wrong_mode, quiet_in, stopped, stop_and_start}
 use Rattle.frames.specs.Written.{wrong_drive, vote_frame}
 use Rattle.bus_units.specs.Units.{Copies, heartbeat_sent, heartbeat_got, is_alive, is_join, is_request, unit_hears, vote_framed}
 use Rattle.bus_units.specs.Carried.{is_some, sends_heartbeat}
-use Rattle.entry_lent.specs.declared.Lent.{Lent}
-use Rattle.entry_lent.specs.declared.Lent.TheVariants.{Holds, Refused}
 use Rattle.entry_lent.specs.Refusals.{wrong_indicators, wrong_cycle, wrong_channel}
-use Rattle.entry_lent.specs.Found.{in_image, lent_state, status_of, image_status}
+use Rattle.entry_lent.specs.Found.{lent_state, image_status}
 use Rattle.entry_lent.proofs.Bounds.{sending_bounds}
 use Rattle.entry_begin.specs.Begin.{begin_status, begin_left}
 use Rattle.entry_stop_start.specs.StopStart.{stop_left, start_left, rule_one_of}
@@ -134,16 +133,16 @@ pub begin_stops : (n q F : ℕ) (y : List ℕ) → has q F ≡ false → by_defi
 begin_stops n q F y o k = begin_gives n q F y k ∙ ap (λ (b : Bool). image_in n q (cond b (Member (founding_group 0 F) false) stopped)) o
 
 -- an image that is read in a mode that there is
-pub state_lent : (mode : ℕ) (x : List ℕ) (node : Node) → wrong_mode mode ≡ false → decoded (quiet_in mode) x ≡ Good node → lent_state mode x ≡ Holds node
+pub state_lent : (mode : ℕ) (x : List ℕ) (node : Node) → wrong_mode mode ≡ false → decoded (quiet_in mode) x ≡ std.Ok node → lent_state mode x ≡ std.Ok node
 unfolding lent_state
-state_lent mode x node e f = ap₂ (λ (wrong : Bool) (d : Decoded). cond wrong (Refused 2) (in_image d)) e f
+state_lent mode x node e f = ap₂ (λ (wrong : Bool) (d : std.Result Node Refusal). cond wrong (std.Err Number) d) e f
 
 -- who is accepted with an image gave a mode
 pub moded : (mode : ℕ) (x : List ℕ) → 0 ≡ image_status mode x → wrong_mode mode ≡ false
 unfolding image_status lent_state
 moded mode x e = go (wrong_mode mode) e
   where
-    go : (wrong : Bool) → 0 ≡ status_of (cond wrong (Refused 2) (in_image (decoded (quiet_in mode) x))) → wrong ≡ false
+    go : (wrong : Bool) → 0 ≡ status_of (cond wrong (std.Err Number) (decoded (quiet_in mode) x)) → wrong ≡ false
     go true k = absurd (omega arith)
     go false k = refl
 
@@ -154,20 +153,20 @@ module _ (mode n q : ℕ) (s : State) (place : formed_place q n ≡ true) (w : f
   abbrev x : List ℕ
   x = image_in n q s
 
-  pub image_back : decoded quiet x ≡ Good (node_in n q s)
+  pub image_back : decoded quiet x ≡ std.Ok (node_in n q s)
   unfolding formed
   image_back = round_trip quiet (node_in n q s) (and_i (formed_place q n) (formed_state quiet q n s) place w)
 
-  pub image_lent : wrong_mode mode ≡ false → lent_state mode x ≡ Holds (node_in n q s)
+  pub image_lent : wrong_mode mode ≡ false → lent_state mode x ≡ std.Ok (node_in n q s)
   image_lent e = state_lent mode x (node_in n q s) e image_back
 
   pub stop-gives : wrong_mode mode ≡ false → stop_left mode x ≡ image_in n q (stop_and_start true false s)
   unfolding stop_left
-  stop-gives e = ap (λ (l : Lent). rule_one_of true false l x) (image_lent e)
+  stop-gives e = ap (λ (l : std.Result Node Refusal). rule_one_of true false l x) (image_lent e)
 
   pub start_gives : wrong_mode mode ≡ false → start_left mode x ≡ image_in n q (stop_and_start false true s)
   unfolding start_left
-  start_gives e = ap (λ (l : Lent). rule_one_of false true l x) (image_lent e)
+  start_gives e = ap (λ (l : std.Result Node Refusal). rule_one_of false true l x) (image_lent e)
 
   pub beat-gives : (sync startup count channel : ℕ) (drive : List ℕ) (g : Frame) → by_definition.send_heartbeat mode x sync startup count channel drive g
       → Gives g (heartbeat_sent sync startup drive count q s channel)
@@ -175,7 +174,7 @@ module _ (mode n q : ℕ) (s : State) (place : formed_place q n ≡ true) (w : f
   beat-gives sync startup count channel drive g k =
       let t = k.lower in
       let status = send_heartbeat_status mode x sync startup count channel drive t.0 in
-      let from : Decoded → List ℕ = λ d. heartbeat_from d sync startup count channel drive t.0 in
+      let from : std.Result Node Refusal → List ℕ = λ d. heartbeat_from d sync startup count channel drive t.0 in
       go s t.0 (t.4 ∙ unless-done status (sent_of (decoded quiet x)) t.1 (sym t.2) ∙ ap sent_of image_back)
       (t.3 ∙ unless-done status (from (decoded quiet x)) t.0 (sym t.2) ∙ ap from image_back)
     where
@@ -192,8 +191,8 @@ module _ (mode n q : ℕ) (s : State) (place : formed_place q n ≡ true) (w : f
   vote-gives heard0 heard1 requests count channel g k =
       let t = k.lower in
       let status = send_vote_status mode x count channel t.0 in
-      let voted : Decoded → ℕ = λ d. voted_of quiet d heard0 heard1 requests in
-      let from : Decoded → List ℕ = λ d. vote_from quiet d heard0 heard1 requests count channel t.0 in
+      let voted : std.Result Node Refusal → ℕ = λ d. voted_of quiet d heard0 heard1 requests in
+      let from : std.Result Node Refusal → List ℕ = λ d. vote_from quiet d heard0 heard1 requests count channel t.0 in
       go s t.0 (t.4 ∙ unless-done status (voted (decoded quiet x)) t.1 (sym t.2) ∙ ap voted image_back)
       (t.3 ∙ unless-done status (from (decoded quiet x)) t.0 (sym t.2) ∙ ap from image_back)
     where
@@ -212,7 +211,7 @@ module _ (mode n q : ℕ) (s : State) (place : formed_place q n ≡ true) (w : f
       → y ≡ image_in n q (decision quiet (node_in n q s) s heard0 heard1 requests votes arrived)
   unfolding decide_left
   decide-gives heard0 heard1 requests votes arrived y k =
-      let from : Decoded → List ℕ = λ d. decided_from quiet d heard0 heard1 requests votes arrived x in
+      let from : std.Result Node Refusal → List ℕ = λ d. decided_from quiet d heard0 heard1 requests votes arrived x in
       k.lower.1 ∙ unless-done (decide_status mode x votes) (from (decoded quiet x)) x (sym k.lower.0) ∙ ap from image_back
 
 -- the indicators, the count and the drive bytes that `gm_send_heartbeat` accepts

@@ -11,6 +11,7 @@ use lib.Dec.{eqb, lit<}
 use lib.ListN.{length, replicate, length-replicate}
 use borrow.Author.Tests.{eqb-false}
 use Rattle.std.specs.Prelude as std
+use Rattle.rules.specs.declared.Vote.{Vote}
 use Rattle.frames.specs.declared.Heartbeat.{Heartbeat}
 use Rattle.sets.specs.Sets.{has, below}
 use Rattle.sets.proofs.Booleans.{eqb-true}
