@@ -1,4 +1,4 @@
-use Rattle.std.proofs.Common.{rules, List, ℕ, ap, sym, ◌∙◌, subst}
+use Rattle.std.proofs.Common.{rules, ap, sym, ◌∙◌, subst}
 use Rattle.table.specs.Records.{faults_at}
 use Rattle.cluster_states.specs.States.{row_of}
 use Rattle.run_turns.specs.declared.Records.{Records}
