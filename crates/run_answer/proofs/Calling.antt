@@ -8,7 +8,6 @@ use lib.ListN.{length}
 use lib.Pow.{pow_pos}
 use borrow.Author.Tests.{eqb-true, eqb-false, eq-eqb, ne_eqb, ltb-false, le-leb}
 use Rattle.std.specs.Prelude.{Option, Some, Result, Ok, Err, IfOk}
-use Rattle.sets.specs.Sets.{below}
 use Rattle.sets.proofs.Booleans.{or_f_l, or_f_r, not_f}
 use Rattle.refusal.specs.declared.Refusal.{Refusal}
 use Rattle.refusal.specs.Refusal.{when, first}
@@ -20,7 +19,7 @@ use Rattle.state.specs.State.{formed_state}
 use Rattle.rules.specs.declared.Config.{Config}
 use Rattle.rules.specs.declared.Faults.{Faults}
 use Rattle.rules.specs.OneCycle.{wrong_mode, quiet_in, in_mode}
-use Rattle.rules.specs.Faults.{Row, founding, cycle}
+use Rattle.rules.specs.Faults.{Row, cycle}
 use Rattle.rules.specs.Reference.{beginning, after}
 use Rattle.bus_units.specs.Run.{frames_length, frames_after}
 use Rattle.table.specs.Records.{count_at, founding_at, start_refusal, cycle_length, cycle_refusal, faults_at}

@@ -1,6 +1,6 @@
 -- How a call on a row is worked out on values.
 -- Assumes nothing.
-use Rattle.std.specs.Prelude.{◌≡◌, Bool, true, cond, Option, List, ℕ, ◌≤◌, leb, length}
+use Rattle.std.specs.Prelude.{◌≡◌, true, cond, Option, List, ℕ, ◌≤◌, leb, length}
 use Rattle.state.specs.declared.Node.{Node}
 use Rattle.rules.specs.declared.Config.{Config}
 use Rattle.rules.specs.OneCycle.{wrong_mode, in_mode}

@@ -1,7 +1,7 @@
 // Calls on a row, worked out on values: what each answers, and the states that it leaves.
 #![tactic(auto)]
 
-ghost use Rattle.std.specs.Prelude.{◌≡◌, List, ℕ, ◌≤◌, Option, Some, ltb, length, IfOk};
+ghost use Rattle.std.specs.Prelude.{◌≡◌, true, List, ℕ, ◌≤◌, Option, Some, ltb, length, IfOk};
 ghost use Rattle.refusal.specs.Codes.{status_of};
 ghost use Rattle.state.specs.declared.Node.{Node};
 ghost use Rattle.rules.specs.OneCycle.{quiet_in, in_mode};

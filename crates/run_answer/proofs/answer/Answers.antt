@@ -1,5 +1,4 @@
 -- By the task. Assumes nothing.
-use mathlib.Core.Path.{◌≡◌}
 use lib.ListN.{length}
 use Rattle.run_answer.proofs.Calling.{run-status, framed-status, run-left, framed-left}
 use Rattle.run_answer.proofs.answer.Goals as goal

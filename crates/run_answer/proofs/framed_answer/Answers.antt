@@ -6,7 +6,6 @@ use lib.ListN.{length}
 use Rattle.rules.specs.OneCycle.{wrong_mode}
 use Rattle.bus_units.specs.Run.{frames_length}
 use Rattle.table.specs.Table.{table_of}
-use Rattle.row_calls.specs.Calls.{framed_entries}
 use Rattle.run_answer.specs.Answered.{ran_status}
 use Rattle.run_answer.proofs.Calling.{framed_good, frames_kept, run-most, run-good, run-formed, run-leaves, run-shown}
 use Rattle.run_answer.proofs.framed_answer.Goals as goal
