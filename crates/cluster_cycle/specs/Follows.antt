@@ -1,7 +1,7 @@
 -- A member that is kept for those that decide the same, and a cycle in which nobody votes.
 -- Assumes nothing.
 use Rattle.std.specs.Prelude.{◌≡◌, Bool, true, ◌&&◌, cond, List, ℕ, ◌<◌, eqb, get_or, Option, None, Some}
-use Rattle.sets.specs.Sets.{has, single, ◌∪◌}
+use Rattle.sets.specs.Sets.{has}
 use Rattle.state.specs.declared.State.{State}
 use Rattle.state.specs.declared.State.TheVariants.{Member}
 use Rattle.rules.specs.declared.Config.{Config}
@@ -42,8 +42,3 @@ kept q sets lead same voting present d k =
 -- the masks after a cycle in which nobody votes, from those after rule 1
 abbrev pub resting_roles : Roles → Roles
 resting_roles w = record { members = w.members; asking = 0; joining = w.joining; no_quorum = w.no_quorum; outvoted = w.outvoted }
-
--- the masks with node q added as a member, and whether it requests
-abbrev pub with_member : Roles → ℕ → Bool → Roles
-with_member w q a =
-    record { members = single q ∪ w.members; asking = cond a (single q ∪ w.asking) w.asking; joining = w.joining; no_quorum = w.no_quorum; outvoted = w.outvoted }

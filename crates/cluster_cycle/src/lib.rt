@@ -8,8 +8,9 @@ ghost use Rattle.rules.specs.Faults.{cycle as the_cycle};
 ghost use Rattle.cluster_tallies.specs.Grouped.{Within, Below};
 ghost use Rattle.cluster_states.specs.States.{states_of, faults_of, state_at, row_of};
 ghost use Rattle.cluster_states.specs.Decided.{view_at, voting_of, decided_at};
-ghost use Rattle.cluster_cycle.specs.Follows.{decides, followed_by, kept, with_member, resting_roles};
+ghost use Rattle.cluster_cycle.specs.Follows.{decides, followed_by, kept, resting_roles};
 
+// `config.nodes ≤ 64` is asked by functions and is no invariant of Config: the definitions and theorems speak of a Config of any size.
 use cluster_states::{Roles, States};
 use cluster_tallies::Tallied;
 use rules::{Config, Faults, Groups, Heard, Marks};
@@ -84,18 +85,6 @@ fn decide(votes: &Tallied, w: Roles, q: usize, present: u64) -> State
     }
 }
 
-// The masks with node q added as a member, and whether it requests.
-fn with_member(w: Roles, q: usize, request: bool) -> Roles
-    requires { q < 64 }
-    ensures { result ≡ with_member w q request }
-{
-    Roles {
-        members: sets::union(sets::single(q), w.members),
-        asking: sets::include(w.asking, q, request),
-        ..w
-    }
-}
-
 // A member that stays on its vote, for those that decide the same: the members that cast its vote, the set of its group, the votes that it counts, its new
 // group, and whether it requests.
 #[derive(Clone, Copy)]
@@ -155,7 +144,8 @@ fn decisions(votes: &Tallied, w: Roles, sent: u64, missed: &[u64; 64], after: &m
     for q in 0..votes.config.nodes {
         let came = sets::difference(sent, missed[q]);
         if let Some(k) = followed_by(kept, came, q) {
-            next = with_member(next, q, k.request);
+            // said of a member in place, which costs less than of a state that could be any
+            next = next.with_state(q, State::Member(k.group, k.request));
             after.put(q, k.group);
         } else {
             let d = decide(votes, w, q, came);
@@ -196,7 +186,8 @@ fn decide_all(
     roles_after
 }
 
-// One cycle in place. What node q misses is in the elements q of `unheard` and `missed`. Free: what the row after it does not show.
+// One cycle in place. What is missed is lent beside the marks, and not as Faults: a run clears the arrays only after a record with entries, and would fill Faults
+// field by field. What node q misses is in the elements q of `unheard` and `missed`. Free: what the row after it does not show.
 pub fn advance(
     config: Config,
     states: &mut States,
@@ -240,6 +231,7 @@ pub fn cycle(config: Config, s: States, f: Faults) -> States
     ensures { row_of config.nodes result ≡ the_cycle config f (row_of config.nodes s) }
 {
     let mut after = s;
+    // the marks alone, here and nowhere else, so no From
     let marks = Marks {
         stop: f.stop,
         start: f.start,

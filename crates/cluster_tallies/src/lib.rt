@@ -9,7 +9,8 @@ use rules::{Config, Groups};
 use state::State;
 
 // The votes of a cycle: those of the members `voting`, who hold `groups` and have `views`, grouped by their value. `lead` is the largest group of members with
-// equal votes; `same` has for each other member that votes those with an equal vote.
+// equal votes; `same` has for each other member that votes those with an equal vote. That what arrived at a node is within `voting` is asked at each call and no
+// type: it is another mask for each node.
 #[derive(Drop)]
 pub struct Tallied<'a> {
     pub config: Config,

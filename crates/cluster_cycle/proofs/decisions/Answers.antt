@@ -40,12 +40,12 @@ loop-q-preserved c =
           let found = followed-some c.loop-q.kept k c.difference-came.result c.loop-q.q w.in-Some.ensures in (
             subst (λ (g : Groups). Holds decided (c.loop-q.q + 1) c.match-followed_by.next g.numbers g.sets g.bases) (sym (w.after-is ∙ w.put.ensures))
                 (holds_next decided c.loop-q.q c.loop-q.next _ _ _ _ (Member k.group k.request) k.group below64 c.loop-q.invariant.0
-                (sym (IfSome_at c.loop-q.kept k _ found.0 c.loop-q.invariant.1 c.loop-q.q c.difference-came.result c.loop-q-test.true inside found.1) ∙ arrived) refl (w.next-is ∙ w.with_member-next.ensures)),
+                (sym (IfSome_at c.loop-q.kept k _ found.0 c.loop-q.invariant.1 c.loop-q.q c.difference-came.result c.loop-q-test.true inside found.1) ∙ arrived) refl (w.next-is ∙ w.with_state-next.ensures)),
             subst worth (sym w.kept-is) c.loop-q.invariant.1,
           )
       | in_default w ↦ (
         subst (λ (g : Groups). Holds decided (c.loop-q.q + 1) c.match-followed_by.next g.numbers g.sets g.bases) (sym (w.after-is ∙ w.put-in_default.ensures))
-            (holds_next decided c.loop-q.q c.loop-q.next _ _ _ _ w.decide-d.result w.group_held.result below64 c.loop-q.invariant.0 (w.decide-d.ensures ∙ arrived) w.group_held.ensures (w.next-is ∙ w.with_state-next.ensures)),
+            (holds_next decided c.loop-q.q c.loop-q.next _ _ _ _ w.decide-d.result w.group_held.result below64 c.loop-q.invariant.0 (w.decide-d.ensures ∙ arrived) w.group_held.ensures (w.next-is ∙ w.with_state-next-in_default.ensures)),
         subst worth (sym (w.kept-is ∙ w.keep-kept.ensures))
             (kept-worth _ _ _ _ t.config c.args.w t.voting t.lead t.same t.grouped c.loop-q.q c.difference-came.result w.decide-d.result c.loop-q.kept c.loop-q-test.true inside w.decide-d.ensures c.loop-q.invariant.1),
       )
