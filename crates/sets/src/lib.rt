@@ -1,4 +1,6 @@
 // Sets of nodes as 64-bit masks, and quorums. Each function is the set operation of specs/.
+// Masks stay numbers, and so do nodes, whose bound `q < 64` many contracts ask for: C lends and is lent masks, and the definitions speak of numbers. With a type of
+// its own for either, each entry, each frame and each turn of a loop over the nodes would make one, and prove the same bound there.
 #![tactic(auto)]
 
 ghost use Rattle.std.specs.Prelude.{◌≡◌, cond, ◌<◌, ◌≤◌};

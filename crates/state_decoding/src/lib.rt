@@ -54,7 +54,7 @@ fn node_if(test: bool, state: State, id: u8, n: u8) -> Result<Node, Refusal>
     }
 }
 
-// Kind 0: a known reason, and no group.
+// Kind 0: a known reason, and no group. The fields are handed on one by one, here and below: a struct of them would be a second Node.
 fn out_node(reason: u8, id: u8, n: u8, g: Group) -> Result<Node, Refusal>
     ensures { result ≡ node_if (ltb reason 3 && is_zero g) (State.Out (reason_of reason)) id n }
 {
@@ -103,6 +103,7 @@ pub fn decode(quiet: bool, s: &[u8]) -> Result<Node, Refusal>
     }
     let reason = s[1];
     let g = group_at(s);
+    // kinds by number: their enum is State, which is what is read here, and the numbers are its bytes
     match s[0] {
         0 => out_node(reason, id, n, g),
         1 => joining_node(reason, id, n, g),
