@@ -17,8 +17,8 @@ use Rattle.state.specs.State.{formed}
 use Rattle.state.specs.Image.{image_of}
 use Rattle.state.proofs.RoundTrip.{image_length, round_trip}
 use Rattle.rules.specs.OneCycle.{wrong_mode, quiet_in}
-use Rattle.entry_lent.specs.declared.Lent.{Lent}
-use Rattle.entry_lent.specs.declared.Lent.TheVariants.{Holds}
+use Rattle.std.specs.Prelude.{Result, Ok}
+use Rattle.refusal.specs.declared.Refusal.{Refusal}
 use Rattle.entry_lent.specs.Found.{lent_state}
 use Rattle.entry_stop_start.specs.StopStart.{stopped_and_started, rule_one_of, stop_left, start_left}
 use Rattle.entry_decide.specs.Decide.{decision}
@@ -47,7 +47,7 @@ node_replaced x n = ap (λ (r : List ℕ). image_of n ++ r) (rest_part x)
 -- ---- a write
 
 -- the image of a well-formed node holds it
-lent_image : (mode : ℕ) (n : Node) → wrong_mode mode ≡ false → formed (quiet_in mode) n ≡ true → lent_state mode (image_of n) ≡ Holds n
+lent_image : (mode : ℕ) (n : Node) → wrong_mode mode ≡ false → formed (quiet_in mode) n ≡ true → lent_state mode (image_of n) ≡ Ok n
 unfolding lent_state
 lent_image mode n w f = rw (w, round_trip (quiet_in mode) n f)
 
@@ -57,11 +57,11 @@ unfolding stop_left start_left
 command_is mode v x w f =
     ap (λ (p : List ℕ). p ++ drop 24 (block_of x)) (go (eqb v 1) (eqb v 2)) ∙ node_replaced x (commanded v x.node)
   where
-    front : lent_state mode (take 24 (block_of x)) ≡ Holds x.node
+    front : lent_state mode (take 24 (block_of x)) ≡ Ok x.node
     front = ap (lent_state mode) (image_part x) ∙ lent_image mode x.node w f
 
-    ruled : (stop start : Bool) → rule_one_of stop start (lent_state mode (take 24 (block_of x))) (take 24 (block_of x)) ≡ rule_one_of stop start (Holds x.node) (take 24 (block_of x))
-    ruled stop start = ap (λ (d : Lent). rule_one_of stop start d (take 24 (block_of x))) front
+    ruled : (stop start : Bool) → rule_one_of stop start (lent_state mode (take 24 (block_of x))) (take 24 (block_of x)) ≡ rule_one_of stop start (Ok x.node) (take 24 (block_of x))
+    ruled stop start = ap (λ (d : Result Node Refusal). rule_one_of stop start d (take 24 (block_of x))) front
 
     go : (b c : Bool)
         → cond b (rule_one_of true false (lent_state mode (take 24 (block_of x))) (take 24 (block_of x)))

@@ -1,22 +1,27 @@
 -- What a step answers and leaves, by what the code looked at. Assumes nothing.
 use mathlib.Core.Path.{◌≡◌, refl, sym, ap, ◌∙◌}
-use mathlib.Core.Bool.{Bool, true, false, cond}
+use mathlib.Core.Bool.{Bool, true, false, not, cond}
 use mathlib.Core.List.{List}
 use Prim.Native.Nat.{ℕ, ◌≤◌, ◌<◌}
 use native.Mathlib.Omega.{arith}
 use lib.Dec.{eqb}
 use lib.ListN.{get_or, length, take}
+use lib.Seq.{length-take-le}
 use borrow.Author.Tests.{eq-eqb, eqb-true, eqb-false}
 use Rattle.bigendian.proofs.Laws.{Bytes}
 use Rattle.sets.proofs.Booleans.{and_l}
 use Rattle.state.specs.declared.Node.{Node}
-use Rattle.state.specs.declared.Decoded.{Decoded}
+use Rattle.std.specs.Prelude.{Result, Ok, Err}
+use Rattle.refusal.specs.declared.Refusal.{Refusal}
+use Rattle.refusal.specs.declared.Refusal.TheVariants.{Image, Length}
+use Rattle.refusal.specs.Codes.{code_of, status_of}
+use Rattle.refusal.proofs.Codes.{numbered}
 use Rattle.state.specs.State.{formed, formed_place, formed_state}
-use Rattle.state.specs.Image.{decoded}
+use Rattle.state.specs.Image.{decoded, well_formed, node_at}
 use Rattle.state.proofs.Fields.{place_bounds}
 use Rattle.refusal.proofs.Laws.{here}
 use Rattle.rules.specs.OneCycle.{wrong_mode, quiet_in}
-use Rattle.registers.specs.Block.{Machine, LentBlock, Holds, WrongLength, Malformed, block_of, reads_so, machine_in, registers_at}
+use Rattle.registers.specs.Block.{Machine, LentBlock, Holds, WrongLength, Malformed, flags_in, block_of, reads_so, machine_in, registers_at}
 use Rattle.registers.specs.Steps.{Step, Read, Write, WriteCycle, mode_of, written, cycled, stepped, wrong_address, wrong_votes, found_by, step_status, step_left, step_value}
 use Rattle.registers.proofs.Blocks.{block_back, held_block, shown_is_byte}
 use Rattle.registers.proofs.Found.{status_in, status-found, accepted, done-left, done_value, refused_left, refused-value}
@@ -46,12 +51,30 @@ rest_passed s = go (eqb (length s) 64) (reads_so s) refl
     go true false e h = let z : ◌≡◌ {A = ℕ} 4 0 = h in absurd (omega arith)
     go false c e h = let z : ◌≡◌ {A = ℕ} 3 0 = h in absurd (omega arith)
 
--- then the state decides
-pub by_state : (quiet q : Bool) (s : List ℕ) (k : ℕ) (d r : Decoded) → q ≡ quiet → k ≡ rest_status s → k ≡ 0 → d ≡ decoded q (take 24 s) → d ≡ r → registers_at quiet s ≡ machine_in r s
+-- then the state decides: its 24 bytes are an image or none
+pub by_state : (quiet : Bool) (s : List ℕ) → rest_status s ≡ 0 → registers_at quiet s ≡ machine_in (decoded quiet (take 24 s)) s
 unfolding registers_at
-by_state quiet q s k d r p e z i t =
-    let l = rest_passed s (sym e ∙ z) in
-    rw (eq-eqb (length s) 64 l.0, l.1) (ap (λ (x : Decoded). machine_in x s) (ap (λ (b : Bool). decoded b (take 24 s)) (sym p) ∙ sym i ∙ t))
+by_state quiet s z = let l = rest_passed s z in rw (eq-eqb (length s) 64 l.0, l.1)
+
+pub state_status : (quiet : Bool) (s : List ℕ) → rest_status s ≡ 0 → status_of (decoded quiet (take 24 s)) ≡ block_status (registers_at quiet s)
+unfolding decoded
+state_status quiet s z = rw (by_state quiet s z, eq-eqb (length (take 24 s)) 24 (length-take-le 24 s (let l = (rest_passed s z).0 in omega arith))) (go (well_formed quiet (take 24 s)))
+  where
+    go : (b : Bool) → status_of (cond b (Ok (node_at (take 24 s))) (Err Image)) ≡ block_status (machine_in (cond b (Ok (node_at (take 24 s))) (Err Image)) s)
+    go true = refl
+    go false = refl
+
+-- and the node that is found is that of the machine
+pub machine_of : (quiet : Bool) (s : List ℕ) (n : Node) → 0 ≡ block_status (registers_at quiet s) → decoded quiet (take 24 s) ≡ Ok n
+    → registers_at quiet s ≡ Holds (record { node = n; flags = flags_in (get_or s 24 0); enables = flags_in (get_or s 25 0) })
+unfolding registers_at
+machine_of quiet s n z d = go (eqb (length s) 64) (reads_so s) z ∙ ap (λ (x : Result Node Refusal). machine_in x s) d
+  where
+    go : (b c : Bool) → 0 ≡ block_status (cond b (cond c (machine_in (decoded quiet (take 24 s)) s) Malformed) WrongLength)
+        → cond b (cond c (machine_in (decoded quiet (take 24 s)) s) Malformed) WrongLength ≡ machine_in (decoded quiet (take 24 s)) s
+    go true true e = refl
+    go true false e = absurd (let y : ◌≡◌ {A = ℕ} 0 4 = e in omega arith)
+    go false c e = absurd (let y : ◌≡◌ {A = ℕ} 0 3 = e in omega arith)
 
 -- 2, 3 and 4 are those of the block where the mode is one
 pub in_mode_lem : (mode : ℕ) (s : List ℕ) → wrong_mode mode ≡ false → refusal_of mode s ≡ block_status (registers_at (quiet_in mode) s)
@@ -120,6 +143,15 @@ pub byte_read : (mode a : ℕ) (s : List ℕ) (before : ℕ) (m : Machine) (valu
     → value ≡ get_or s a 0 → (0 ≡ step_status (Read mode a) s) × (value ≡ step_value (Read mode a) s before)
 byte_read mode a s before m value b e h l =
     (h, l ∙ ap (λ (x : List ℕ). get_or x a 0) (held_block (quiet_in mode) s m b e).1 ∙ sym (done_value mode a s before m e (sym h) ∙ shown_is_byte m a))
+
+-- votes of another length, and those that are due
+pub unequal : (r : Refusal) (b : Bool) (k : ℕ) → code_of r ≡ cond b 0 k → (b ≡ false) × (code_of r ≡ k)
+unequal r true k e = absurd (numbered r e)
+unequal r false k e = (refl, e)
+
+pub equal : (b : Bool) → 0 ≡ cond {A = ℕ} b 0 3 → not b ≡ false
+equal true e = refl
+equal false e = absurd (let y : ◌≡◌ {A = ℕ} 0 3 = e in omega arith)
 
 -- ---- a command and a cycle together: the command, and then a cycle with a write that does nothing
 

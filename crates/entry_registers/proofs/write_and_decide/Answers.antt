@@ -1,93 +1,88 @@
-use mathlib.Core.Path.{◌≡◌, refl, sym, ap, ◌∙◌}
-use mathlib.Core.Bool.{false, not}
-use native.Mathlib.Omega.{arith}
-use lib.Dec.{eqb}
-use lib.ListN.{length}
-use borrow.Author.Tests.{lt-ltb, le-ltb, eq-eqb}
-use Rattle.state.specs.declared.Decoded.{Decoded}
+use Rattle.std.proofs.Common.{◌≡◌, ℕ, Bool, false, not, eqb, List, length, take, refl, sym, ap, ◌∙◌, arith, lt-ltb, le-ltb, eq-eqb}
+use Rattle.state.specs.Image.{decoded}
+use Rattle.refusal.proofs.Codes.{exit_status, numbered}
 use Rattle.rules.specs.OneCycle.{quiet_in}
 use Rattle.entry_lent.proofs.Images.{good_node}
-use Rattle.registers.specs.Block.{machine_in, registers_at}
-use Rattle.registers.specs.Steps.{WriteCycle, step_status, step_left}
+use Rattle.registers.specs.Block.{registers_at}
+use Rattle.registers.specs.Steps.{WriteCycle}
 use Rattle.registers.proofs.Blocks.{held_block}
+use Rattle.registers.proofs.Found.{holds_length}
 use Rattle.entry_registers.specs.InPlace.{block_status}
 use Rattle.entry_registers.proofs.InPlace.{cycle-is}
-use Rattle.entry_registers.proofs.Stepping.{rest_refused, rest_passed, by_state, in_mode_lem, placed, block_refused, past_the_end, passed, kept, done}
+use Rattle.entry_registers.proofs.Stepping.{machine_of, in_mode_lem, placed, block_refused, past_the_end, passed, kept, done}
 use Rattle.entry_registers.proofs.write_and_decide.Goals as goal
 
-pub returns-then-status-ne0 : goal.returns-then-status-ne0
-returns-then-status-ne0 c =
-    let voted : not (eqb (length c.args.votes.now) 1792) ≡ false = ap not (eq-eqb (length c.args.votes.now) 1792 c.requires.2) in
+pub returns-in_err-n-clause-value : goal.returns-in_err-n-clause-value
+returns-in_err-n-clause-value c =
     let a = c.args in
-    let t = WriteCycle a.mode a.address a.value a.heard0 a.heard1 a.requests a.votes.now a.arrived in
-    let e = c.rest_refusal-status.ensures in let told = kept t a.block.now _ c.if-status-ne0.true
-    (block_refused t a.block.now (voted) _ (e ∙ rest_refused (quiet_in a.mode) a.block.now (λ z. c.if-status-ne0.true (e ∙ z)) ∙ sym (in_mode_lem a.mode a.block.now c.requires.0)) c.if-status-ne0.true) in record { value = told.0; block_after = told.1 }
+    let s = a.block.now in
+    let t = WriteCycle a.mode a.address a.value a.heard.members a.heard.joining a.heard.requests a.votes.now a.arrived in
+    exit_status _ _ c.from_residual.ensures.1 ∙ (block_refused t s (ap not (eq-eqb (length a.votes.now) 1792 c.requires.2)) _ (c.in_err-n.ensures.status ∙ ap (λ (q : Bool). block_status (registers_at q s)) c.is_quiet-quiet.ensures ∙ sym (in_mode_lem a.mode s c.requires.0)) (numbered _))
 
-pub slice_bounds-decode-end : goal.slice_bounds-decode-end
-slice_bounds-decode-end c =
-    let sized : length c.args.block.now ≡ 64 = (rest_passed c.args.block.now (sym c.rest_refusal-status.ensures ∙ c.if-status-ne0.false)).0 in
-    omega (arith, sized)
-
-pub returns-else-address-gt63 : goal.returns-else-address-gt63
-returns-else-address-gt63 c =
-    let voted : not (eqb (length c.args.votes.now) 1792) ≡ false = ap not (eq-eqb (length c.args.votes.now) 1792 c.requires.2) in
-    let state-read : (r : Decoded) → c.decode.result ≡ r → let a = c.args in registers_at (quiet_in a.mode) a.block.now ≡ machine_in r a.block.now = λ r e. let a = c.args in
-    by_state (quiet_in a.mode) _ a.block.now _ _ r c.is_quiet-quiet.ensures c.rest_refusal-status.ensures c.if-status-ne0.false c.decode.ensures e in
+pub returns-in_err-n-clause-block_after : goal.returns-in_err-n-clause-block_after
+returns-in_err-n-clause-block_after c =
     let a = c.args in
-    let t = WriteCycle a.mode a.address a.value a.heard0 a.heard1 a.requests a.votes.now a.arrived in
-    let held = state-read _ c.in-Good.is in let told = done t a.block.now _ _ held (passed t a.block.now c.requires.0 _ (voted) held (le-ltb 63 a.address c.if-address-gt63.false))
-    (c.decide.ensures ∙ cycle-is (quiet_in a.mode) _ a.address a.value _ _ _ _ _ _ _ _ a.block.now _ c.is_quiet-quiet.ensures
-    (held_block (quiet_in a.mode) a.block.now _ (λ i. (c.slice_known-1.given i).fits) held).1 refl c.requires.1 c.flags_after-flags.ensures c.enables_after-enables.ensures) in record { value = told.0; block_after = told.1 }
+    let s = a.block.now in
+    let t = WriteCycle a.mode a.address a.value a.heard.members a.heard.joining a.heard.requests a.votes.now a.arrived in
+    (kept t s _ (numbered _) (block_refused t s (ap not (eq-eqb (length a.votes.now) 1792 c.requires.2)) _ (c.in_err-n.ensures.status ∙ ap (λ (q : Bool). block_status (registers_at q s)) c.is_quiet-quiet.ensures ∙ sym (in_mode_lem a.mode s c.requires.0)) (numbered _))).1
 
-pub returns-then-address-gt63 : goal.returns-then-address-gt63
-returns-then-address-gt63 c =
-    let voted : not (eqb (length c.args.votes.now) 1792) ≡ false = ap not (eq-eqb (length c.args.votes.now) 1792 c.requires.2) in
-    let state-read : (r : Decoded) → c.decode.result ≡ r → let a = c.args in registers_at (quiet_in a.mode) a.block.now ≡ machine_in r a.block.now = λ r e. let a = c.args in
-    by_state (quiet_in a.mode) _ a.block.now _ _ r c.is_quiet-quiet.ensures c.rest_refusal-status.ensures c.if-status-ne0.false c.decode.ensures e in
+pub returns-then-address-gt63-clause-value : goal.returns-then-address-gt63-clause-value
+returns-then-address-gt63-clause-value c =
     let a = c.args in
-    let t = WriteCycle a.mode a.address a.value a.heard0 a.heard1 a.requests a.votes.now a.arrived in let told = kept t a.block.now 14 (λ z. omega arith)
-    (past_the_end t a.block.now c.requires.0 _ (voted) (state-read _ c.in-Good.is) (lt-ltb 63 a.address c.if-address-gt63.true)) in record { value = told.0; block_after = told.1 }
+    let s = a.block.now in
+    let t = WriteCycle a.mode a.address a.value a.heard.members a.heard.joining a.heard.requests a.votes.now a.arrived in
+    let held = machine_of (quiet_in a.mode) s c.in_ok-n.n (c.in_ok-n.ensures.status ∙ ap (λ (q : Bool). block_status (registers_at q s)) c.is_quiet-quiet.ensures) (ap (λ (q : Bool). decoded q (take 24 s)) (sym c.is_quiet-quiet.ensures) ∙ c.in_ok-n.ensures.node) in
+    (past_the_end t s c.requires.0 _ (ap not (eq-eqb (length a.votes.now) 1792 c.requires.2)) held (lt-ltb 63 a.address c.if-address-gt63.true))
+
+pub returns-then-address-gt63-clause-block_after : goal.returns-then-address-gt63-clause-block_after
+returns-then-address-gt63-clause-block_after c =
+    let a = c.args in
+    let s = a.block.now in
+    let t = WriteCycle a.mode a.address a.value a.heard.members a.heard.joining a.heard.requests a.votes.now a.arrived in
+    let held = machine_of (quiet_in a.mode) s c.in_ok-n.n (c.in_ok-n.ensures.status ∙ ap (λ (q : Bool). block_status (registers_at q s)) c.is_quiet-quiet.ensures) (ap (λ (q : Bool). decoded q (take 24 s)) (sym c.is_quiet-quiet.ensures) ∙ c.in_ok-n.ensures.node) in
+    (kept t s 14 (λ z. omega arith) (past_the_end t s c.requires.0 _ (ap not (eq-eqb (length a.votes.now) 1792 c.requires.2)) held (lt-ltb 63 a.address c.if-address-gt63.true))).1
 
 pub bounds-block-24 : goal.bounds-block-24
 bounds-block-24 c =
-    let sized : length c.args.block.now ≡ 64 = (rest_passed c.args.block.now (sym c.rest_refusal-status.ensures ∙ c.if-status-ne0.false)).0 in
-    omega (arith, sized)
+    let a = c.args in
+    let s = a.block.now in
+    let t = WriteCycle a.mode a.address a.value a.heard.members a.heard.joining a.heard.requests a.votes.now a.arrived in
+    let held = machine_of (quiet_in a.mode) s c.in_ok-n.n (c.in_ok-n.ensures.status ∙ ap (λ (q : Bool). block_status (registers_at q s)) c.is_quiet-quiet.ensures) (ap (λ (q : Bool). decoded q (take 24 s)) (sym c.is_quiet-quiet.ensures) ∙ c.in_ok-n.ensures.node) in
+    omega (arith, holds_length (quiet_in a.mode) s _ held)
 
 pub bounds-block-25 : goal.bounds-block-25
 bounds-block-25 c =
-    let sized : length c.args.block.now ≡ 64 = (rest_passed c.args.block.now (sym c.rest_refusal-status.ensures ∙ c.if-status-ne0.false)).0 in
-    omega (arith, sized)
-
-pub decide-requires : goal.decide-requires
-decide-requires c =
-    let sized : length c.args.block.now ≡ 64 = (rest_passed c.args.block.now (sym c.rest_refusal-status.ensures ∙ c.if-status-ne0.false)).0 in
-    let state-read : (r : Decoded) → c.decode.result ≡ r → let a = c.args in registers_at (quiet_in a.mode) a.block.now ≡ machine_in r a.block.now = λ r e. let a = c.args in
-    by_state (quiet_in a.mode) _ a.block.now _ _ r c.is_quiet-quiet.ensures c.rest_refusal-status.ensures c.if-status-ne0.false c.decode.ensures e in
     let a = c.args in
-    let p = placed (quiet_in a.mode) a.block.now _ (λ i. (c.slice_known-1.given i).fits) (state-read _ c.in-Good.is) _ refl in record { nodes_bound = (p.0, p.1, c.requires.2, sized); block_value = good_node _ _ _ (sym c.decode.ensures ∙ c.in-Good.is) }
+    let s = a.block.now in
+    let t = WriteCycle a.mode a.address a.value a.heard.members a.heard.joining a.heard.requests a.votes.now a.arrived in
+    let held = machine_of (quiet_in a.mode) s c.in_ok-n.n (c.in_ok-n.ensures.status ∙ ap (λ (q : Bool). block_status (registers_at q s)) c.is_quiet-quiet.ensures) (ap (λ (q : Bool). decoded q (take 24 s)) (sym c.is_quiet-quiet.ensures) ∙ c.in_ok-n.ensures.node) in
+    omega (arith, holds_length (quiet_in a.mode) s _ held)
 
-pub returns-in-WrongLength : goal.returns-in-WrongLength
-returns-in-WrongLength c =
-    let voted : not (eqb (length c.args.votes.now) 1792) ≡ false = ap not (eq-eqb (length c.args.votes.now) 1792 c.requires.2) in
-    let state-read : (r : Decoded) → c.decode.result ≡ r → let a = c.args in registers_at (quiet_in a.mode) a.block.now ≡ machine_in r a.block.now = λ r e. let a = c.args in
-    by_state (quiet_in a.mode) _ a.block.now _ _ r c.is_quiet-quiet.ensures c.rest_refusal-status.ensures c.if-status-ne0.false c.decode.ensures e in
-    let no-state : (r : Decoded) → c.decode.result ≡ r → let a = c.args in 4 ≡ block_status (machine_in r a.block.now)
-    → let t = WriteCycle a.mode a.address a.value a.heard0 a.heard1 a.requests a.votes.now a.arrived in
-    (4 ≡ step_status t a.block.now) × (a.block.now ≡ step_left t a.block.now) = λ r e h. let a = c.args in
-    let t = WriteCycle a.mode a.address a.value a.heard0 a.heard1 a.requests a.votes.now a.arrived in
-    kept t a.block.now 4 (λ z. omega arith)
-    (block_refused t a.block.now (voted) 4 (h ∙ sym (in_mode_lem a.mode a.block.now c.requires.0 ∙ ap block_status (state-read _ e))) (λ z. omega arith)) in
-    let told = no-state _ c.in-WrongLength.is refl in record { value = told.0; block_after = told.1 }
+pub decide-requires-clause-nodes_bound : goal.decide-requires-clause-nodes_bound
+decide-requires-clause-nodes_bound c =
+    let a = c.args in
+    let s = a.block.now in
+    let t = WriteCycle a.mode a.address a.value a.heard.members a.heard.joining a.heard.requests a.votes.now a.arrived in
+    let held = machine_of (quiet_in a.mode) s c.in_ok-n.n (c.in_ok-n.ensures.status ∙ ap (λ (q : Bool). block_status (registers_at q s)) c.is_quiet-quiet.ensures) (ap (λ (q : Bool). decoded q (take 24 s)) (sym c.is_quiet-quiet.ensures) ∙ c.in_ok-n.ensures.node) in
+    let p = placed (quiet_in a.mode) s _ (λ i. (c.slice_known-1.given i).fits) held c.in_ok-n.n refl in (p.0, p.1, c.requires.2, holds_length (quiet_in a.mode) s _ held)
 
-pub returns-in-Malformed : goal.returns-in-Malformed
-returns-in-Malformed c =
-    let voted : not (eqb (length c.args.votes.now) 1792) ≡ false = ap not (eq-eqb (length c.args.votes.now) 1792 c.requires.2) in
-    let state-read : (r : Decoded) → c.decode.result ≡ r → let a = c.args in registers_at (quiet_in a.mode) a.block.now ≡ machine_in r a.block.now = λ r e. let a = c.args in
-    by_state (quiet_in a.mode) _ a.block.now _ _ r c.is_quiet-quiet.ensures c.rest_refusal-status.ensures c.if-status-ne0.false c.decode.ensures e in
-    let no-state : (r : Decoded) → c.decode.result ≡ r → let a = c.args in 4 ≡ block_status (machine_in r a.block.now)
-    → let t = WriteCycle a.mode a.address a.value a.heard0 a.heard1 a.requests a.votes.now a.arrived in
-    (4 ≡ step_status t a.block.now) × (a.block.now ≡ step_left t a.block.now) = λ r e h. let a = c.args in
-    let t = WriteCycle a.mode a.address a.value a.heard0 a.heard1 a.requests a.votes.now a.arrived in
-    kept t a.block.now 4 (λ z. omega arith)
-    (block_refused t a.block.now (voted) 4 (h ∙ sym (in_mode_lem a.mode a.block.now c.requires.0 ∙ ap block_status (state-read _ e))) (λ z. omega arith)) in
-    let told = no-state _ c.in-Malformed.is refl in record { value = told.0; block_after = told.1 }
+pub decide-requires-clause-block_value : goal.decide-requires-clause-block_value
+decide-requires-clause-block_value c = good_node c.is_quiet-quiet.result (take 24 c.args.block.now) c.in_ok-n.n c.in_ok-n.ensures.node
+
+pub returns-clause-value : goal.returns-clause-value
+returns-clause-value c =
+    let a = c.args in
+    let s = a.block.now in
+    let t = WriteCycle a.mode a.address a.value a.heard.members a.heard.joining a.heard.requests a.votes.now a.arrived in
+    let held = machine_of (quiet_in a.mode) s c.in_ok-n.n (c.in_ok-n.ensures.status ∙ ap (λ (q : Bool). block_status (registers_at q s)) c.is_quiet-quiet.ensures) (ap (λ (q : Bool). decoded q (take 24 s)) (sym c.is_quiet-quiet.ensures) ∙ c.in_ok-n.ensures.node) in
+    (passed t s c.requires.0 _ (ap not (eq-eqb (length a.votes.now) 1792 c.requires.2)) held (le-ltb 63 a.address c.if-address-gt63.false))
+
+pub returns-clause-block_after : goal.returns-clause-block_after
+returns-clause-block_after c =
+    let a = c.args in
+    let s = a.block.now in
+    let t = WriteCycle a.mode a.address a.value a.heard.members a.heard.joining a.heard.requests a.votes.now a.arrived in
+    let held = machine_of (quiet_in a.mode) s c.in_ok-n.n (c.in_ok-n.ensures.status ∙ ap (λ (q : Bool). block_status (registers_at q s)) c.is_quiet-quiet.ensures) (ap (λ (q : Bool). decoded q (take 24 s)) (sym c.is_quiet-quiet.ensures) ∙ c.in_ok-n.ensures.node) in
+    (done t s _ _ held (passed t s c.requires.0 _ (ap not (eq-eqb (length a.votes.now) 1792 c.requires.2)) held (le-ltb 63 a.address c.if-address-gt63.false))
+    (c.decide.ensures ∙ cycle-is (quiet_in a.mode) _ a.address a.value _ _ _ _ _ _ _ _ s _ c.is_quiet-quiet.ensures
+    (held_block (quiet_in a.mode) s _ (λ i. (c.slice_known-1.given i).fits) held).1 refl c.requires.1 c.flags_after-flags.ensures c.enables_after-enables.ensures)).1
