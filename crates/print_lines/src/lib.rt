@@ -3,47 +3,49 @@
 
 ghost use Rattle.std.specs.Prelude.{◌+◌, ◌≤◌, length};
 ghost use Rattle.print_text.specs.Text.{Appended};
+ghost use Rattle.print_text.specs.Cursor.{HasRoom, Puts};
 ghost use Rattle.cluster_watched.specs.Watched.{reference_of};
 ghost use Rattle.print_run.specs.Printed.{header_line, promise_text, group_text, masks_text, fields, refused_line};
 
 use cluster_watched::Watch;
+use print_text::Text;
 
-fn put_promise(out: &mut [u8], at: usize, kept: bool) -> usize
-    requires { at + 8 ≤ length out.old }
-    ensures { Appended out.old at (promise_text kept) out.new result }
+fn put_promise(text: &mut Text, kept: bool)
+    requires { HasRoom text.old 8 }
+    ensures { Puts text.old (promise_text kept) text.new }
 {
     if kept {
-        print_text::put(out, at, b" kept ")
+        text.put(b" kept ");
     } else {
-        print_text::put(out, at, b" broken ")
+        text.put(b" broken ");
     }
 }
 
 // The number and the set of the reference group.
-fn put_group(out: &mut [u8], at: usize, w: Watch) -> usize
-    requires { at + 37 ≤ length out.old }
-    ensures { Appended out.old at (group_text (reference_of w)) out.new result }
+fn put_group(text: &mut Text, w: Watch)
+    requires { HasRoom text.old 37 }
+    ensures { Puts text.old (group_text (reference_of w)) text.new }
 {
     match w.group {
-        None => print_text::put(out, at, b"- -"),
-        Some(g) => {
-            let number = print_text::put_decimal(out, at, u64::from(g.number));
-            let space = print_text::put_byte(out, number, b' ');
-            print_text::put_hex(out, space, g.set)
+        Some(group) => {
+            text.put_decimal(u64::from(group.number));
+            text.put_byte(b' ');
+            text.put_hex(group.set);
         }
+        None => text.put(b"- -"),
     }
 }
 
 // The last two fields of a line.
-fn put_masks(out: &mut [u8], at: usize, halted: u64, entered: u64) -> usize
-    requires { at + 35 ≤ length out.old }
-    ensures { Appended out.old at (masks_text halted entered) out.new result }
+fn put_masks(text: &mut Text, halted: u64, entered: u64)
+    requires { HasRoom text.old 35 }
+    ensures { Puts text.old (masks_text halted entered) text.new }
 {
-    let space = print_text::put_byte(out, at, b' ');
-    let first = print_text::put_hex(out, space, halted);
-    let between = print_text::put_byte(out, first, b' ');
-    let second = print_text::put_hex(out, between, entered);
-    print_text::put_byte(out, second, b'\n')
+    text.put_byte(b' ');
+    text.put_hex(halted);
+    text.put_byte(b' ');
+    text.put_hex(entered);
+    text.put_byte(b'\n');
 }
 
 // The line of a cycle.
@@ -59,10 +61,12 @@ pub fn put_line(
     requires { at + 100 ≤ length out.old }
     ensures { Appended out.old at (fields cycle kept (reference_of w) halted entered) out.new result }
 {
-    let number = print_text::put_decimal(out, at, cycle);
-    let promise = put_promise(out, number, kept);
-    let group = put_group(out, promise, w);
-    put_masks(out, group, halted, entered)
+    let mut text = Text { out, at };
+    text.put_decimal(cycle);
+    put_promise(&mut text, kept);
+    put_group(&mut text, w);
+    put_masks(&mut text, halted, entered);
+    text.at
 }
 
 // The line of a refusal, and nothing where there is none.
@@ -73,14 +77,18 @@ pub fn put_refusal(out: &mut [u8], at: usize, refusal: u32) -> usize
     if refusal == 0 {
         return at;
     }
-    let word = print_text::put(out, at, b"refused ");
-    let number = print_text::put_decimal(out, word, refusal as u64);
-    print_text::put_byte(out, number, b'\n')
+    let mut text = Text { out, at };
+    text.put(b"refused ");
+    text.put_decimal(u64::from(refusal));
+    text.put_byte(b'\n');
+    text.at
 }
 
 pub fn put_header(out: &mut [u8], at: usize) -> usize
     requires { at + 39 ≤ length out.old }
     ensures { Appended out.old at header_line out.new result }
 {
-    print_text::put(out, at, b"cycle promise group set halted entered\n")
+    let mut text = Text { out, at };
+    text.put(b"cycle promise group set halted entered\n");
+    text.at
 }

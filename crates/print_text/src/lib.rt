@@ -1,10 +1,11 @@
-// Text appended to a lent buffer at a cursor: bytes, masks in hexadecimal, numbers in decimal.
-// Each function returns the cursor after what it wrote, and leaves every other byte as it was.
+// Text appended to lent bytes at a cursor: words, masks in hexadecimal, numbers in decimal.
+// Each method moves the cursor behind what it wrote, and leaves every other byte as it was.
 #![tactic(auto)]
 
 ghost use Rattle.std.specs.Prelude.{◌≡◌, [], ◌∷◌, ◌+◌, ◌≤◌, ◌<◌, length};
 ghost use Rattle.print_text.specs.Text.{digits, hex_text, places as places_in, decimal_text, Appended};
 ghost use Rattle.print_text.specs.Text.{glyph as the_glyph};
+ghost use Rattle.print_text.specs.Cursor.{HasRoom, Puts};
 
 // The ASCII code of a digit: from 10 on a letter, 39 codes further. No branch, so that many digits are made at once.
 fn glyph(d: u64) -> u8
@@ -24,23 +25,6 @@ fn places(x: u64) -> usize
     }
 }
 
-pub fn put_byte(out: &mut [u8], at: usize, b: u8) -> usize
-    requires { at + 1 ≤ length out.old }
-    ensures { Appended out.old at (b ∷ []) out.new result }
-{
-    out[at] = b;
-    at + 1
-}
-
-// The words as they are.
-pub fn put(out: &mut [u8], at: usize, words: &[u8]) -> usize
-    requires { at + length words.now ≤ length out.old }
-    ensures { Appended out.old at words.now out.new result }
-{
-    parts::put(out, at, words);
-    at + words.len()
-}
-
 // The last `count` digits of x in a base, stored from the last, which the rest of x gives first.
 fn put_digits(out: &mut [u8], at: usize, base: u64, count: usize, x: u64) -> usize
     requires count_in_bounds { at + count ≤ length out.old }
@@ -55,16 +39,43 @@ fn put_digits(out: &mut [u8], at: usize, base: u64, count: usize, x: u64) -> usi
     at + count
 }
 
-pub fn put_hex(out: &mut [u8], at: usize, m: u64) -> usize
-    requires { at + 16 ≤ length out.old }
-    ensures { Appended out.old at (hex_text m) out.new result }
-{
-    put_digits(out, at, 16, 16, m)
+// Lent bytes, and the cursor: where the text in them ends.
+#[derive(Drop)]
+pub struct Text<'a> {
+    pub out: &'a mut [u8],
+    pub at: usize,
 }
 
-pub fn put_decimal(out: &mut [u8], at: usize, x: u64) -> usize
-    requires { at + 20 ≤ length out.old }
-    ensures { Appended out.old at (decimal_text x) out.new result }
-{
-    put_digits(out, at, 10, places(x), x)
+impl<'a> Text<'a> {
+    pub fn put_byte(&mut self, b: u8)
+        requires { HasRoom self.old 1 }
+        ensures { Puts self.old (b ∷ []) self.new }
+    {
+        self.out[self.at] = b;
+        self.at += 1;
+    }
+
+    // The words as they are.
+    pub fn put(&mut self, words: &[u8])
+        requires { HasRoom self.old (length words.now) }
+        ensures { Puts self.old words.now self.new }
+    {
+        parts::put(self.out, self.at, words);
+        self.at += words.len();
+    }
+
+    // A mask, in hexadecimal.
+    pub fn put_hex(&mut self, m: u64)
+        requires { HasRoom self.old 16 }
+        ensures { Puts self.old (hex_text m) self.new }
+    {
+        self.at = put_digits(self.out, self.at, 16, 16, m);
+    }
+
+    pub fn put_decimal(&mut self, x: u64)
+        requires { HasRoom self.old 20 }
+        ensures { Puts self.old (decimal_text x) self.new }
+    {
+        self.at = put_digits(self.out, self.at, 10, places(x), x);
+    }
 }
