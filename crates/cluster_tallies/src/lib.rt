@@ -17,8 +17,8 @@ pub struct Tallied<'a> {
     pub groups: &'a Groups,
     pub views: &'a [u64; 64],
     pub voting: u64,
-    lead: u64,
-    same: [u64; 64],
+    pub lead: u64,
+    pub same: [u64; 64],
     ghost bounded: { config.nodes ≤ 64 },
     ghost grouped: { Grouped groups.now.numbers groups.now.sets groups.now.bases views.now config.nodes voting lead same },
 }
