@@ -7,10 +7,10 @@ use Rattle.print_stream.specs.Stream.{is_over}
 use Rattle.print_program.specs.Run.{Ready, Along}
 use Rattle.print_program.proofs.print.Given as goal
 
-abbrev pub invariant-loop-run : goal.invariant-loop-run
-invariant-loop-run l =
+abbrev pub invariant-loop-rt : goal.invariant-loop-rt
+invariant-loop-rt l =
     Along l.quiet l.run l.states l.input × (is_over l.run.last ≡ false → Ready l.input l.out l.run.last) × (length l.input ≡ length l.initial.input) × (length l.out ≡ length l.initial.out)
     × (l.run.reads ≤ 18446744073709551615)
 
-abbrev pub decreases-loop-run : goal.decreases-loop-run
-decreases-loop-run l = 18446744073709551615 - l.run.reads
+abbrev pub decreases-loop-rt : goal.decreases-loop-rt
+decreases-loop-rt l = 18446744073709551615 - l.run.reads
