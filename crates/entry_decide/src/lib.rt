@@ -11,6 +11,7 @@ ghost use Rattle.entry_decide.specs.Decide.{member_decision, decision, Tells, de
 
 use entry_lent::lent_node;
 use entry_send_vote::{own_vote, votes_with};
+use entry_slots::VoteBuffer;
 use refusal::Refusal;
 use rules::{Config, Groups, Heard, Vote};
 use state::{Group, Node, State};
@@ -49,7 +50,13 @@ pub fn next_state(quiet: bool, n: Node, heard: Heard, votes: &[u8], arrived: u64
     let q = n.id as usize;
     let mut groups = Groups::zeros();
     let mut views = [0u64; 64];
-    let present = entry_slots::read_votes(nodes, q, votes, arrived, &mut groups, &mut views);
+    let slots = VoteBuffer {
+        n: nodes,
+        q,
+        votes,
+        arrived,
+    };
+    let present = slots.read(&mut groups, &mut views);
     match n.state {
         State::Out(r) => State::Out(r),
         State::Joining => {
@@ -67,7 +74,13 @@ fn going_on_vote(config: Config, q: usize, own: Vote, votes: &[u8], arrived: u64
     ensures { Tells result (member_decides config q own (buffer_ballots config.nodes q votes.now arrived)) }
 {
     let g = own.group;
-    let alike = entry_slots::equal_votes(config.nodes, q, votes, arrived, own);
+    let slots = VoteBuffer {
+        n: config.nodes,
+        q,
+        votes,
+        arrived,
+    };
+    let alike = slots.equal_to(own);
     let mine = rule_member::with_own(alike, g.set, q);
     if sets::is_quorum(mine, g.base) {
         Some(rule_steps::member_on(config, own, mine))

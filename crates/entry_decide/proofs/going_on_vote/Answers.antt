@@ -12,7 +12,7 @@ returns-then-is_quorum c =
     let came : Ballots = buffer_ballots a.config.nodes a.q a.votes.now a.arrived in
     let mine : c.with_own-mine.result ≡ voters a.config.nodes (with_own a.q a.own came) a.own =
     own-count a.config.nodes a.q a.own came _ _ c.requires.1
-    (c.equal_votes-alike.ensures ∙ ap (λ (b : Ballots). those a.config.nodes (λ p. is a.own (b p))) (sym (own-empty a.config.nodes a.q a.votes.now a.arrived)))
+    (c.equal_to-alike.ensures ∙ ap (λ (b : Ballots). those a.config.nodes (λ p. is a.own (b p))) (sym (own-empty a.config.nodes a.q a.votes.now a.arrived)))
     c.with_own-mine.ensures in
     decides-on a.config a.q a.own came _ mine
     (sym (wins_by a.config.nodes _ (with_own a.q a.own came) a.own _ mine c.is_quorum.ensures) ∙ c.if-is_quorum.true)

@@ -8,7 +8,6 @@ use Rattle.state.specs.declared.State.{State}
 use Rattle.state.specs.declared.State.TheVariants.{Joining, Member}
 use Rattle.state.specs.declared.Node.{Node}
 use Rattle.rules.specs.OneCycle.{Ballots, joiner_decides}
-use Rattle.rules.specs.Ballots.{ballots_of}
 use Rattle.entry_send_vote.specs.Voting.{press_of}
 use Rattle.entry_decide.specs.Decide.{member_decision, decision}
 use Rattle.entry_slots.specs.Slots.{buffer_ballots}
@@ -27,7 +26,7 @@ module _ (quiet : Bool) (n : Node) (heard0 heard1 requests : ℕ) (votes : List 
 pub returns-in-Joining : goal.returns-in-Joining
 returns-in-Joining c =
     let a = c.args in
-    let r = c.read_votes-present in
+    let r = c.read-present in
     let g = r.new.groups in
     by-joining a.quiet a.n a.heard.members a.heard.joining a.heard.requests a.votes.now a.arrived
     (same-ballots a.n.nodes a.n.id a.votes.now a.arrived g.numbers g.sets g.bases r.new.views r.result r.ensures.value r.ensures.by_index) c.in-Joining.is c.joiner_decides.ensures
@@ -35,7 +34,7 @@ returns-in-Joining c =
 pub returns-in-Member : goal.returns-in-Member
 returns-in-Member c =
     let a = c.args in
-    let r = c.read_votes-present in
+    let r = c.read-present in
     let g = r.new.groups in
     by-member a.quiet a.n a.heard.members a.heard.joining a.heard.requests a.votes.now a.arrived
     (same-ballots a.n.nodes a.n.id a.votes.now a.arrived g.numbers g.sets g.bases r.new.views r.result r.ensures.value r.ensures.by_index) _ _ c.in-Member.is c.member_decides.ensures

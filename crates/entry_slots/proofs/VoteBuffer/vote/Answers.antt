@@ -2,7 +2,7 @@ use mathlib.Core.Path.{◌≡◌}
 use Prim.Native.Nat.{ℕ}
 use Rattle.rules.specs.declared.Vote.{Vote}
 use Rattle.entry_slots.specs.Slots.{slot_vote}
-use Rattle.entry_slots.proofs.slot_vote.Goals as goal
+use Rattle.entry_slots.proofs.VoteBuffer.vote.Goals as goal
 
 parts : {g g' m m' b b' w w' : ℕ} → g ≡ g' → m ≡ m' → b ≡ b' → w ≡ w'
     → ◌≡◌ {A = Vote} (record { group = record { number = g; set = m; base = b }; view = w }) (record { group = record { number = g'; set = m'; base = b' }; view = w' })

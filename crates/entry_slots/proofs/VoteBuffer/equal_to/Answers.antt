@@ -1,5 +1,5 @@
 use Rattle.sets.proofs.Nodes.{those-none, those-next}
-use Rattle.entry_slots.proofs.equal_votes.Goals as goal
+use Rattle.entry_slots.proofs.VoteBuffer.equal_to.Goals as goal
 
 pub loop-p-init : goal.loop-p-init
 loop-p-init c = those-none _
