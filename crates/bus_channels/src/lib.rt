@@ -23,6 +23,28 @@ pub struct Channels<'a> {
     pub count: u32,
 }
 
+// One of the two channels in a cycle, as all nodes write to it.
+#[derive(Clone, Copy)]
+pub struct Side {
+    pub cycle: u32,
+    pub channel: u32,
+    ghost cycle_bound: { cycle < 64 },
+}
+
+impl Side {
+    // Where node q writes its frame.
+    pub fn slot(self, q: usize) -> Slot
+        requires { q < 64 }
+        ensures { (result.node ≡ q) × (result.cycle ≡ self.cycle) × (result.channel ≡ self.channel) }
+    {
+        Slot {
+            node: q as u32,
+            cycle: self.cycle,
+            channel: self.channel,
+        }
+    }
+}
+
 // What the heartbeats of a cycle give: the view of each node, and the members that vote.
 #[derive(Clone, Copy)]
 pub struct Seen {
@@ -67,16 +89,11 @@ fn run_heartbeat(slot: Slot, join: bool, request: bool) -> [u8; 10]
     frame
 }
 
-// Rule 2: the heartbeat of node q, if it sends one.
-fn put_heartbeat(all: &mut [u8; 2304], w: Roles, cycle: u32, channel: u32, q: usize)
-    requires { (q < 64) × (cycle < 64) }
-    ensures { all.new ≡ with_sent q (heartbeat_put w cycle channel q) all.old }
+// Rule 2: the heartbeat of a node, if it sends one.
+fn put_heartbeat(all: &mut [u8; 2304], w: Roles, slot: Slot)
+    ensures { all.new ≡ with_sent slot.node (heartbeat_put w slot.cycle slot.channel slot.node) all.old }
 {
-    let slot = Slot {
-        node: q as u32,
-        cycle,
-        channel,
-    };
+    let q = slot.node as usize;
     if sets::contains(w.members, q) {
         let request = sets::contains(w.asking, q);
         parts::put(all, 36 * q, &run_heartbeat(slot, false, request));
@@ -85,11 +102,11 @@ fn put_heartbeat(all: &mut [u8; 2304], w: Roles, cycle: u32, channel: u32, q: us
     }
 }
 
-fn heartbeats(n: usize, w: Roles, cycle: u32, channel: u32) -> [u8; 2304]
-    requires { (n ≤ 64) × (cycle < 64) }
-    ensures { result ≡ channel_of n (heartbeat_put w cycle channel) }
+fn heartbeats(n: usize, w: Roles, side: Side) -> [u8; 2304]
+    requires { n ≤ 64 }
+    ensures { result ≡ channel_of n (heartbeat_put w side.cycle side.channel) }
 {
-    filled(n, |all, q| put_heartbeat(all, w, cycle, channel, q))
+    filled(n, |all, q| put_heartbeat(all, w, side.slot(q)))
 }
 
 // What a unit receives of the heartbeat of node p.
@@ -190,8 +207,16 @@ pub fn heartbeat_phase(
     ensures voting_value { result.voting ≡ voting_of config sets.now result.views w ((w.members ∩ w.asking) ∖ lost) missed.now }
     ensures frames_after { frames.new ≡ with_part 2304 (channel_of config.nodes (heartbeat_put w count 1)) (with_part 0 (channel_of config.nodes (heartbeat_put w count 0)) frames.old) }
 {
-    let a = heartbeats(config.nodes, w, count, 0);
-    let b = heartbeats(config.nodes, w, count, 1);
+    let on_a = Side {
+        cycle: count,
+        channel: 0,
+    };
+    let on_b = Side {
+        cycle: count,
+        channel: 1,
+    };
+    let a = heartbeats(config.nodes, w, on_a);
+    let b = heartbeats(config.nodes, w, on_b);
     parts::put(frames, 0, &a);
     parts::put(frames, 2304, &b);
     let sent = sets::difference(sets::union(w.members, w.joining), lost);

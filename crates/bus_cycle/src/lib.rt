@@ -14,7 +14,7 @@ ghost use Rattle.parts.specs.Parts.{with_part};
 ghost use Rattle.bus_units.specs.Run.{frames_shown, frames_length};
 ghost use Rattle.bus_channels.specs.Channels.{channel_of, vote_put, ballots_read, decided_read};
 
-use bus_channels::Channels;
+use bus_channels::{Channels, Side};
 use cluster_states::{Roles, States};
 use rules::{Config, Faults, Groups, Vote};
 use state::{Group, State};
@@ -116,8 +116,16 @@ fn vote_phase(
     ensures by_index_2 { (q : ℕ) → q < config.nodes → state_at result q ≡ decided_at groups.now.numbers groups.now.sets groups.now.bases views.now config w voting (voting ∖ lost ∖ get_or missed.now q 0) q }
     ensures frames_after { frames.new ≡ with_part 6912 (channel_of config.nodes (vote_put groups.now.numbers groups.now.sets groups.now.bases views.now voting count 1)) (with_part 4608 (channel_of config.nodes (vote_put groups.now.numbers groups.now.sets groups.now.bases views.now voting count 0)) frames.old) }
 {
-    let a = bus_votes::votes(config.nodes, groups, views, voting, count, 0);
-    let b = bus_votes::votes(config.nodes, groups, views, voting, count, 1);
+    let on_a = Side {
+        cycle: count,
+        channel: 0,
+    };
+    let on_b = Side {
+        cycle: count,
+        channel: 1,
+    };
+    let a = bus_votes::votes(config.nodes, groups, views, voting, on_a);
+    let b = bus_votes::votes(config.nodes, groups, views, voting, on_b);
     parts::put(frames, 4608, &a);
     parts::put(frames, 6912, &b);
     let sent = sets::difference(voting, lost);

@@ -5,7 +5,7 @@ ghost use Rattle.std.specs.Prelude.{◌≡◌, ◌<◌, ◌≤◌};
 ghost use Rattle.rules.specs.Ballots.{ballots_of};
 ghost use Rattle.bus_channels.specs.Channels.{with_sent, channel_of, vote_put, vote_read, ballots_read};
 
-use bus_channels::Channels;
+use bus_channels::{Channels, Side};
 use frames::Slot;
 use rules::{Groups, Vote};
 
@@ -17,43 +17,23 @@ pub struct Arrived {
     pub views: [u64; 64],
 }
 
-// Rule 4: the vote of node q, if it casts one.
-fn put_vote(
-    all: &mut [u8; 2304],
-    groups: &Groups,
-    views: &[u64; 64],
-    voting: u64,
-    cycle: u32,
-    channel: u32,
-    q: usize,
-)
-    requires { (q < 64) × (cycle < 64) }
-    ensures { all.new ≡ with_sent q (vote_put groups.now.numbers groups.now.sets groups.now.bases views.now voting cycle channel q) all.old }
+// Rule 4: the vote of a node, if it casts one.
+fn put_vote(all: &mut [u8; 2304], groups: &Groups, views: &[u64; 64], voting: u64, slot: Slot)
+    ensures { all.new ≡ with_sent slot.node (vote_put groups.now.numbers groups.now.sets groups.now.bases views.now voting slot.cycle slot.channel slot.node) all.old }
 {
-    let slot = Slot {
-        node: q as u32,
-        cycle,
-        channel,
-    };
+    let q = slot.node as usize;
     if sets::contains(voting, q) {
         let vote = rule_steps::vote_at(groups, views, q);
         parts::put(all, 36 * q, &frame_writing::write_vote(slot, vote));
     }
 }
 
-pub fn votes(
-    n: usize,
-    groups: &Groups,
-    views: &[u64; 64],
-    voting: u64,
-    cycle: u32,
-    channel: u32,
-) -> [u8; 2304]
-    requires { (n ≤ 64) × (cycle < 64) }
-    ensures { result ≡ channel_of n (vote_put groups.now.numbers groups.now.sets groups.now.bases views.now voting cycle channel) }
+pub fn votes(n: usize, groups: &Groups, views: &[u64; 64], voting: u64, side: Side) -> [u8; 2304]
+    requires { n ≤ 64 }
+    ensures { result ≡ channel_of n (vote_put groups.now.numbers groups.now.sets groups.now.bases views.now voting side.cycle side.channel) }
 {
     bus_channels::filled(n, |all, q| {
-        put_vote(all, groups, views, voting, cycle, channel, q);
+        put_vote(all, groups, views, voting, side.slot(q));
     })
 }
 
