@@ -36,6 +36,7 @@ pub fn call_with<L: Lent>(
 }
 
 // A call on a row of node structs: a refusal with the row as it was, or not. The frames of a run through frames are kept by nobody.
+#[tactic(auto, using(crate::proofs::Meaning::left_is))]
 pub fn call(task: Task, n: u32, mode: u32, row: &mut [Node], bytes: &[u8]) -> Result<(), Refusal>
     ensures value { status_of result ≡ call_status task n mode row.old frames_length bytes.now }
     ensures row_after { row.new ≡ call_left task n mode row.old frames_length bytes.now }
