@@ -6,7 +6,8 @@ ghost use Rattle.bigendian.specs.BigEndian.{number_at};
 ghost use Rattle.frames.specs.Read.{wrong_header, wrong_frame, fault_of};
 ghost use Rattle.frames.specs.Looked.{words_due, indicators_of, looked};
 
-use frames::{Fault, Kind};
+use frame_due::Due;
+use frames::Fault;
 
 // Whether the header check of a frame whose header is h fails.
 fn wrong_header(h: u64) -> bool
@@ -31,8 +32,8 @@ fn wrong_frame(channel: u32, s: &[u8]) -> bool
 }
 
 // Refusals 5 to 9, of several the lowest.
-pub fn look(number: u32, cycle: u32, kind: Kind, channel: u32, s: &[u8]) -> Result<(), Fault>
-    ensures { result ≡ looked (fault_of number cycle (words_due kind s.now) (indicators_of kind s.now) channel s.now) }
+pub fn look(due: Due, channel: u32, s: &[u8]) -> Result<(), Fault>
+    ensures { result ≡ looked (fault_of due.number due.cycle (words_due due.kind s.now) (indicators_of due.kind s.now) channel s.now) }
 {
     if s.len() < 8 {
         return Err(Fault::Length);
@@ -47,5 +48,5 @@ pub fn look(number: u32, cycle: u32, kind: Kind, channel: u32, s: &[u8]) -> Resu
     if wrong_frame(channel, s) {
         return Err(Fault::FrameCheck);
     }
-    frame_due::null_or_due(number, cycle, kind, h)
+    frame_due::null_or_due(due, h)
 }

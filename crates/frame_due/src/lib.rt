@@ -9,6 +9,14 @@ ghost use Rattle.frames.specs.Looked.{words_due, indicators_of, due_fault, looke
 
 use frames::{Fault, Kind};
 
+// The frame that is due in a slot: its kind, its frame number and the cycle count.
+#[derive(Clone, Copy, Debug, PartialEq, Eq)]
+pub struct Due {
+    pub kind: Kind,
+    pub number: u32,
+    pub cycle: u32,
+}
+
 // The length of a frame whose header is h: of a heartbeat one word at least, of a vote 14.
 fn words_due(kind: Kind, h: u64) -> bool
     ensures { (s : List ℕ) → number_at s 0 5 ≡ h → result ≡ words_due kind s }
@@ -33,8 +41,8 @@ fn indicators(kind: Kind, h: u64) -> bool
 }
 
 // Whether a frame whose header is h is the one due.
-fn is_due(number: u32, cycle: u32, kind: Kind, h: u64) -> bool
-    ensures { (s : List ℕ) → number_at s 0 5 ≡ h → result ≡ (is_due number cycle s && words_due kind s && indicators_of kind s) }
+fn is_due(due: Due, h: u64) -> bool
+    ensures { (s : List ℕ) → number_at s 0 5 ≡ h → result ≡ (is_due due.number due.cycle s && words_due due.kind s && indicators_of due.kind s) }
 {
     if h / 549755813888 % 2 != 0 {
         return false;
@@ -42,25 +50,25 @@ fn is_due(number: u32, cycle: u32, kind: Kind, h: u64) -> bool
     if h / 274877906944 % 2 != 0 {
         return false;
     }
-    if h / 16777216 % 2048 != u64::from(number) {
+    if h / 16777216 % 2048 != u64::from(due.number) {
         return false;
     }
-    if h % 64 != u64::from(cycle) {
+    if h % 64 != u64::from(due.cycle) {
         return false;
     }
-    words_due(kind, h) && indicators(kind, h)
+    words_due(due.kind, h) && indicators(due.kind, h)
 }
 
 // Refusals 8 and 9 of a frame whose header is h.
-pub fn null_or_due(number: u32, cycle: u32, kind: Kind, h: u64) -> Result<(), Fault>
-    ensures { (s : List ℕ) → number_at s 0 5 ≡ h → result ≡ looked (due_fault number cycle (words_due kind s) (indicators_of kind s) s) }
+pub fn null_or_due(due: Due, h: u64) -> Result<(), Fault>
+    ensures { (s : List ℕ) → number_at s 0 5 ≡ h → result ≡ looked (due_fault due.number due.cycle (words_due due.kind s) (indicators_of due.kind s) s) }
 {
     let sent = h / 137438953472 % 2 != 0;
-    let due = is_due(number, cycle, kind, h);
+    let is_due = is_due(due, h);
     if !sent {
         return Err(Fault::NullFrame);
     }
-    if !due {
+    if !is_due {
         return Err(Fault::NotDue);
     }
     Ok(())

@@ -6,6 +6,7 @@ ghost use Rattle.parts.specs.Parts.{at_front};
 ghost use Rattle.frames.specs.Written.{formed_vote};
 ghost use Rattle.frames.specs.Read.{drive_of, heartbeat_of, read_heartbeat, same_payload, receive_heartbeat, vote_content, read_vote, receive_vote};
 
+use frame_due::Due;
 use frames::{Channel, Counted, Fault, Heartbeat, Kind};
 use rules::Vote;
 use state::Group;
@@ -33,7 +34,12 @@ pub fn read_heartbeat(
     requires { q < 64 }
     ensures { result ≡ read_heartbeat quiet q cycle channel s.now }
 {
-    frame_checks::look(q + 1, cycle, Kind::Heartbeat, channel, s)?;
+    let due = Due {
+        kind: Kind::Heartbeat,
+        number: q + 1,
+        cycle,
+    };
+    frame_checks::look(due, channel, s)?;
     heartbeat_of(quiet, s[5], s[6])
 }
 
@@ -78,7 +84,12 @@ pub fn read_vote(n: usize, q: u32, cycle: u32, channel: u32, s: &[u8]) -> Result
     requires q_lt_n { q < n }
     ensures { result ≡ read_vote n q cycle channel s.now }
 {
-    frame_checks::look(q + 65, cycle, Kind::Vote, channel, s)?;
+    let due = Due {
+        kind: Kind::Vote,
+        number: q + 65,
+        cycle,
+    };
+    frame_checks::look(due, channel, s)?;
     vote_content(n, q, s)
 }
 

@@ -9,12 +9,12 @@ pub returns-then-not-sent : goal.returns-then-not-sent
 unfolding is_null due_fault
 returns-then-not-sent c = λ s e. simp (e, eq-eqb _ _ c.if-not-sent.true)
 
-pub returns-then-not-due : goal.returns-then-not-due
+pub returns-then-not-is_due : goal.returns-then-not-is_due
 unfolding is_null due_fault
-returns-then-not-due c =
-    λ s e. simp (e, ne_eqb _ _ c.if-not-sent.false, sym (c.is_due-due.ensures s e) ∙ c.if-not-due.true)
+returns-then-not-is_due c =
+    λ s e. simp (e, ne_eqb _ _ c.if-not-sent.false, sym (c.is_due-is_due.ensures s e) ∙ c.if-not-is_due.true)
 
 pub returns : goal.returns
 unfolding is_null due_fault
 returns c =
-    λ s e. simp (e, ne_eqb _ _ c.if-not-sent.false, sym (c.is_due-due.ensures s e) ∙ c.if-not-due.false)
+    λ s e. simp (e, ne_eqb _ _ c.if-not-sent.false, sym (c.is_due-is_due.ensures s e) ∙ c.if-not-is_due.false)
