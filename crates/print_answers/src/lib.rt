@@ -142,6 +142,7 @@ fn put_asked(text: &mut Text, p: Program, a: Asked)
     }
 }
 
+// The buffer and the cursor one by one, as in print_lines.
 pub fn put_answer(out: &mut [u8], at: usize, p: Program, a: Asked) -> usize
     requires { at + 1024 ≤ length out.old }
     ensures { Appended out.old at (answer_text p a) out.new result }
@@ -162,6 +163,7 @@ fn put_failed(text: &mut Text, p: Program, f: Failed)
     }
 }
 
+// The buffer and the cursor one by one, as in print_lines.
 pub fn put_failure(out: &mut [u8], at: usize, p: Program, f: Failed) -> usize
     requires { at + 43 ≤ length out.old }
     ensures { Appended out.old at (failure_line p f) out.new result }

@@ -1,4 +1,5 @@
-// The lines that the program prints, each appended to a buffer.
+// The lines that the program prints, each appended to a buffer. The public functions take the buffer and the cursor one by one: `Gives` of print_pieces and `Took` of
+// print_window, on which the theorems of what is printed stand, name both, and what they say of the buffer is to stay.
 #![tactic(auto)]
 
 ghost use Rattle.std.specs.Prelude.{◌+◌, ◌≤◌, length};
@@ -69,7 +70,7 @@ pub fn put_line(
     text.at
 }
 
-// The line of a refusal, and nothing where there is none.
+// The line of a refusal, and nothing where there is none. A number, since `Refusal` would ask more of callers, and has no value for none.
 pub fn put_refusal(out: &mut [u8], at: usize, refusal: u32) -> usize
     requires { at + 29 ≤ length out.old }
     ensures { Appended out.old at (refused_line refusal) out.new result }
