@@ -1,4 +1,5 @@
 -- A founder of a quiet press that hears the other founders and nothing new sends no vote, and its image stays. Assumes nothing.
+use Rattle.std.specs.Prelude.{Ok, Result}
 use mathlib.Core.Path.{◌≡◌, refl, sym, ap, ◌∙◌}
 use mathlib.Core.Bool.{Bool, true, false, not, ◌&&◌, cond, false≢true, and-false}
 use mathlib.Core.List.{List}
@@ -14,8 +15,7 @@ use Rattle.state.specs.declared.State.{State}
 use Rattle.state.specs.declared.State.TheVariants.{Out, Member}
 use Rattle.state.specs.declared.Reason.TheVariants.{Stopped}
 use Rattle.state.specs.declared.Node.{Node}
-use Rattle.state.specs.declared.Decoded.{Decoded}
-use Rattle.state.specs.declared.Decoded.TheVariants.{Good}
+use Rattle.refusal.specs.declared.Refusal.{Refusal}
 use Rattle.state.specs.State.{formed_sets, formed_place, formed_state, formed, founding_group, initial}
 use Rattle.state.specs.Image.{image_of, decoded}
 use Rattle.state.proofs.RoundTrip.{round_trip}
@@ -94,7 +94,7 @@ module _ (n q G F heard0 heard1 requests : ℕ) (good : formed true (founder n q
   unfolding will_vote called
   silent = rw (sees, eqb_self F, uncalled)
 
-  found : decoded true (image_of node) ≡ Good node
+  found : decoded true (image_of node) ≡ Ok node
   found = round_trip true node good
 
   sends_none : (cycle channel sent : ℕ) (f : List ℕ)
@@ -102,14 +102,14 @@ module _ (n q G F heard0 heard1 requests : ℕ) (good : formed true (founder n q
   unfolding send_vote_sent
   sends_none cycle channel sent f =
       ap (λ (x : ℕ). unless (send_vote_status 1 (image_of node) cycle channel f) x sent)
-      (ap (λ (d : Decoded). voted_of true d heard0 heard1 requests) found
+      (ap (λ (d : Result Node Refusal). voted_of true d heard0 heard1 requests) found
       ∙ ap (λ (s : State). votes_byte true node s heard0 heard1 requests) begins ∙ ap (λ (b : Bool). cond b 1 0) silent)
 
   writes-none : (cycle channel : ℕ) (f : List ℕ) → send_vote_left 1 (image_of node) heard0 heard1 requests cycle channel f ≡ f
   unfolding send_vote_left
   writes-none cycle channel f =
       either_kept (send_vote_status 1 (image_of node) cycle channel f) _ f
-      (ap (λ (d : Decoded). vote_from true d heard0 heard1 requests cycle channel f) found
+      (ap (λ (d : Result Node Refusal). vote_from true d heard0 heard1 requests cycle channel f) found
       ∙ ap (λ (s : State). vote_in true node s heard0 heard1 requests cycle channel f) begins ∙ rw silent)
 
   module _ (votes : List ℕ) where
@@ -125,7 +125,7 @@ module _ (n q G F heard0 heard1 requests : ℕ) (good : formed true (founder n q
     unfolding decide_left
     leaves =
         either_kept (decide_status 1 (image_of node) votes) _ (image_of node)
-        (ap (λ (d : Decoded). decided_from true d heard0 heard1 requests votes 0 (image_of node)) found
+        (ap (λ (d : Result Node Refusal). decided_from true d heard0 heard1 requests votes 0 (image_of node)) found
         ∙ ap (λ (s : State). image_of (record { state = s; id = q; nodes = n })) (ap (λ (s : State). decision true node s heard0 heard1 requests votes 0) begins ∙ rests-on ∙ sym begins))
 
   rests-all : FounderRests n q G F heard0 heard1 requests
