@@ -15,12 +15,13 @@ use cluster_states::Roles;
 use frames::{Bits, Heartbeat, Slot};
 use rules::{Config, Heard};
 
-// What stands on both channels in one half of the cycle with this count: a slot of 36 bytes for each node.
+// What a unit can read in one half of the cycle with this count: both channels, a slot of 36 bytes for each node, and the nodes whose frames reach it.
 #[derive(Clone, Copy)]
 pub struct Channels<'a> {
     pub a: &'a [u8; 2304],
     pub b: &'a [u8; 2304],
     pub count: u32,
+    pub reach: u64,
 }
 
 // One of the two channels in a cycle, as all nodes write to it.
@@ -110,16 +111,16 @@ fn heartbeats(n: usize, w: Roles, side: Side) -> [u8; 2304]
 }
 
 // What a unit receives of the heartbeat of node p.
-fn read_heartbeat(quiet: bool, bus: Channels, reach: u64, p: usize) -> Option<Heartbeat>
+fn read_heartbeat(quiet: bool, bus: Channels, p: usize) -> Option<Heartbeat>
     requires { p < 64 }
-    ensures { result ≡ heartbeat_read quiet bus.entry.count reach bus.entry.a.now bus.entry.b.now p }
+    ensures { result ≡ heartbeat_read quiet bus.entry.count bus.entry.reach bus.entry.a.now bus.entry.b.now p }
 {
     let counted = frame_reading::receive_heartbeat(
         quiet,
         p as u32,
         bus.count,
-        copy_of(bus.a, 10, reach, p),
-        copy_of(bus.b, 10, reach, p),
+        copy_of(bus.a, 10, bus.reach, p),
+        copy_of(bus.b, 10, bus.reach, p),
     );
     counted.map(|counted| counted.heartbeat)
 }
@@ -145,12 +146,12 @@ fn heard_with(heard: Heard, p: usize, came: Option<Heartbeat>) -> Heard
     heard
 }
 
-// What a unit hears of all nodes.
-fn hear(config: Config, bus: Channels, reach: u64) -> Heard
+// What a unit hears of all nodes. `config.nodes ≤ 64` is a clause, here and below, and no fact of `Config`: the theorems speak of every `Config` (`demand3`).
+fn hear(config: Config, bus: Channels) -> Heard
     requires { config.nodes ≤ 64 }
-    ensures members_value { result.members ≡ heard_read config bus.entry.count reach bus.entry.a.now bus.entry.b.now is_alive }
-    ensures joining_value { result.joining ≡ heard_read config bus.entry.count reach bus.entry.a.now bus.entry.b.now is_join }
-    ensures requests_value { result.requests ≡ heard_read config bus.entry.count reach bus.entry.a.now bus.entry.b.now is_request }
+    ensures members_value { result.members ≡ heard_read config bus.entry.count bus.entry.reach bus.entry.a.now bus.entry.b.now is_alive }
+    ensures joining_value { result.joining ≡ heard_read config bus.entry.count bus.entry.reach bus.entry.a.now bus.entry.b.now is_join }
+    ensures requests_value { result.requests ≡ heard_read config bus.entry.count bus.entry.reach bus.entry.a.now bus.entry.b.now is_request }
 {
     let mut heard = Heard {
         members: 0,
@@ -158,28 +159,25 @@ fn hear(config: Config, bus: Channels, reach: u64) -> Heard
         requests: 0,
     };
     for p in 0..config.nodes {
-        heard = heard_with(heard, p, read_heartbeat(config.quiet, bus, reach, p));
+        heard = heard_with(heard, p, read_heartbeat(config.quiet, bus, p));
     }
     heard
 }
 
 // Rule 3 of all nodes, and who votes. Views of nodes that are no members are made too, and not used.
-fn views_of(
-    config: Config,
-    bus: Channels,
-    w: Roles,
-    sent: u64,
-    missed: &[u64; 64],
-    sets: &[u64; 64],
-) -> Seen
+fn views_of(config: Config, bus: Channels, w: Roles, missed: &[u64; 64], sets: &[u64; 64]) -> Seen
     requires { config.nodes ≤ 64 }
-    ensures by_index { (q : ℕ) → q < config.nodes → get_or result.views q 0 ≡ view_read config bus.entry.count (sent ∖ get_or missed.now q 0) bus.entry.a.now bus.entry.b.now (get_or sets.now q 0) q }
-    ensures voting_value { result.voting ≡ voting_read config bus.entry.count w sent missed.now sets.now bus.entry.a.now bus.entry.b.now }
+    ensures by_index { (q : ℕ) → q < config.nodes → get_or result.views q 0 ≡ view_read config bus.entry.count (bus.entry.reach ∖ get_or missed.now q 0) bus.entry.a.now bus.entry.b.now (get_or sets.now q 0) q }
+    ensures voting_value { result.voting ≡ voting_read config bus.entry.count w bus.entry.reach missed.now sets.now bus.entry.a.now bus.entry.b.now }
 {
     let mut views = [0; 64];
     let mut voting = 0;
     for q in 0..config.nodes {
-        let heard = hear(config, bus, sets::difference(sent, missed[q]));
+        let came = Channels {
+            reach: sets::difference(bus.reach, missed[q]),
+            ..bus
+        };
+        let heard = hear(config, came);
         let view = rule_steps::view(config.nodes, q, sets[q], heard);
         let own = sets::contains(w.asking, q);
         let votes = rule_steps::will_vote(config, sets[q], view, own, heard.requests);
@@ -189,6 +187,8 @@ fn views_of(
     Seen { views, voting }
 }
 
+// `count < 64` is a clause of the three functions between a run and its `Side`s: a type for it would be made and taken apart at each of them.
+// `frames` is a slice whose length is a clause: C lends it (`gm_run_frames`).
 // Rules 2 and 3: all heartbeats go out on both channels, and each node reads what reaches it. Free: the views from the last node on.
 pub fn heartbeat_phase(
     config: Config,
@@ -219,11 +219,11 @@ pub fn heartbeat_phase(
     let b = heartbeats(config.nodes, w, on_b);
     parts::put(frames, 0, &a);
     parts::put(frames, 2304, &b);
-    let sent = sets::difference(sets::union(w.members, w.joining), lost);
     let bus = Channels {
         a: &a,
         b: &b,
         count,
+        reach: sets::difference(sets::union(w.members, w.joining), lost),
     };
-    views_of(config, bus, w, sent, missed, sets)
+    views_of(config, bus, w, missed, sets)
 }

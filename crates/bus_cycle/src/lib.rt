@@ -20,52 +20,52 @@ use rules::{Config, Faults, Groups, Vote};
 use state::{Group, State};
 
 // Rule 5, on the votes that the member q reads.
-fn member_decides(config: Config, bus: Channels, reach: u64, own: Vote, q: usize) -> State
+fn member_decides(config: Config, bus: Channels, own: Vote, q: usize) -> State
     requires { (config.nodes ≤ 64) × (q < config.nodes) }
-    ensures { result ≡ member_decides config q own (ballots_read config.nodes bus.entry.count reach bus.entry.a.now bus.entry.b.now) }
+    ensures { result ≡ member_decides config q own (ballots_read config.nodes bus.entry.count bus.entry.reach bus.entry.a.now bus.entry.b.now) }
 {
-    let came = bus_votes::arrive(config.nodes, bus, reach);
+    let came = bus_votes::arrive(config.nodes, bus);
     rule_member::member_decides(config, q, own, &came.groups, &came.views, came.present)
 }
 
 // What a member of the group decides that did not vote, on the votes that it reads.
-fn silent_decides(config: Config, bus: Channels, reach: u64, group: Group, q: usize) -> State
+fn silent_decides(config: Config, bus: Channels, group: Group, q: usize) -> State
     requires { (config.nodes ≤ 64) × (q < config.nodes) }
-    ensures { result ≡ silent_decides config q group (ballots_read config.nodes bus.entry.count reach bus.entry.a.now bus.entry.b.now) }
+    ensures { result ≡ silent_decides config q group (ballots_read config.nodes bus.entry.count bus.entry.reach bus.entry.a.now bus.entry.b.now) }
 {
-    let came = bus_votes::arrive(config.nodes, bus, reach);
+    let came = bus_votes::arrive(config.nodes, bus);
     rule_member::silent_decides(config, q, group, &came.groups, &came.views, 0, came.present)
 }
 
 // Rule 6, on the votes that the joining node q reads.
-fn joiner_decides(config: Config, bus: Channels, reach: u64, q: usize) -> State
+fn joiner_decides(config: Config, bus: Channels, q: usize) -> State
     requires { (config.nodes ≤ 64) × (q < config.nodes) }
-    ensures { result ≡ joiner_decides config q (ballots_read config.nodes bus.entry.count reach bus.entry.a.now bus.entry.b.now) }
+    ensures { result ≡ joiner_decides config q (ballots_read config.nodes bus.entry.count bus.entry.reach bus.entry.a.now bus.entry.b.now) }
 {
-    let came = bus_votes::arrive(config.nodes, bus, reach);
+    let came = bus_votes::arrive(config.nodes, bus);
     rule_joiner::joiner_decides(config, q, &came.groups, &came.views, came.present)
 }
 
-// What node q decides on what it reads. A node that is out reads nothing.
+// What node q decides on what it reads. A node that is out reads nothing. `views` stand beside the groups, which are lent from the states before the cycle:
+// one struct of both would be a copy in every cycle.
 fn decide(
     config: Config,
     bus: Channels,
     w: Roles,
     voting: u64,
-    reach: u64,
     groups: &Groups,
     views: &[u64; 64],
     q: usize,
 ) -> State
     requires { (config.nodes ≤ 64) × (q < config.nodes) }
-    ensures { result ≡ decided_read groups.now.numbers groups.now.sets groups.now.bases views.now config bus.entry.count w voting reach bus.entry.a.now bus.entry.b.now q }
+    ensures { result ≡ decided_read groups.now.numbers groups.now.sets groups.now.bases views.now config bus.entry.count w voting bus.entry.reach bus.entry.a.now bus.entry.b.now q }
 {
     if sets::contains(voting, q) {
-        member_decides(config, bus, reach, rule_steps::vote_at(groups, views, q), q)
+        member_decides(config, bus, rule_steps::vote_at(groups, views, q), q)
     } else if sets::contains(w.members, q) {
-        silent_decides(config, bus, reach, groups.at(q), q)
+        silent_decides(config, bus, groups.at(q), q)
     } else if sets::contains(w.joining, q) {
-        joiner_decides(config, bus, reach, q)
+        joiner_decides(config, bus, q)
     } else {
         w.out_at(q)
     }
@@ -77,21 +77,23 @@ fn decisions(
     bus: Channels,
     w: Roles,
     voting: u64,
-    sent: u64,
     missed: &[u64; 64],
     groups: &Groups,
     views: &[u64; 64],
 ) -> States
     requires { config.nodes ≤ 64 }
-    ensures { (q : ℕ) → q < config.nodes → state_at result q ≡ decided_read groups.now.numbers groups.now.sets groups.now.bases views.now config bus.entry.count w voting (sent ∖ get_or missed.now q 0) bus.entry.a.now bus.entry.b.now q }
+    ensures { (q : ℕ) → q < config.nodes → state_at result q ≡ decided_read groups.now.numbers groups.now.sets groups.now.bases views.now config bus.entry.count w voting (bus.entry.reach ∖ get_or missed.now q 0) bus.entry.a.now bus.entry.b.now q }
 {
     let mut next = States {
         roles: Roles::default(),
         groups: Groups::zeros(),
     };
     for q in 0..config.nodes {
-        let came = sets::difference(sent, missed[q]);
-        let d = decide(config, bus, w, voting, came, groups, views, q);
+        let came = Channels {
+            reach: sets::difference(bus.reach, missed[q]),
+            ..bus
+        };
+        let d = decide(config, came, w, voting, groups, views, q);
         next.roles = next.roles.with_state(q, d);
         next.groups.put(q, state_encoding::group_held(d));
     }
@@ -128,13 +130,13 @@ fn vote_phase(
     let b = bus_votes::votes(config.nodes, groups, views, voting, on_b);
     parts::put(frames, 4608, &a);
     parts::put(frames, 6912, &b);
-    let sent = sets::difference(voting, lost);
     let bus = Channels {
         a: &a,
         b: &b,
         count,
+        reach: sets::difference(voting, lost),
     };
-    decisions(config, bus, w, voting, sent, missed, groups, views)
+    decisions(config, bus, w, voting, missed, groups, views)
 }
 
 // One cycle under the faults f; `count` is its cycle count. `frames` shows its frames afterwards. Free: what the row after it does not show.

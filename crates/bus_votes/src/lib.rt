@@ -38,12 +38,12 @@ pub fn votes(n: usize, groups: &Groups, views: &[u64; 64], voting: u64, side: Si
 }
 
 // What a unit receives of the vote of node p.
-fn read_vote(n: usize, bus: Channels, reach: u64, p: usize) -> Option<Vote>
+fn read_vote(n: usize, bus: Channels, p: usize) -> Option<Vote>
     requires { (n ≤ 64) × (p < n) }
-    ensures { result ≡ vote_read n bus.entry.count reach bus.entry.a.now bus.entry.b.now p }
+    ensures { result ≡ vote_read n bus.entry.count bus.entry.reach bus.entry.a.now bus.entry.b.now p }
 {
-    let on_a = bus_channels::copy_of(bus.a, 36, reach, p);
-    let on_b = bus_channels::copy_of(bus.b, 36, reach, p);
+    let on_a = bus_channels::copy_of(bus.a, 36, bus.reach, p);
+    let on_b = bus_channels::copy_of(bus.b, 36, bus.reach, p);
     frame_reading::receive_vote(
         frame_reading::read_vote(n, p as u32, bus.count, 0, on_a),
         frame_reading::read_vote(n, p as u32, bus.count, 1, on_b),
@@ -51,9 +51,9 @@ fn read_vote(n: usize, bus: Channels, reach: u64, p: usize) -> Option<Vote>
 }
 
 // What arrives at a unit of the votes of all nodes. Free: what stands in the slots of votes that did not arrive.
-pub fn arrive(n: usize, bus: Channels, reach: u64) -> Arrived
+pub fn arrive(n: usize, bus: Channels) -> Arrived
     requires { n ≤ 64 }
-    ensures { ballots_of result.groups.numbers result.groups.sets result.groups.bases result.views result.present ≡ ballots_read n bus.entry.count reach bus.entry.a.now bus.entry.b.now }
+    ensures { ballots_of result.groups.numbers result.groups.sets result.groups.bases result.views result.present ≡ ballots_read n bus.entry.count bus.entry.reach bus.entry.a.now bus.entry.b.now }
 {
     let mut arrived = Arrived {
         present: 0,
@@ -61,7 +61,7 @@ pub fn arrive(n: usize, bus: Channels, reach: u64) -> Arrived
         views: [0; 64],
     };
     for p in 0..n {
-        if let Some(vote) = read_vote(n, bus, reach, p) {
+        if let Some(vote) = read_vote(n, bus, p) {
             arrived.present = sets::union(sets::single(p), arrived.present);
             arrived.groups.put(p, vote.group);
             arrived.views[p] = vote.view;

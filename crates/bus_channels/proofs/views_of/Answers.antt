@@ -37,7 +37,7 @@ loop-q-preserved c =
     let l = c.loop-q in
     let a = c.args in
     let bus = a.bus in
-    let reach = a.sent ∖ get_or a.missed.now l.q 0 in
+    let reach = bus.reach ∖ get_or a.missed.now l.q 0 in
     let set = get_or a.sets.now l.q 0 in
     let h = c.hear-heard in
     let shown = seen a.config bus.count reach set l.q _ _ _ h.result.requests _ bus.a.now bus.b.now c.difference.ensures h.ensures.members_value h.ensures.joining_value c.view-view.ensures in
@@ -45,7 +45,7 @@ loop-q-preserved c =
     a.w.asking _ _ h.ensures.requests_value c.contains-own.ensures c.will_vote-votes.ensures in
     record {
       long = simp length-set l.invariant.long;
-      seen = stored (λ j y. y ≡ view_read a.config bus.count (a.sent ∖ get_or a.missed.now j 0) bus.a.now bus.b.now (get_or a.sets.now j 0) j) l.views l.q c.view-view.result (omega arith) l.invariant.seen shown;
+      seen = stored (λ j y. y ≡ view_read a.config bus.count (bus.reach ∖ get_or a.missed.now j 0) bus.a.now bus.b.now (get_or a.sets.now j 0) j) l.views l.q c.view-view.result (omega arith) l.invariant.seen shown;
       voted = those-next _ _ _ _ _ l.invariant.voted (ap₂ (λ (x y : Bool). x && y) c.contains.ensures voted) c.include-voting.ensures;
     }
 

@@ -23,16 +23,16 @@ loop-q-preserved c =
     let g = a.groups.now in
     let l = c.loop-q in
     let read : ℕ → ℕ → State = λ came j. decided_read g.numbers g.sets g.bases a.views.now a.config a.bus.count a.w a.voting came a.bus.a.now a.bus.b.now j in
-    let decided : ℕ → State = λ j. read (a.sent ∖ get_or a.missed.now j 0) j in
+    let decided : ℕ → State = λ j. read (a.bus.reach ∖ get_or a.missed.now j 0) j in
     let below64 : l.q < 64 = omega arith in
     subst (λ (x : Groups). Holds decided (l.q + 1) c.with_state-next.result x.numbers x.sets x.bases) (sym c.put.ensures)
     (holds_next decided l.q l.next.roles _ _ _ _ c.decide-d.result c.group_held.result below64 l.invariant
-    (c.decide-d.ensures ∙ ap (λ (x : ℕ). read x l.q) c.difference-came.ensures) c.group_held.ensures c.with_state-next.ensures)
+    (c.decide-d.ensures ∙ ap (λ (x : ℕ). read x l.q) c.difference.ensures) c.group_held.ensures c.with_state-next.ensures)
 
 pub returns : goal.returns
 returns c =
     let a = c.args in
     let g = a.groups.now in
     let l = c.loop-q in
-    holds_state (λ j. decided_read g.numbers g.sets g.bases a.views.now a.config a.bus.count a.w a.voting (a.sent ∖ get_or a.missed.now j 0) a.bus.a.now a.bus.b.now j)
+    holds_state (λ j. decided_read g.numbers g.sets g.bases a.views.now a.config a.bus.count a.w a.voting (a.bus.reach ∖ get_or a.missed.now j 0) a.bus.a.now a.bus.b.now j)
     a.config.nodes l.q l.next.roles l.next.groups.numbers l.next.groups.sets l.next.groups.bases l.invariant (omega arith)

@@ -9,6 +9,6 @@ returns c =
     let g = a.groups.now in
     record {
       by_index_2 = states_read a.config a.count a.voting a.lost _ a.w g.numbers g.sets g.bases a.views.now a.missed.now _ _ _
-          r.nodes_bound.0 r.nodes_bound.1 r.by_index c.votes-a.ensures c.votes-b.ensures c.difference-sent.ensures c.decisions.ensures;
+          r.nodes_bound.0 r.nodes_bound.1 r.by_index c.votes-a.ensures c.votes-b.ensures c.difference.ensures c.decisions.ensures;
       frames_after = two_put _ _ _ _ _ _ _ 4608 6912 c.put-2.ensures c.put.ensures c.votes-a.ensures c.votes-b.ensures;
     }

@@ -19,7 +19,7 @@ loop-p-init c =
 pub loop-p-preserved : goal.loop-p-preserved
 loop-p-preserved c =
     let l = c.loop-p in
-    let R = vote_read c.args.n c.args.bus.count c.args.reach c.args.bus.a.now c.args.bus.b.now in
+    let R = vote_read c.args.n c.args.bus.count c.args.bus.reach c.args.bus.a.now c.args.bus.b.now in
     elim c.match-read_vote.branch [
       | in-Some w ↦
           let v = w.in-Some.vote in
