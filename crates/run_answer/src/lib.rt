@@ -5,7 +5,6 @@ ghost use Rattle.std.specs.Prelude.{◌≡◌, true, List, ℕ, ◌≤◌, Optio
 ghost use Rattle.refusal.specs.Codes.{status_of};
 ghost use Rattle.state.specs.declared.Node.{Node};
 ghost use Rattle.rules.specs.OneCycle.{quiet_in, in_mode};
-ghost use Rattle.bus_units.specs.Run.{frames_length};
 ghost use Rattle.table.specs.Records.{cycle_length};
 ghost use Rattle.table.specs.Table.{table_of};
 ghost use Rattle.row.specs.Gathered.{ordered};
@@ -19,7 +18,7 @@ use rules::Config;
 use table::{CycleRecord, Start};
 
 // The bytes of the frames of a cycle: on two channels, heartbeats and votes, 64 slots of 36.
-const FRAMES: usize = 9216;
+pub const FRAMES: usize = 9216;
 
 // What a call leaves that is not refused: N, and the states of its row.
 #[derive(Clone, Copy)]
@@ -35,7 +34,7 @@ struct Cluster {
     states: States,
 }
 
-// N as the entries of a row hold it; 0, which no entry holds, for a number that no cluster has.
+// N as the entries of a row hold it; 0, which no entry holds, for a number that no cluster has. A cast: `u8::try_from` would still need the test of the limit.
 #[tactic(auto, unfolding(crate::specs::Answered::count_byte))]
 pub fn count_byte(n: u32) -> u8
     ensures { result ≡ count_byte n }
@@ -166,20 +165,4 @@ pub fn answer(
         Task::Run => run_answer(mode, len, s),
         Task::FramedRun => framed_answer(mode, len, s, frames),
     }
-}
-
-// The same for a caller that keeps no frames; the same is free.
-pub fn answer_without_frames(
-    task: Task,
-    n: u32,
-    mode: u32,
-    len: usize,
-    gathered: Option<States>,
-    s: &[u8],
-) -> Result<Left, Refusal>
-    ensures answered { (nodes : List Node) → GatheredFrom n gathered len nodes → status_of result ≡ call_status task n mode nodes frames_length s.now }
-    ensures left { (nodes : List Node) → GatheredFrom n gathered len nodes → IfOk result (λ l. Leaves l.nodes l.states len (call_left task n mode nodes frames_length s.now)) }
-{
-    let mut frames = [0u8; FRAMES];
-    answer(task, n, mode, len, gathered, s, &mut frames)
 }

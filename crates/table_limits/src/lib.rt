@@ -62,7 +62,7 @@ fn masks_beyond(n: usize, cycle: CycleRecord) -> bool
         || table_first::is_beyond(n, marks.vote_lost)
 }
 
-// What 13 stands for in a record of a cycle.
+// What 13 stands for in a record of a cycle. That n is at most 64 stays a clause here and below: n is a `Config`'s, and theorems speak of one of any number.
 #[tactic(auto, unfolding(table::specs::Records::wrong_cycle))]
 pub fn is_wrong_cycle(n: usize, k: u64, cycle: CycleRecord) -> bool
     requires { n ≤ 64 }

@@ -24,7 +24,7 @@ pub fn check_cycle<'a>(n: usize, k: u64, s: &'a [u8]) -> Result<CycleRecord<'a>,
     Ok(cycle)
 }
 
-// The first refusal among the records of cycles, from cycle 1 on.
+// The first refusal among the records of cycles, from cycle 1 on. A `for` over the numbers would have to break where the bytes end.
 fn check_cycles(n: usize, s: &[u8]) -> Result<(), Refusal>
     requires { n ≤ 64 }
     ensures { status_of result ≡ (cycles_in (length s.now) n 1 s.now).refusal }
