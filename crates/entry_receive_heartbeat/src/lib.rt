@@ -1,4 +1,4 @@
-// Heartbeats that come in: read from one channel, received on both.
+// Heartbeats that come in: read from one channel, received on both. Numbers come in, and go out by a reference each, as the C interface has them.
 #![tactic(auto)]
 
 ghost use Rattle.std.specs.Prelude.{◌≡◌, Ok, Some, IfOk};

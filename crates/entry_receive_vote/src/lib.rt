@@ -1,4 +1,4 @@
-// Votes that arrive: read from one channel, or received on both into the vote buffer.
+// Votes that arrive: read from one channel, or received on both into the vote buffer. Numbers come in as the C interface has them.
 #![tactic(auto)]
 
 ghost use Rattle.std.specs.Prelude.{◌≡◌};
