@@ -1,5 +1,6 @@
 // Text appended to lent bytes at a cursor: words, masks in hexadecimal, numbers in decimal.
-// Each method moves the cursor behind what it wrote, and leaves every other byte as it was.
+// Each method moves the cursor behind what it wrote, and leaves every other byte as it was. Numbers are printed by hand: `write!` says what it wrote only where it
+// answers `Ok`, which no clause of it promises, and `print_lines::put_line` and the like say all bytes and can't fail.
 #![tactic(auto)]
 
 ghost use Rattle.std.specs.Prelude.{◌≡◌, [], ◌∷◌, ◌+◌, ◌≤◌, ◌<◌, length};
