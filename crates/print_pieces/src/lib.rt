@@ -156,7 +156,7 @@ impl Session {
 
     // Takes one record of a table, or its end: `left` is what is seen of the rest, the record whole or all of it. `states` are those of the nodes.
     // Free: what the cluster as it stands (`standing`) does not show of session and states, the states once it is over, and everything where a record that is cut
-    // is taken before the end of the file.
+    // is taken before the end of the file. Buffer and cursor stand apart, since `Turned` says each byte of the buffer.
     pub fn turn(self, left: &[u8], out: &mut [u8], at: usize, states: &mut States) -> Piece
         requires { at + 128 ≤ length out.old }
         ensures { Gives self states.old left.now out.old at out.new result states.new }

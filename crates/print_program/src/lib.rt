@@ -13,7 +13,8 @@ use std::env::{Env, FillError};
 use std::io;
 use std::io::{IsTerminal, Read, Write};
 
-// A run between two reads: what the last call left, how many reads there were, and whether the last read or the last write failed, or both.
+// A run between two reads: what the last call left, how many reads there were, and whether the last read or the last write failed. Two flags, since
+// both may have failed, and no other field hangs on either.
 #[derive(Clone, Copy)]
 pub struct Run {
     pub last: Taken,

@@ -41,8 +41,8 @@ fn going(session: Option<Session>, ended: bool, left: &[u8]) -> Option<Session>
 }
 
 // Takes every whole record of the first `have` bytes of the window, and the end of the file where it has ended, and appends what they give at `at`. The
-// bytes that are not taken are moved to the front. Free: what the cluster as it stands does not show of session and states,
-// and the states, and what is kept, once it is over.
+// bytes that are not taken are moved to the front. The whole window stands beside `have`, and the buffer beside `at`, since `Took` says each byte of both.
+// Free: what the cluster as it stands does not show of session and states, and the states, and what is kept, once it is over.
 pub fn take(
     z: Session,
     window: &mut [u8],
