@@ -10,10 +10,8 @@ ghost use Rattle.row_calls.specs.Calls.{call_status, call_left, call_frames};
 use refusal::Refusal;
 use row_calls::Task;
 use row_images::Lent;
+use run_answer::FRAMES;
 use state::Node;
-
-// The bytes of the frames of a cycle.
-const FRAMES: usize = 9216;
 
 // A call on a row that is lent a buffer for frames. One that is refused leaves both as they are.
 pub fn call_with<L: Lent>(
