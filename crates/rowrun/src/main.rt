@@ -9,9 +9,8 @@ ghost use Rattle.row_calls.specs.Calls.{call_status, call_left};
 use refusal::Refusal;
 use row_calls::Task;
 use state::{Node, Reason, State};
-use std::fmt;
-use std::io;
 use std::io::Read;
+use std::{fmt, io};
 
 // The bytes before those of a call.
 const HEAD: usize = 6;
@@ -62,7 +61,11 @@ impl fmt::Display for Shown {
             State::Joining => f.write_str("joining"),
             State::Member(group, requests) => {
                 let asks = if requests { " requests" } else { "" };
-                write!(f, "member {} {:016x} {:016x}{asks}", group.number, group.set, group.base)
+                write!(
+                    f,
+                    "member {} {:016x} {:016x}{asks}",
+                    group.number, group.set, group.base
+                )
             }
         }
     }
@@ -73,7 +76,13 @@ fn lend(head: Head, row: &mut [Node; ROW], bytes: &[u8]) -> Result<(), Refusal>
     ensures status_value { status_of result ≡ call_status head.task head.nodes head.mode (take head.entries row.old) frames_length bytes.now }
     ensures row_value { row.new ≡ call_left head.task head.nodes head.mode (take head.entries row.old) frames_length bytes.now ++ drop head.entries row.old }
 {
-    row_press::call(head.task, head.nodes, head.mode, &mut row[..head.entries], bytes)
+    row_press::call(
+        head.task,
+        head.nodes,
+        head.mode,
+        &mut row[..head.entries],
+        bytes,
+    )
 }
 
 // Every whole call in turn, each on the row that the one before left.
