@@ -41,14 +41,32 @@ declarations() {
         $(i + 1) == ":" || ($(i + 1) ~ /^\{/ && $(i + 2) == ":") { print file ": " $i "\t" FILENAME "\t" FNR }'
 }
 
-# functions with an ensures, and types
+# functions with an ensures, those of a type or of a trait by its name too; those that an impl has of a trait, whose contract are the trait's ghost members there, by
+# the names of the type, of the trait and of the trait's argument, as the checker joins them; and types
 contracts() {
     awk '
-        FNR == 1 { split(FILENAME, path, "/"); name = "" }
-        match($0, /^(pub )?(struct|enum) [A-Za-z]+/) { n = split(substr($0, 1, RLENGTH), word, " "); print path[2] "::" word[n] "\t" FILENAME "\t" FNR }
-        match($0, /fn [a-z_0-9]+[(<]/) { name = substr($0, RSTART + 3, RLENGTH - 4); at = FNR }
+        function plain(s) { gsub(/<[^>]*>|^ +| +$/, "", s); return s }
+        function large(s) { return toupper(substr(s, 1, 1)) substr(s, 2) }
+        function owner_of(line,  s, n, part, argument) {
+            s = line; sub(/ *\{.*/, "", s); sub(/^impl(<[^>]*>)? */, "", s)
+            n = split(s, part, / for /)
+            if (n == 1) return plain(part[1])
+            argument = match(part[1], /<[A-Za-z0-9]+>/) ? substr(part[1], RSTART + 1, RLENGTH - 2) : ""
+            return large(plain(part[2])) plain(part[1]) large(argument)
+        }
+        FNR == 1 { split(FILENAME, path, "/"); name = owner = ""; given = 0 }
+        match($0, /^(pub )?(struct|enum|trait) [A-Za-z]+/) {
+            n = split(substr($0, 1, RLENGTH), word, " "); print path[2] "::" word[n] "\t" FILENAME "\t" FNR
+            if (word[n - 1] == "trait") owner = word[n] "::"
+        }
+        /^impl/ { owner = owner_of($0) "::"; given = / for / }
+        match($0, /fn [a-z_0-9]+[(<]/) {
+            name = owner substr($0, RSTART + 3, RLENGTH - 4); at = FNR
+            if (given) { print path[2] "::" name "\t" FILENAME "\t" at; name = "" }
+        }
         $1 == "ensures" && name != "" { print path[2] "::" name "\t" FILENAME "\t" at; name = "" }
-        /^[{}]/ { name = "" }' crates/*/src/*.rt
+        /^ *[{}]/ { name = "" }
+        /^}/ { owner = ""; given = 0 }' crates/*/src/*.rt
 }
 
 places=$(places)
