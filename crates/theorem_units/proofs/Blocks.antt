@@ -9,13 +9,12 @@ use borrow.Author.Tests.{eqb-true, eqb-false}
 use Rattle.bigendian.proofs.Laws.{Bytes}
 use Rattle.refusal.proofs.Laws.{next, unless-done}
 use Rattle.state.specs.declared.Node.{Node}
-use Rattle.state.specs.declared.Decoded.{Decoded}
-use Rattle.state.specs.declared.Decoded.TheVariants.{Good}
+use Rattle.std.specs.Prelude.{Result, Ok}
+use Rattle.refusal.specs.declared.Refusal.{Refusal}
+use Rattle.refusal.specs.Codes.{status_of}
 use Rattle.state.specs.Image.{image_of, decoded, refusal}
 use Rattle.rules.specs.OneCycle.{wrong_mode, quiet_in}
-use Rattle.entry_lent.specs.declared.Lent.{Lent}
-use Rattle.entry_lent.specs.declared.Lent.TheVariants.{Holds}
-use Rattle.entry_lent.specs.Found.{lent_state, status_of, image_status}
+use Rattle.entry_lent.specs.Found.{lent_state, image_status}
 use Rattle.entry_lent.proofs.Bounds.{length-is}
 use Rattle.entry_lent.proofs.Images.{by_image}
 use Rattle.entry_stop_start.specs.StopStart.{stopped_and_started, rule_one_of, stop_left, start_left}
@@ -38,7 +37,7 @@ use Rattle.theorem_units.specs.Blocks.{Commands, command, Cycles, alone, with_a_
 -- the machine before, and the state after
 record Did (t : Step) (x y : List ℕ) : Type 0 where
   machine : Machine
-  held : decoded (quiet_in (mode_of t)) (take 24 x) ≡ Good machine.node
+  held : decoded (quiet_in (mode_of t)) (take 24 x) ≡ Ok machine.node
   moded : wrong_mode (mode_of t) ≡ false
   voted : wrong_votes t ≡ false
   state : take 24 y ≡ image_of (stepped t machine).node
@@ -78,8 +77,8 @@ rule_told : (t : Step) (stop start : Bool) (x y : List ℕ) (d : Did t x y) → 
     → (0 ≡ image_status (mode_of t) (take 24 x)) × (take 24 y ≡ rule_one_of stop start (lent_state (mode_of t) (take 24 x)) (take 24 x))
 unfolding image_status
 rule_told t stop start x y d rule =
-    let found : lent_state (mode_of t) (take 24 x) ≡ Holds d.machine.node = state_lent (mode_of t) (take 24 x) d.machine.node d.moded d.held in
-    (sym (ap status_of found), d.state ∙ ap image_of rule ∙ sym (ap (λ (n : Lent). rule_one_of stop start n (take 24 x)) found))
+    let found : lent_state (mode_of t) (take 24 x) ≡ Ok d.machine.node = state_lent (mode_of t) (take 24 x) d.machine.node d.moded d.held in
+    (sym (ap status_of found), d.state ∙ ap image_of rule ∙ sym (ap (λ (n : Result Node Refusal). rule_one_of stop start n (take 24 x)) found))
 
 command_told : (v : ℕ) (stop start : Bool) → ((n : Node) → commanded v n ≡ stopped_and_started stop start n) → (mode : ℕ) (x y : List ℕ) → Commands v mode x y
     → (0 ≡ image_status mode x) × (y ≡ rule_one_of stop start (lent_state mode x) x)
@@ -102,7 +101,7 @@ module _ (t : Step) (heard0 heard1 requests : ℕ) (votes : List ℕ) (arrived :
       let status : 0 ≡ decide_status (mode_of t) (take 24 x) votes = image ∙ sym (next (wrong_mode (mode_of t)) 2 _ d.moded) in (
         status,
         d.state ∙ ap image_of same
-            ∙ sym (unless-done _ _ _ (sym status) ∙ ap (λ (z : Decoded). decided_from quiet z heard0 heard1 requests votes arrived (take 24 x)) d.held),
+            ∙ sym (unless-done _ _ _ (sym status) ∙ ap (λ (z : Result Node Refusal). decided_from quiet z heard0 heard1 requests votes arrived (take 24 x)) d.held),
       )
 
 decide_told : (mode : ℕ) (x : List ℕ) (heard0 heard1 requests : ℕ) (votes : List ℕ) (arrived : ℕ) (y : List ℕ) → Cycles mode x heard0 heard1 requests votes arrived y

@@ -15,16 +15,17 @@ use Rattle.sets.specs.Sets.{below}
 use Rattle.sets.proofs.Booleans.{or_f_r}
 use Rattle.refusal.proofs.Laws.{none}
 use Rattle.state.specs.declared.Node.{Node}
-use Rattle.state.specs.declared.Decoded.{Decoded}
-use Rattle.state.specs.declared.Decoded.TheVariants.{Good, WrongLength, Malformed}
+use Rattle.std.specs.Prelude.{Result, Ok, Err}
+use Rattle.refusal.specs.declared.Refusal.{Refusal}
+use Rattle.refusal.specs.declared.Refusal.TheVariants.{Number}
+use Rattle.refusal.specs.Codes.{status_of}
+use Rattle.refusal.proofs.Codes.{numbered}
 use Rattle.state.specs.Image.{decoded, refusal}
 use Rattle.rules.specs.OneCycle.{wrong_mode, quiet_in}
-use Rattle.entry_lent.specs.declared.Lent.{Lent}
-use Rattle.entry_lent.specs.declared.Lent.TheVariants.{Holds, Refused}
 use Rattle.entry_lent.specs.Refusals.{wrong_length}
-use Rattle.entry_lent.specs.Found.{in_image, lent_state, status_of, image_status}
+use Rattle.entry_lent.specs.Found.{lent_state, image_status}
 use Rattle.entry_lent.proofs.Bounds.{length-is}
-use Rattle.entry_lent.proofs.Images.{good_length, by_image, found_state, state_numbered}
+use Rattle.entry_lent.proofs.Images.{good_length, by_image, found_state}
 use Rattle.entry_decide.specs.Decide.{decide_status, decide_left}
 use Rattle.rules.specs.declared.Faults.{Faults}
 use Rattle.registers.specs.Steps.{Step, Write, Cycle, WriteCycle, mode_of, wrong_votes, wrong_address, step_status, step_left}
@@ -47,34 +48,29 @@ abbrev own : {X : Type 0} → X → MutBor X
 own x = record { ref_ptr = (0, 0); ghost_name = 0; now = x }
 
 -- the node of a state that is accepted, in a mode that there is
-node_in_lem : (mode : ℕ) (x : List ℕ) → 0 ≡ image_status mode x → (n : Node) × (wrong_mode mode ≡ false) × (decoded (quiet_in mode) x ≡ Good n)
+node_in_lem : (mode : ℕ) (x : List ℕ) → 0 ≡ image_status mode x → (n : Node) × (wrong_mode mode ≡ false) × (decoded (quiet_in mode) x ≡ Ok n)
 unfolding image_status
 node_in_lem mode x e = go (lent_state mode x) refl
   where
-    go : (d : Lent) → lent_state mode x ≡ d → (n : Node) × (wrong_mode mode ≡ false) × (decoded (quiet_in mode) x ≡ Good n)
-    go (Holds n) k = let f = found_state mode x n k in (n, f.0, f.1)
-    go (Refused r) k = absurd (state_numbered mode x r k (sym (e ∙ ap status_of k)))
+    go : (d : Result Node Refusal) → lent_state mode x ≡ d → (n : Node) × (wrong_mode mode ≡ false) × (decoded (quiet_in mode) x ≡ Ok n)
+    go (Ok n) k = let f = found_state mode x n k in (n, f.0, f.1)
+    go (Err r) k = absurd (numbered r (sym (e ∙ ap status_of k)))
 
 -- past the mode a state is refused as its image is
 by_mode : (mode : ℕ) (x : List ℕ) → wrong_mode mode ≡ false → image_status mode x ≡ refusal (decoded (quiet_in mode) x)
 unfolding image_status lent_state
-by_mode mode x e = ap (λ (wrong : Bool). status_of (cond wrong (Refused 2) (in_image (decoded (quiet_in mode) x)))) e ∙ go (decoded (quiet_in mode) x)
-  where
-    go : (d : Decoded) → status_of (in_image d) ≡ refusal d
-    go (Good n) = refl
-    go WrongLength = refl
-    go Malformed = refl
+by_mode mode x e = ap (λ (wrong : Bool). status_of (cond wrong (Err Number) (decoded (quiet_in mode) x))) e
 
 -- ---- a state that is accepted, with zeros behind it, is a block on which a step is accepted
 
 abbrev block : List ℕ → List ℕ
 block x = x ++ replicate 40 0
 
-step_good : (t : Step) (x : List ℕ) (n : Node) → wrong_mode (mode_of t) ≡ false → decoded (quiet_in (mode_of t)) x ≡ Good n → wrong_votes t ≡ false → wrong_address t ≡ false
+step_good : (t : Step) (x : List ℕ) (n : Node) → wrong_mode (mode_of t) ≡ false → decoded (quiet_in (mode_of t)) x ≡ Ok n → wrong_votes t ≡ false → wrong_address t ≡ false
     → 0 ≡ step_status t (block x)
 step_good t x n m e v a = sym (status-found t (block x) _ (begins (quiet_in (mode_of t)) x n (good_length (quiet_in (mode_of t)) x n e) e) ∙ rw (m, v, a))
 
-module _ (mode : ℕ) (x : List ℕ) (n : Node) (moded : wrong_mode mode ≡ false) (e : decoded (quiet_in mode) x ≡ Good n) where
+module _ (mode : ℕ) (x : List ℕ) (n : Node) (moded : wrong_mode mode ≡ false) (e : decoded (quiet_in mode) x ≡ Ok n) where
   front : take 24 (block x) ≡ x
   front = take_at x (replicate 40 0) 24 (good_length (quiet_in mode) x n e)
 
