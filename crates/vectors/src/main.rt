@@ -62,7 +62,11 @@ fn show_vote(rt: HostRuntime, q: u32, vote: Vote, cycle: u32) -> io::Result<()>
         channel: 0,
     };
     show_bytes(rt, &frame_writing::write_vote(slot, vote))?;
-    let on_b = Slot { channel: 1, ..slot };
+    let on_b = Slot {
+        node: q,
+        cycle,
+        channel: 1,
+    };
     show_bytes(rt, &frame_writing::write_vote(on_b, vote))
 }
 
