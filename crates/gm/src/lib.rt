@@ -18,14 +18,17 @@ ghost use Rattle.entry_decide.specs.Decide.{decide_status, decide_left};
 ghost use Rattle.registers.specs.Steps.{Read, Write, Cycle, WriteCycle, step_status, step_left, step_value};
 ghost use Rattle.entry_row.specs.OnImages.{lent_status, lent_left, lent_frames, images_status, images_left};
 
+use entry_write_heartbeat::Numbers;
 use row_calls::Task;
+use rules::{Heard, Vote};
+use state::Group;
 
 // Puts a node at the beginning.
 pub fn gm_begin(n: u32, node: u32, founding: u64, state: &mut [u8]) -> u32
     ensures value { result ≡ begin_status n node founding state.old }
     ensures state_after { state.new ≡ begin_left n node founding state.old }
 {
-    entry_begin::begin(n, node, founding, state)
+    refusal::status(entry_begin::begin(n, node, founding, state))
 }
 
 // Rule 1, stop.
@@ -33,7 +36,7 @@ pub fn gm_stop(mode: u32, state: &mut [u8]) -> u32
     ensures value { result ≡ image_status mode state.old }
     ensures state_after { state.new ≡ stop_left mode state.old }
 {
-    entry_stop_start::stop(mode, state)
+    refusal::status(entry_stop_start::stop(mode, state))
 }
 
 // Rule 1, start.
@@ -41,7 +44,7 @@ pub fn gm_start(mode: u32, state: &mut [u8]) -> u32
     ensures value { result ≡ image_status mode state.old }
     ensures state_after { state.new ≡ start_left mode state.old }
 {
-    entry_stop_start::start(mode, state)
+    refusal::status(entry_stop_start::start(mode, state))
 }
 
 // A state taken apart into its numbers.
@@ -65,7 +68,7 @@ pub fn gm_state(
     ensures set_after { set.new ≡ set_left mode state.now set.old }
     ensures base_after { base.new ≡ base_left mode state.now base.old }
 {
-    entry_state::read(mode, state, kind, reason, node, n, number, set, base)
+    refusal::status(entry_state::read(mode, state, kind, reason, node, n, number, set, base))
 }
 
 // A heartbeat from numbers and drive bytes, into a buffer as long as it.
@@ -85,9 +88,21 @@ pub fn gm_write_heartbeat(
     ensures value { result ≡ write_heartbeat_status n mode node join request sync startup cycle channel drive.now frame.old }
     ensures frame_after { frame.new ≡ write_heartbeat_left n mode node join request sync startup cycle channel drive.now frame.old }
 {
-    entry_write_heartbeat::write(
-        n, mode, node, join, request, sync, startup, cycle, channel, drive, frame,
-    )
+    refusal::status(entry_write_heartbeat::write(
+        Numbers {
+            n,
+            mode,
+            node,
+            join,
+            request,
+            sync,
+            startup,
+            cycle,
+            channel,
+        },
+        drive,
+        frame,
+    ))
 }
 
 // Rule 2: the heartbeat that a node sends, if it sends one, with these drive bytes.
@@ -106,9 +121,9 @@ pub fn gm_send_heartbeat(
     ensures frame_after { frame.new ≡ send_heartbeat_left mode state.now sync startup cycle channel drive.now frame.old }
     ensures sent_after { sent.new ≡ send_heartbeat_sent mode state.now sync startup cycle channel drive.now frame.old sent.old }
 {
-    entry_send_heartbeat::send(
+    refusal::status(entry_send_heartbeat::send(
         mode, state, sync, startup, cycle, channel, drive, frame, sent,
-    )
+    ))
 }
 
 // One copy of a node's heartbeat: its join bit, its request and its drive bytes.
@@ -130,7 +145,7 @@ pub fn gm_read_heartbeat(
     ensures request_after { request.new ≡ read_heartbeat_request n mode node cycle channel frame.now drive.old request.old }
     ensures drive_bytes_after { drive_bytes.new ≡ read_heartbeat_drive_bytes n mode node cycle channel frame.now drive.old drive_bytes.old }
 {
-    entry_receive_heartbeat::read(
+    refusal::status(entry_receive_heartbeat::read(
         n,
         mode,
         node,
@@ -141,7 +156,7 @@ pub fn gm_read_heartbeat(
         join,
         request,
         drive_bytes,
-    )
+    ))
 }
 
 // Both copies of a node's heartbeat: missed, a member's, a joining node's or that of a member that requests, and its drive bytes.
@@ -161,7 +176,17 @@ pub fn gm_receive_heartbeat(
     ensures heard_after { heard.new ≡ receive_heartbeat_heard n mode node cycle a.now b.now drive.old heard.old }
     ensures drive_bytes_after { drive_bytes.new ≡ receive_heartbeat_drive_bytes n mode node cycle a.now b.now drive.old drive_bytes.old }
 {
-    entry_receive_heartbeat::receive(n, mode, node, cycle, a, b, drive, heard, drive_bytes)
+    refusal::status(entry_receive_heartbeat::receive(
+        n,
+        mode,
+        node,
+        cycle,
+        a,
+        b,
+        drive,
+        heard,
+        drive_bytes,
+    ))
 }
 
 // Rule 3: the view of a node, 0 if it is no member.
@@ -169,7 +194,16 @@ pub fn gm_view(mode: u32, state: &[u8], heard0: u64, heard1: u64, view: &mut u64
     ensures value { result ≡ image_status mode state.now }
     ensures view_after { view.new ≡ view_from (lent_state mode state.now) heard0 heard1 view.old }
 {
-    entry_send_vote::view(mode, state, heard0, heard1, view)
+    refusal::status(entry_send_vote::view(
+        mode,
+        state,
+        Heard {
+            members: heard0,
+            joining: heard1,
+            requests: 0,
+        },
+        view,
+    ))
 }
 
 // A vote from numbers, into 36 bytes.
@@ -187,7 +221,17 @@ pub fn gm_write_vote(
     ensures value { result ≡ write_vote_status n node (vote_of number set base view) cycle channel frame.old }
     ensures frame_after { frame.new ≡ write_vote_left n node (vote_of number set base view) cycle channel frame.old }
 {
-    entry_write_vote::write(n, node, number, set, base, view, cycle, channel, frame)
+    refusal::status(entry_write_vote::write(
+        n,
+        node,
+        Vote {
+            group: Group { number, set, base },
+            view,
+        },
+        cycle,
+        channel,
+        frame,
+    ))
 }
 
 // Rule 4: the vote that a node sends, if it sends one.
@@ -206,9 +250,19 @@ pub fn gm_send_vote(
     ensures frame_after { frame.new ≡ send_vote_left mode state.now heard0 heard1 requests cycle channel frame.old }
     ensures sent_after { sent.new ≡ send_vote_sent mode state.now heard0 heard1 requests cycle channel frame.old sent.old }
 {
-    entry_send_vote::send(
-        mode, state, heard0, heard1, requests, cycle, channel, frame, sent,
-    )
+    refusal::status(entry_send_vote::send(
+        mode,
+        state,
+        Heard {
+            members: heard0,
+            joining: heard1,
+            requests,
+        },
+        cycle,
+        channel,
+        frame,
+        sent,
+    ))
 }
 
 // One copy of a node's vote: its 28 bytes.
@@ -223,7 +277,7 @@ pub fn gm_read_vote(
     ensures value { result ≡ read_vote_status n node cycle channel frame.now vote.old }
     ensures vote_after { vote.new ≡ read_vote_left n node cycle channel frame.now vote.old }
 {
-    entry_receive_vote::read(n, node, cycle, channel, frame, vote)
+    refusal::status(entry_receive_vote::read(n, node, cycle, channel, frame, vote))
 }
 
 // Both copies of a node's vote: into its slot of the vote buffer, and its bit of the mask.
@@ -240,7 +294,7 @@ pub fn gm_receive_vote(
     ensures votes_after { votes.new ≡ receive_vote_left n node cycle a.now b.now votes.old }
     ensures arrived_after { arrived.new ≡ receive_vote_arrived n node cycle a.now b.now votes.old arrived.old }
 {
-    entry_receive_vote::receive(n, node, cycle, a, b, votes, arrived)
+    refusal::status(entry_receive_vote::receive(n, node, cycle, a, b, votes, arrived))
 }
 
 // Rules 3 to 6: the next state, from what the node heard and the votes that arrived.
@@ -256,7 +310,17 @@ pub fn gm_decide(
     ensures value { result ≡ decide_status mode state.old votes.now }
     ensures state_after { state.new ≡ decide_left mode state.old heard0 heard1 requests votes.now arrived }
 {
-    entry_decide::decide(mode, state, heard0, heard1, requests, votes, arrived)
+    refusal::status(entry_decide::decide(
+        mode,
+        state,
+        Heard {
+            members: heard0,
+            joining: heard1,
+            requests,
+        },
+        votes,
+        arrived,
+    ))
 }
 
 // A register of a block.
@@ -264,7 +328,7 @@ pub fn gm_register_read(mode: u32, block: &[u8], address: u32, value: &mut u32) 
     ensures value { result ≡ step_status (Read mode address) block.now }
     ensures value_after { value.new ≡ step_value (Read mode address) block.now value.old }
 {
-    entry_registers::read(mode, block, address, value)
+    refusal::status(entry_registers::read(mode, block, address, value))
 }
 
 // A byte to a register of a block.
@@ -272,7 +336,7 @@ pub fn gm_register_write(mode: u32, block: &mut [u8], address: u32, value: u8) -
     ensures value { result ≡ step_status (Write mode address value) block.old }
     ensures block_after { block.new ≡ step_left (Write mode address value) block.old }
 {
-    entry_registers::write(mode, block, address, value)
+    refusal::status(entry_registers::write(mode, block, address, value))
 }
 
 // Rules 3 to 6 on a block, and the flag that they raise.
@@ -288,7 +352,17 @@ pub fn gm_register_cycle(
     ensures value { result ≡ step_status (Cycle mode heard0 heard1 requests votes.now arrived) block.old }
     ensures block_after { block.new ≡ step_left (Cycle mode heard0 heard1 requests votes.now arrived) block.old }
 {
-    entry_registers::cycle(mode, block, heard0, heard1, requests, votes, arrived)
+    refusal::status(entry_registers::cycle(
+        mode,
+        block,
+        Heard {
+            members: heard0,
+            joining: heard1,
+            requests,
+        },
+        votes,
+        arrived,
+    ))
 }
 
 // A write and a cycle together, the write first.
@@ -306,9 +380,19 @@ pub fn gm_register_write_cycle(
     ensures value { result ≡ step_status (WriteCycle mode address value heard0 heard1 requests votes.now arrived) block.old }
     ensures block_after { block.new ≡ step_left (WriteCycle mode address value heard0 heard1 requests votes.now arrived) block.old }
 {
-    entry_registers::write_cycle(
-        mode, block, address, value, heard0, heard1, requests, votes, arrived,
-    )
+    refusal::status(entry_registers::write_cycle(
+        mode,
+        block,
+        address,
+        value,
+        Heard {
+            members: heard0,
+            joining: heard1,
+            requests,
+        },
+        votes,
+        arrived,
+    ))
 }
 
 // One cycle on a row of n states.
@@ -316,7 +400,7 @@ pub fn gm_cycle(n: u32, mode: u32, row: &mut [u8], cycle: &[u8]) -> u32
     ensures value { result ≡ images_status Task.Cycle n mode row.old cycle.now }
     ensures row_after { row.new ≡ images_left Task.Cycle n mode row.old cycle.now }
 {
-    entry_row::call(Task::Cycle, n, mode, row, cycle)
+    refusal::status(entry_row::call(Task::Cycle, n, mode, row, cycle))
 }
 
 // A table's run on a row; the table has N.
@@ -324,7 +408,7 @@ pub fn gm_run(mode: u32, row: &mut [u8], table: &[u8]) -> u32
     ensures value { result ≡ images_status Task.Run 0 mode row.old table.now }
     ensures row_after { row.new ≡ images_left Task.Run 0 mode row.old table.now }
 {
-    entry_row::call(Task::Run, 0, mode, row, table)
+    refusal::status(entry_row::call(Task::Run, 0, mode, row, table))
 }
 
 // The same run through frames, which hands out those of its last cycle.
@@ -333,5 +417,5 @@ pub fn gm_run_frames(mode: u32, row: &mut [u8], table: &[u8], frames: &mut [u8])
     ensures row_after { row.new ≡ lent_left Task.FramedRun 0 mode row.old (length frames.old) table.now }
     ensures frames_after { frames.new ≡ lent_frames Task.FramedRun mode row.old table.now frames.old }
 {
-    entry_row::call_with(Task::FramedRun, 0, mode, row, table, frames)
+    refusal::status(entry_row::call_with(Task::FramedRun, 0, mode, row, table, frames))
 }

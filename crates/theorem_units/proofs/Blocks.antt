@@ -7,11 +7,11 @@ use lib.ListN.{length, take}
 use lib.Dec.{eqb}
 use borrow.Author.Tests.{eqb-true, eqb-false}
 use Rattle.bigendian.proofs.Laws.{Bytes}
+use Rattle.refusal.proofs.Laws.{next, unless-done}
+use Rattle.state.specs.declared.Node.{Node}
 use Rattle.std.specs.Prelude.{Result, Ok}
 use Rattle.refusal.specs.declared.Refusal.{Refusal}
 use Rattle.refusal.specs.Codes.{status_of}
-use Rattle.refusal.proofs.Laws.{next, unless-done}
-use Rattle.state.specs.declared.Node.{Node}
 use Rattle.state.specs.Image.{image_of, decoded, refusal}
 use Rattle.rules.specs.OneCycle.{wrong_mode, quiet_in}
 use Rattle.entry_lent.specs.Found.{lent_state, image_status}

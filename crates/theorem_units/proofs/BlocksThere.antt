@@ -13,13 +13,13 @@ use denote.Ref.{Bor}
 use denote.MutBor.{MutBor}
 use Rattle.sets.specs.Sets.{below}
 use Rattle.sets.proofs.Booleans.{or_f_r}
+use Rattle.refusal.proofs.Laws.{none}
+use Rattle.state.specs.declared.Node.{Node}
 use Rattle.std.specs.Prelude.{Result, Ok, Err}
 use Rattle.refusal.specs.declared.Refusal.{Refusal}
 use Rattle.refusal.specs.declared.Refusal.TheVariants.{Number}
 use Rattle.refusal.specs.Codes.{status_of}
-use Rattle.refusal.proofs.Laws.{none}
 use Rattle.refusal.proofs.Codes.{numbered}
-use Rattle.state.specs.declared.Node.{Node}
 use Rattle.state.specs.Image.{decoded, refusal}
 use Rattle.rules.specs.OneCycle.{wrong_mode, quiet_in}
 use Rattle.entry_lent.specs.Refusals.{wrong_length}

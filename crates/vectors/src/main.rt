@@ -16,6 +16,8 @@
 
 ghost use Rattle.std.specs.Prelude.{◌<◌};
 
+use entry_write_heartbeat::Numbers;
+use frames::Slot;
 use rules::Vote;
 use state::Group;
 use std::io;
@@ -54,10 +56,18 @@ fn show_vote(rt: HostRuntime, q: u32, vote: Vote, cycle: u32) -> io::Result<()>
     requires q_bound { q < 64 }
     requires cycle_bound { cycle < 64 }
 {
-    let a = frame_writing::write_vote(q, vote, cycle, 0);
-    show_bytes(rt, &a)?;
-    let b = frame_writing::write_vote(q, vote, cycle, 1);
-    show_bytes(rt, &b)
+    let slot = Slot {
+        node: q,
+        cycle,
+        channel: 0,
+    };
+    show_bytes(rt, &frame_writing::write_vote(slot, vote))?;
+    let on_b = Slot {
+        node: q,
+        cycle,
+        channel: 1,
+    };
+    show_bytes(rt, &frame_writing::write_vote(on_b, vote))
 }
 
 // A founding member's first vote, and one in which no byte stands twice: there no two of G, M, B and V can change places unseen.
@@ -103,55 +113,99 @@ fn show_headers(rt: HostRuntime) -> io::Result<()> {
     show_header(rt, 0, 0, 2047, 127)
 }
 
-// A heartbeat of node q of 64 on both channels, through a buffer as long as it.
+// A heartbeat through a buffer as long as it; a refusal would be printed in its place.
+fn show_frame(rt: HostRuntime, numbers: Numbers, drive: &[u8], frame: &mut [u8]) -> io::Result<()> {
+    match entry_write_heartbeat::write(numbers, drive, frame) {
+        Ok(()) => show_bytes(rt, frame),
+        Err(refusal) => println!(rt; "{refusal:?}"),
+    }
+}
+
+// The same on both channels.
 fn show_heartbeat(
     rt: HostRuntime,
-    mode: u32,
-    q: u32,
-    join: u32,
-    request: u32,
-    sync: u32,
-    startup: u32,
-    cycle: u32,
+    numbers: Numbers,
     drive: &[u8],
     frame: &mut [u8],
 ) -> io::Result<()> {
-    entry_write_heartbeat::write(
-        64, mode, q, join, request, sync, startup, cycle, 0, drive, frame,
-    );
-    show_bytes(rt, frame)?;
-    entry_write_heartbeat::write(
-        64, mode, q, join, request, sync, startup, cycle, 1, drive, frame,
-    );
-    show_bytes(rt, frame)
+    show_frame(rt, numbers, drive, frame)?;
+    let on_b = Numbers {
+        channel: 1,
+        ..numbers
+    };
+    show_frame(rt, on_b, drive, frame)
 }
 
 // Drive bytes: no two that follow each other are equal.
 fn drive_bytes() -> [u8; 252] {
     let mut drive = [0u8; 252];
-    let mut i = 0;
-    while i < 252 {
+    for i in 0..252 {
         drive[i] = ((7 * i + 13) % 256) as u8;
-        i += 1;
     }
     drive
 }
 
 // Of one, two, three and 127 words; the last of one word has a request, in a quiet press.
 fn show_heartbeats(rt: HostRuntime) -> io::Result<()> {
-    let none = [0u8; 0];
+    let plain = Numbers {
+        n: 64,
+        mode: 0,
+        node: 0,
+        join: 0,
+        request: 0,
+        sync: 0,
+        startup: 0,
+        cycle: 0,
+        channel: 0,
+    };
     let mut one = [0u8; 10];
-    show_heartbeat(rt, 0, 0, 0, 0, 0, 0, 0, &none, &mut one)?;
-    show_heartbeat(rt, 0, 4, 1, 0, 0, 0, 63, &none, &mut one)?;
-    show_heartbeat(rt, 0, 63, 0, 0, 1, 1, 9, &none, &mut one)?;
-    show_heartbeat(rt, 1, 3, 0, 1, 0, 0, 7, &none, &mut one)?;
+    show_heartbeat(rt, plain, &[], &mut one)?;
+    let joining = Numbers {
+        node: 4,
+        join: 1,
+        cycle: 63,
+        ..plain
+    };
+    show_heartbeat(rt, joining, &[], &mut one)?;
+    let starting = Numbers {
+        node: 63,
+        sync: 1,
+        startup: 1,
+        cycle: 9,
+        ..plain
+    };
+    show_heartbeat(rt, starting, &[], &mut one)?;
+    let asking = Numbers {
+        mode: 1,
+        node: 3,
+        request: 1,
+        cycle: 7,
+        ..plain
+    };
+    show_heartbeat(rt, asking, &[], &mut one)?;
     let mut two = [0u8; 12];
-    show_heartbeat(rt, 0, 2, 1, 0, 1, 0, 5, &[13, 20], &mut two)?;
+    let in_sync = Numbers {
+        node: 2,
+        join: 1,
+        sync: 1,
+        cycle: 5,
+        ..plain
+    };
+    show_heartbeat(rt, in_sync, &[13, 20], &mut two)?;
     let mut three = [0u8; 14];
-    show_heartbeat(rt, 0, 40, 0, 0, 0, 0, 62, &[13, 20, 27, 34], &mut three)?;
-    let drive = drive_bytes();
+    let late = Numbers {
+        node: 40,
+        cycle: 62,
+        ..plain
+    };
+    show_heartbeat(rt, late, &[13, 20, 27, 34], &mut three)?;
     let mut most = [0u8; 262];
-    show_heartbeat(rt, 0, 63, 1, 0, 1, 1, 63, &drive, &mut most)
+    let full = Numbers {
+        join: 1,
+        cycle: 63,
+        ..starting
+    };
+    show_heartbeat(rt, full, &drive_bytes(), &mut most)
 }
 
 fn main(rt: HostRuntime) -> io::Result<()> {
