@@ -15,7 +15,10 @@ use contract.Monad.{Fun, fact, fact_mono, fact_use}
 use denote.Ref.{Bor}
 use denote.MutBor.{MutBor}
 use denote.Triple.Clauses.{Lasts, lasts}
+use Rattle.std.specs.Prelude.{Result}
 use Rattle.sets.specs.Sets.{below}
+use Rattle.refusal.specs.declared.Refusal.{Refusal}
+use Rattle.refusal.specs.Codes.{status_of}
 use Rattle.state.specs.declared.Node.{Node}
 use Rattle.row.specs.Row.{nodes_of}
 use Rattle.bus_units.specs.Run.{frames_length}
@@ -41,7 +44,7 @@ both_facts 𝓤 P Q =
 
 -- a call of the routine with the task t, the number n, the mode m, the row x and the bytes b, that answers r
 module _ {M : Type 1} {𝓤 : Ura M} (𝓛 : Logic 𝓤) (mem : Memory → SProp 𝓤) (run : Routine → Fun 𝓤)
-    (κ κ₁ : Lft) (t : Task) (n m : ℕ) (x : MutBor (List Node)) (b : Bor (List ℕ)) (r : ℕ) where
+    (κ κ₁ : Lft) (t : Task) (n m : ℕ) (x : MutBor (List Node)) (b : Bor (List ℕ)) (r : Result (Unit {0}) Refusal) where
   abbrev κs : Lft × (Lft × Unit {0})
   κs = (κ, (κ₁, tt))
 
@@ -62,12 +65,12 @@ module _ {M : Type 1} {𝓤 : Ura M} (𝓛 : Logic 𝓤) (mem : Memory → SProp
   Last ws = sem 𝓛 (lasts call.ended κs a ws)
 
   -- the contract's `ensures` is `Told` of the row's last value
-  pub tells : ent 𝓤 ((call.spec 𝓛 mem run κs a).ensures tt r) (ex 𝓤 (λ (ws : Ends). sep 𝓤 (Last ws) (fact 𝓤 (Told made x.now r (last_row ws)))))
+  pub tells : ent 𝓤 ((call.spec 𝓛 mem run κs a).ensures tt r) (ex 𝓤 (λ (ws : Ends). sep 𝓤 (Last ws) (fact 𝓤 (Told made x.now (status_of r) (last_row ws)))))
   tells =
       ex_e 𝓤 _ (λ ws.
-      via 𝓤 _ (mono_r 𝓤 (Last ws) (both_facts 𝓤 (r ≡ status made x.now) (last_row ws ≡ left made x.now)))
-      (via 𝓤 _ (mono_r 𝓤 (Last ws) (fact_mono 𝓤 ((r ≡ status made x.now) × (last_row ws ≡ left made x.now)) (Told made x.now r (last_row ws)) (λ k. (refl, k.0, k.1))))
-      (ex_i 𝓤 (λ (ws : Ends). sep 𝓤 (Last ws) (fact 𝓤 (Told made x.now r (last_row ws)))) ws)))
+      via 𝓤 _ (mono_r 𝓤 (Last ws) (both_facts 𝓤 (status_of r ≡ status made x.now) (last_row ws ≡ left made x.now)))
+      (via 𝓤 _ (mono_r 𝓤 (Last ws) (fact_mono 𝓤 ((status_of r ≡ status made x.now) × (last_row ws ≡ left made x.now)) (Told made x.now (status_of r) (last_row ws)) (λ k. (refl, k.0, k.1))))
+      (ex_i 𝓤 (λ (ws : Ends). sep 𝓤 (Last ws) (fact 𝓤 (Told made x.now (status_of r) (last_row ws)))) ws)))
 
 -- ---- a list of calls
 
