@@ -42,7 +42,7 @@ both_facts : {M : Type 1} (𝓤 : Ura M) (P Q : Type 0) → ent 𝓤 (sep 𝓤 (
 both_facts 𝓤 P Q =
     fact_use 𝓤 P (fst∗ 𝓤 (fact 𝓤 P) (fact 𝓤 Q)) (λ p. via 𝓤 (fact 𝓤 Q) (snd∗ 𝓤 (fact 𝓤 P) (fact 𝓤 Q)) (fact_mono 𝓤 Q (P × Q) (λ q. (p, q))))
 
--- a call of the routine with the task t, the number n, the mode m, the row x and the bytes b, that answers r
+-- a call of the routine with the task t, the number n, the mode m, the row x and the bytes b, that answers r, whose number is the status
 module _ {M : Type 1} {𝓤 : Ura M} (𝓛 : Logic 𝓤) (mem : Memory → SProp 𝓤) (run : Routine → Fun 𝓤)
     (κ κ₁ : Lft) (t : Task) (n m : ℕ) (x : MutBor (List Node)) (b : Bor (List ℕ)) (r : Result (Unit {0}) Refusal) where
   abbrev κs : Lft × (Lft × Unit {0})
