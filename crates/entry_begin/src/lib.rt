@@ -10,7 +10,7 @@ use entry_lent::{check_count, check_length};
 use refusal::Refusal;
 use state::{Group, Node, Reason, State};
 
-// The numbers and the buffer, in the order of the refusals.
+// The numbers and the buffer, in the order of the refusals. A table's founding set is looked at in `table_first`, by the same two tests: what they share is one line.
 #[tactic(auto, unfolding(crate::specs::Begin::begin_status, refusal::specs::Refusal::first, entry_lent::specs::Refusals::wrong_founding))]
 fn check(n: u32, node: u32, founding: u64, state: &[u8]) -> Result<(), Refusal>
     ensures { status_of result ≡ begin_status n node founding state.now }

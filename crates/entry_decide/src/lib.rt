@@ -1,4 +1,5 @@
-// The decision of one node.
+// The decision of one node. What it heard, the votes and their mask are handed on one by one, as C lends them: they come together in `VoteBuffer` only where slots are
+// looked at, since that knows the node too, which is read from the state in between.
 #![tactic(auto)]
 
 ghost use Rattle.std.specs.Prelude.{◌≡◌, ◌≤◌, ◌<◌, length, get_or};

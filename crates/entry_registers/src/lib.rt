@@ -27,7 +27,10 @@ fn lent_block(quiet: bool, block: &[u8]) -> Result<Node, Refusal>
 fn check(mode: u32, block: &[u8]) -> Result<(), Refusal>
     ensures { status_of result ≡ refusal_of mode block.now }
 {
-    lent_block(rule_steps::check_mode(mode)?, block)?;
+    let quiet = rule_steps::check_mode(mode)?;
+    register_block::check_rest(block)?;
+    // not by `lent_block`: its node would be copied once more, which made a read or a write take a third longer
+    state_decoding::decode(quiet, &block[0..24])?;
     Ok(())
 }
 

@@ -10,6 +10,7 @@ use rules::{Config, Groups, Vote};
 use state::{Group, Reason, State};
 
 // Rule 5 of a member whose own vote has no quorum: it halts, with reason 2 if the others' votes give some V one, else with reason 1.
+// That the leading votes are one is asked here, below and of `any_agreed`: it is a fact of `cluster_tallies::Tallied`, and a unit, which groups no votes, hands in none.
 pub fn halts(
     config: Config,
     q: usize,

@@ -10,13 +10,6 @@ use refusal::Refusal;
 use rules::{Config, Groups, Heard, Vote};
 use state::{Group, Reason, State};
 
-// Refusal 2, of a mode.
-pub fn wrong_mode(mode: u32) -> bool
-    ensures { result ≡ wrong_mode mode }
-{
-    1 < mode
-}
-
 // Whether it is that of a quiet press.
 pub fn is_quiet(mode: u32) -> bool
     ensures { result ≡ quiet_in mode }
@@ -129,6 +122,8 @@ pub fn enters_with(config: Config, v: Vote, voters: u64) -> State
     State::Member(group_with(v, new_set(v, voters)), config.quiet)
 }
 
+// The vote in slot p. Groups, views and the mask of the slots go side by side, here and in the crates above: the mask is another one for every receiver, and the groups
+// are those of the states of all nodes, so that a struct of the three would be made anew for every call.
 pub fn vote_at(groups: &Groups, views: &[u64; 64], p: usize) -> Vote
     requires { p < 64 }
     ensures { result ≡ vote_at groups.now.numbers groups.now.sets groups.now.bases views.now p }

@@ -5,7 +5,8 @@ ghost use Rattle.std.specs.Prelude.{◌≡◌, ◌<◌};
 
 use state::Group;
 
-// What is fixed for a cluster: how many nodes it has (N), and whether its votes rest while nothing happens.
+// What is fixed for a cluster: how many nodes it has (N), and whether its votes rest while nothing happens. N has no bound here: the definitions and theorems speak of
+// clusters of any N (`config_of`), and contracts ask for at most 64 nodes where the arrays are gone over.
 #[derive(Clone, Copy, Debug, PartialEq, Eq)]
 pub struct Config {
     pub nodes: usize,
