@@ -13,7 +13,7 @@ use Rattle.sets.proofs.Booleans.{and_l}
 use Rattle.state.specs.declared.Node.{Node}
 use Rattle.std.specs.Prelude.{Result, Ok, Err}
 use Rattle.refusal.specs.declared.Refusal.{Refusal}
-use Rattle.refusal.specs.declared.Refusal.TheVariants.{Image, Length}
+use Rattle.refusal.specs.declared.Refusal.TheVariants.{Image}
 use Rattle.refusal.specs.Codes.{code_of, status_of}
 use Rattle.refusal.proofs.Codes.{numbered}
 use Rattle.state.specs.State.{formed, formed_place, formed_state}

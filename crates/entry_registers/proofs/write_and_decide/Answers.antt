@@ -1,4 +1,4 @@
-use Rattle.std.proofs.Common.{◌≡◌, ℕ, Bool, false, not, eqb, List, length, take, refl, sym, ap, ◌∙◌, arith, lt-ltb, le-ltb, eq-eqb}
+use Rattle.std.proofs.Common.{Bool, not, length, take, refl, sym, ap, ◌∙◌, arith, lt-ltb, le-ltb, eq-eqb}
 use Rattle.state.specs.Image.{decoded}
 use Rattle.refusal.proofs.Codes.{exit_status, numbered}
 use Rattle.rules.specs.OneCycle.{quiet_in}

@@ -1,4 +1,4 @@
-use Rattle.std.proofs.Common.{◌≡◌, ℕ, Bool, false, not, eqb, List, length, refl, sym, ap, ◌∙◌, arith}
+use Rattle.std.proofs.Common.{not, eqb, length, refl, ap, ◌∙◌, arith}
 use Rattle.refusal.specs.Codes.{code_of}
 use Rattle.refusal.proofs.Codes.{exit_status, numbered}
 use Rattle.entry_lent.proofs.Images.{mode_found, mode_refused}
