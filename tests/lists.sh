@@ -66,9 +66,9 @@ low=$(awk -F ': *' '
     !/^#/ { n = split($2, d, " "); for (i = 1; i <= n; i++) if (d[i] in own && !(d[i] in above)) print $1 " before " d[i]; above[$1] = 1 }' crates.txt crates.txt)
 [ -z "$low" ] || complain "crates.txt names a crate before one that it rests on: $low"
 
-# ---- who opens the text of whose definitions, "OWNER CRATE" a line: `unfolding` in a proof, but where worked examples and witnesses compute
+# ---- who opens the text of whose definitions, "OWNER CRATE" a line: `unfolding` in a proof or at a function, but where worked examples and witnesses compute
 
-opened=$(find crates/*/proofs -name '*.antt' ! -name Worked.antt ! -path 'crates/theorem_refused/proofs/There.antt' ! -path 'crates/theorem_entries/proofs/There.antt' -print0 |
+opened=$({ find crates/*/proofs -name '*.antt' ! -name Worked.antt ! -path 'crates/theorem_refused/proofs/There.antt' ! -path 'crates/theorem_entries/proofs/There.antt' -print0 |
     xargs -0 awk '
     FNR == 1 { delete owner; split(FILENAME, part, "/") }
     /^use Rattle\.[^ ]*\.specs\..*\{/ {
@@ -76,7 +76,11 @@ opened=$(find crates/*/proofs -name '*.antt' ! -name Worked.antt ! -path 'crates
         sub(/^[^{]*\{/, ""); sub(/\}.*/, "")
         for (i = split($0, name, /, */); i > 0; i--) owner[name[i]] = crate
     }
-    /^ *unfolding / { for (i = 2; i <= NF; i++) if ($i in owner && owner[$i] != part[2]) print owner[$i], part[2] }' | sort -u)
+    /^ *unfolding / { for (i = 2; i <= NF; i++) if ($i in owner && owner[$i] != part[2]) print owner[$i], part[2] }'
+    # and by a function itself, for its own proof: an attribute with `unfolding(CRATE::specs::FILE::NAME, ..)`
+    grep -HoE 'unfolding\([^)]*\)' crates/*/src/*.rt | awk -F '[:/]' '
+        { crate = $2; while (match($0, /[a-z_0-9]+::specs::/)) { owner = substr($0, RSTART, RLENGTH - 9); if (owner != "crate" && owner != crate) print owner, crate; $0 = substr($0, RSTART + RLENGTH) } }'
+} | sort -u)
 # of each row of the table "ROW: CRATE", as it is written and as it is due: whoever opens a crate of the row and is none of it
 rows=$(awk -F ' [|] ' '/ opened by \|$/ { inside = 1; next } inside && !/^\|/ { exit } inside && /^\| `/ { print $1 "|" $NF }' docs/ARCHITECTURE.md)
 row_crates() { # CELL: the crates that it names, `entry_..` being all of that layer
