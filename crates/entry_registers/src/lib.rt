@@ -29,10 +29,12 @@ fn check(mode: u32, block: &[u8]) -> Result<(), Refusal>
 {
     let quiet = rule_steps::check_mode(mode)?;
     register_block::check_rest(block)?;
-    // not by `lent_block`: its node would be copied once more, which made a read or a write take a third longer
+    // not by `lent_block`: its node would be copied once more
     state_decoding::decode(quiet, &block[0..24])?;
     Ok(())
 }
+
+// That a block has 64 bytes is asked where it is written: C lends a slice, whose length `check_rest` finds, and an array would be made of it at every call.
 
 // Rule 1 by command, on the state in a block: byte 27 takes numbers, as a host writes them.
 fn command(mode: u32, value: u8, block: &mut [u8])
@@ -80,6 +82,7 @@ fn put_cycled(n: Node, after: State, flags: u8, enables: u8, block: &mut [u8])
 }
 
 // The rest of a cycle of node n, whose block has these flags and enables.
+// That n is below N, and N at most 64, is asked here, in `entry_decide` and in `entry_send_vote`: `Node` has no such fact, since what is lent as one may be any.
 fn decide(
     quiet: bool,
     n: Node,

@@ -27,6 +27,7 @@ fn end_line(rt: HostRuntime) -> io::Result<()> {
 }
 
 // The header check for sync, startup, frame number and length.
+// Its bounds are those of the fields of a header, of which nothing but this and the writing of a frame takes all.
 fn show_header(rt: HostRuntime, sync: u32, startup: u32, number: u32, length: u32) -> io::Result<()>
     requires sync_bound { sync < 2 }
     requires startup_bound { startup < 2 }
