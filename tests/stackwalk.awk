@@ -3,7 +3,7 @@
 # Prints "FUNCTION BYTES CHAIN.." a line: the bytes below the caller's stack pointer, the return address among them, and the functions that go so deep.
 # Whatever the walk does not know for certain ends it with a message and status 1: a call or jump by a register or by memory (but a jump by a table of
 # distances, which goes to every place of the table), a change of the stack pointer
-# that is no constant, a depth that differs between two ways to an instruction, a way out with bytes left on the stack, code that no way leads to, recursion,
+# that is no constant (but the loop in which a large frame is taken piece by piece and touched), a depth that differs between two ways to an instruction, a way out with bytes left on the stack, code that no way leads to, recursion,
 # and a call of a function that is neither here nor named by -v outside="NAME..". Of those named the return address alone is counted.
 BEGIN {
     FS = "\t"
@@ -205,9 +205,35 @@ function refuse_entered(    i, k) {
                 fail_at(i, "where it leads is not known")
 }
 
+# whether a frame is taken here piece by piece, each touched before the next, by these six instructions and no others, of which i is the third; then `framed` is its size
+function taken_in_pieces(f, i,    piece) {
+    if (opcode[i - 2] != "mov" || operands[i - 2] != "%rsp,%r11" || opcode[i - 1] != "sub" || operands[i - 1] !~ /^\$0x[0-9a-f]+,%r11$/ ||
+        opcode[i] != "sub" || operands[i] !~ /^\$0x[0-9a-f]+,%rsp$/ || opcode[i + 1] != "movq" || operands[i + 1] != "$0x0,(%rsp)" ||
+        opcode[i + 2] != "cmp" || operands[i + 2] != "%r11,%rsp" || opcode[i + 3] != "jne" || place[f, number(operands[i + 3])] != i || owner[i - 2] != f)
+        return 0
+    piece = number(substr(operands[i], 2, index(operands[i], ",") - 2))
+    framed = number(substr(operands[i - 1], 2, index(operands[i - 1], ",") - 2))
+    return piece > 0 && framed > 0 && framed % piece == 0
+}
+
+# a way that comes into the middle of such a loop would take another size
+function refuse_pieces_entered(    i, k) {
+    for (i in pieces)
+        for (k = i - 1; k <= i + 3; k++)
+            if (k in landed)
+                fail_at(i, "how much it takes is not known")
+}
+
 # one instruction further on every way from it
-function step(f, i,    op, out) {
+function step(f, i,    op, out, k) {
     op = opcode[i]
+    if (op == "sub" && taken_in_pieces(f, i)) {
+        pieces[i] = framed
+        for (k = i + 1; k <= i + 3; k++)
+            depth[k] = depth[i] + framed
+        reach(f, i + 4, depth[i] + framed)
+        return
+    }
     if (op == "jmp" && operands[i] ~ /^\*%r[a-z0-9]+$/) {
         jump_by_table(f, i)
         return
@@ -268,6 +294,7 @@ END {
         walk(functions[k])
     refuse_unreached()
     refuse_entered()
+    refuse_pieces_entered()
     for (k = 1; k <= many; k++)
         print functions[k], deepest(functions[k]), chain[functions[k]]
 }

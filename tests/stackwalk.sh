@@ -81,6 +81,12 @@ is tables f $((8 + 8))
 is tables g 8
 is tables h $((8 + 8))
 
+# a large frame is taken in pieces, each touched before the next
+pieces='mov %rsp,%r11; sub $0x6000,%r11; 3: sub $0xc00,%rsp; movq $0,(%rsp); cmp %r11,%rsp; jne 3b'
+assemble pieces <<<"f: push %rbx; $pieces; sub \$0x18,%rsp; add \$0x6018,%rsp; pop %rbx; ret"
+walk "$build/pieces.o" >"$build/pieces.out"
+is pieces f $((8 + 8 + 0x6018))
+
 refused() { # NAME MESSAGE OBJECT..
     if walk "${@:3}" >"$build/$1.out" 2>"$build/$1.err"; then fail "$1: is not refused"; fi
     grep -q "^stackwalk: .*$2" "$build/$1.err" || fail "$1: is refused otherwise: $(cat "$build/$1.err")"
@@ -137,6 +143,9 @@ f: $jump
 g: nop
 8: ret
 S
+refused_s pieces_entered 'how much it takes is not known' <<<"f: je 3f; $pieces; add \$0x6000,%rsp; ret"
+refused_s no_whole_pieces 'the stack pointer is not known' <<<"f: ${pieces/0x6000/0x6100}; add \$0x6100,%rsp; ret"
+refused_s other_end 'the stack pointer is not known' <<<"f: ${pieces//r11/r10}; add \$0x6000,%rsp; ret"
 refused_c unknown 'this is not understood' '__asm__("f: .byte 6\n ret");'
 refused twice 'two functions are named f' "$build/negative.o" "$build/negative.o"
 echo "stackwalk: frames as the compiler states them, $kinds kinds of code refused"
