@@ -25,13 +25,7 @@ pub fn call_with(
 }
 
 // One that is lent none.
-pub fn call(
-    task: Task,
-    n: u32,
-    mode: u32,
-    images: &mut [u8],
-    bytes: &[u8],
-) -> Result<(), Refusal>
+pub fn call(task: Task, n: u32, mode: u32, images: &mut [u8], bytes: &[u8]) -> Result<(), Refusal>
     ensures value { status_of result ≡ images_status task n mode images.old bytes.now }
     ensures images_after { images.new ≡ images_left task n mode images.old bytes.now }
 {
