@@ -4,11 +4,9 @@ use mathlib.Core.Bool.{Bool, true, false, cond}
 use mathlib.Core.List.{List, ◌∷◌, ◌++◌}
 use Prim.Native.Nat.{ℕ}
 use native.Mathlib.Nat.{zero-add}
-use native.Mathlib.Omega.{arith}
 use lib.Dec.{eqb}
-use lib.ListN.{get_or, length, take, drop, replicate, take-append-drop}
+use lib.ListN.{get_or, length, take, drop, replicate}
 use borrow.Author.Tests.{eq-eqb, ne_eqb}
-use borrow.Rule.Slice.PartMut.{post_of, Post-is}
 use Rattle.sets.specs.Sets.{◌∪◌}
 use Rattle.parts.specs.Parts.{with_part}
 use Rattle.state.specs.declared.State.{State}
@@ -111,19 +109,6 @@ cycle-is quiet q a v n flags enables heard0 heard1 requests votes arrived s m eq
     ∙ flags_replaced (machine next m.flags m.enables) (raised x.flags raises) x.enables
 
 -- ---- what the code leaves
-
--- of a state that was lent as the front of a block
-front_left : (s front left : List ℕ) → left ≡ front → left ++ post_of 0 24 s ≡ front ++ drop 24 s
-front_left s front left e = ap₂ (λ (p q : List ℕ). p ++ q) e (Post-is 0 24 s (omega arith))
-
-pub stop_left_lem : (mode v : ℕ) (s left : List ℕ) → v ≡ 1 → left ≡ stop_left mode (take 24 s) → left ++ post_of 0 24 s ≡ command_left mode v s
-stop_left_lem mode v s left e l = front_left s (stop_left mode (take 24 s)) left l ∙ rw (eq-eqb v 1 e)
-
-pub start_left_lem : (mode v : ℕ) (s left : List ℕ) → v ≡ 2 → left ≡ start_left mode (take 24 s) → left ++ post_of 0 24 s ≡ command_left mode v s
-start_left_lem mode v s left e l = front_left s (start_left mode (take 24 s)) left l ∙ rw (ne_eqb v 1 (λ z. omega arith), eq-eqb v 2 e)
-
-pub no_command : (mode v : ℕ) (s : List ℕ) → (v ≡ 1 → ⊥) → (v ≡ 2 → ⊥) → s ≡ command_left mode v s
-no_command mode v s a b = sym (take-append-drop 24 s) ∙ rw (ne_eqb v 1 a, ne_eqb v 2 b)
 
 -- of a block whose flags are put, and on which a command is done then
 module _ (mode a v : ℕ) (s put : List ℕ) (flags enables : ℕ) (ef : flags ≡ flags_after a v (get_or s 24 0)) (ee : enables ≡ enables_after a v (get_or s 25 0)) (p : put ≡ with_flags flags enables s) where

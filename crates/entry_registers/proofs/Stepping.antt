@@ -7,7 +7,7 @@ use native.Mathlib.Omega.{arith}
 use lib.Dec.{eqb}
 use lib.ListN.{get_or, length, take}
 use lib.Seq.{length-take-le}
-use borrow.Author.Tests.{eq-eqb, eqb-true, eqb-false}
+use borrow.Author.Tests.{eq-eqb, eqb-true}
 use Rattle.bigendian.proofs.Laws.{Bytes}
 use Rattle.sets.proofs.Booleans.{and_l}
 use Rattle.state.specs.declared.Node.{Node}
@@ -154,14 +154,6 @@ equal true e = refl
 equal false e = absurd (let y : ◌≡◌ {A = ℕ} 0 3 = e in omega arith)
 
 -- ---- a command and a cycle together: the command, and then a cycle with a write that does nothing
-
--- where a write goes that is no command
-pub left_address : (a left : ℕ) → left ≡ cond (eqb a 27) 28 a → left ≡ 27 → ⊥
-left_address a left e z = go (eqb a 27) refl (sym e ∙ z)
-  where
-    go : (b : Bool) → eqb a 27 ≡ b → cond b 28 a ≡ 27 → ⊥
-    go true h k = let x : ◌≡◌ {A = ℕ} 28 27 = k in omega arith
-    go false h k = eqb-false a 27 h k
 
 module _ (mode a v heard0 heard1 requests : ℕ) (votes : List ℕ) (arrived : ℕ) (s : List ℕ) (b : Bytes s) (w : wrong_mode mode ≡ false) (l : wrong_votes (WriteCycle mode a v heard0 heard1 requests votes arrived) ≡ false) where
   abbrev joint : ℕ → Step
