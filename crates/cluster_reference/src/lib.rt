@@ -55,7 +55,7 @@ pub fn step(
 {
     let marked = sets::union(sets::union(m.stop, m.heartbeat_lost), m.vote_lost);
     let disturbed = cluster_watched::disturbed_nodes(config.nodes, marked, unheard, missed);
-    let steady = cluster_watched::steady_nodes(config.nodes, w, disturbed);
+    let steady = cluster_watched::steady_quorum(config.nodes, w, disturbed);
     let before = states.roles.rule_one(config.nodes, m.stop, m.start);
     cluster_cycle::advance(config, states, m, unheard, missed);
     let members = states.roles.members;

@@ -1,6 +1,6 @@
 -- A cluster as the code holds it with its reference group.
 -- Assumes nothing.
-use Rattle.std.specs.Prelude.{Bool, cond, List, ℕ, get_or, Option as Optional, None, Some}
+use Rattle.std.specs.Prelude.{Bool, false, cond, List, ℕ, get_or, Option as Optional, None, Some}
 use Rattle.std.proofs.Math.Option.{Option, none, some}
 use Rattle.sets.specs.Sets.{has, ◌∪◌, ◌∖◌, below, lowest}
 use Rattle.sets.specs.Quorum.{quorum}
@@ -28,10 +28,19 @@ cluster_of n s w = record { row = row_of n s; reference = reference_of w; lately
 abbrev pub misses_at : List ℕ → List ℕ → ℕ → Bool
 misses_at heartbeats votes q = misses_other q (get_or heartbeats q 0 ∪ get_or votes q 0)
 
--- the nodes of a reference group that are disturbed neither in this cycle nor lately, where they are a quorum of it
+-- the nodes of a reference group that are disturbed neither in this cycle nor lately
+abbrev pub steady_set : ℕ → Optional Group → ℕ → ℕ → ℕ
+steady_set n None disturbed lately = 0
+steady_set n (Some g) disturbed lately = below n (g.set ∖ disturbed ∖ lately)
+
+-- whether these are a quorum of a reference group
+abbrev pub keeps_over : Optional Group → ℕ → Bool
+keeps_over None steady = false
+keeps_over (Some g) steady = quorum steady g.base
+
+-- the first, where they are the second
 abbrev pub steady_of : ℕ → Optional Group → ℕ → ℕ → Optional ℕ
-steady_of n None disturbed lately = None
-steady_of n (Some g) disturbed lately = let m = below n (g.set ∖ disturbed ∖ lately) in cond (quorum m g.base) (Some m) None
+steady_of n o disturbed lately = let m = steady_set n o disturbed lately in cond (keeps_over o m) (Some m) None
 
 -- the group that the lowest steady node holds
 abbrev pub held_after : Optional ℕ → ℕ → Groups → Optional Group

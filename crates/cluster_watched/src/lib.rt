@@ -4,7 +4,7 @@
 ghost use Rattle.std.specs.Prelude.{◌≡◌, ◌<◌, ◌≤◌, IfSome};
 ghost use Rattle.sets.specs.Sets.{has, ◌∪◌, those, below, lowest};
 ghost use Rattle.rules.specs.Faults.{misses_other};
-ghost use Rattle.cluster_watched.specs.Watched.{misses_at, steady_of, held_after};
+ghost use Rattle.cluster_watched.specs.Watched.{misses_at, steady_set, keeps_over, steady_of, held_after};
 
 use rules::Groups;
 use state::Group;
@@ -36,20 +36,36 @@ pub fn disturbed_nodes(n: usize, marked: u64, heartbeats: &[u64; 64], votes: &[u
     sets::union(sets::below(n, marked), m)
 }
 
-// The nodes of the reference group that are disturbed neither in this cycle nor in the one before, where they are a quorum of it: then the cycle
-// meets the premise.
-pub fn steady_nodes(n: usize, w: Watch, disturbed: u64) -> Option<u64>
+// The nodes of the reference group that are disturbed neither in this cycle nor in the one before; nobody where there is no reference group.
+pub fn steady_nodes(n: usize, w: Watch, disturbed: u64) -> u64
+    requires { n ≤ 64 }
+    ensures { result ≡ steady_set n w.group disturbed w.lately }
+{
+    if let Some(g) = w.group {
+        let undisturbed = sets::difference(sets::difference(g.set, disturbed), w.lately);
+        sets::below(n, undisturbed)
+    } else {
+        0
+    }
+}
+
+// Whether there is a reference group, and a quorum of it is steady: then a cycle meets the premise.
+pub fn keeps(w: Watch, steady: u64) -> bool
+    ensures { result ≡ keeps_over w.group steady }
+{
+    match w.group {
+        Some(g) => sets::is_quorum(steady, g.base),
+        None => false,
+    }
+}
+
+// The steady nodes of a cycle that meets the premise.
+pub fn steady_quorum(n: usize, w: Watch, disturbed: u64) -> Option<u64>
     requires { n ≤ 64 }
     ensures { result ≡ steady_of n w.group disturbed w.lately }
 {
-    let g = w.group?;
-    let undisturbed = sets::difference(sets::difference(g.set, disturbed), w.lately);
-    let steady = sets::below(n, undisturbed);
-    if sets::is_quorum(steady, g.base) {
-        Some(steady)
-    } else {
-        None
-    }
+    let steady = steady_nodes(n, w, disturbed);
+    if keeps(w, steady) { Some(steady) } else { None }
 }
 
 // The reference group after a cycle: the group that the lowest steady node holds, none from the first cycle on that does not meet the premise.

@@ -13,7 +13,7 @@ held_after-requires c =
     let f : Faults = faults_of a.m a.unheard.now a.missed.now in
     let now : c.disturbed_nodes-disturbed.result ≡ those a.config.nodes (disturbed f) = disturbed_are a.config.nodes c.union-marked.result c.disturbed_nodes-disturbed.result f
     (c.union-marked.ensures ∙ ap (λ (x : ℕ). x ∪ f.vote_lost) c.union.ensures) c.disturbed_nodes-disturbed.ensures in
-    first_in a.config a.states.now a.w f _ (c.steady_nodes-steady.ensures ∙ steady-known a.config a.states.now a.w f _ a.w.group now) c.requires
+    first_in a.config a.states.now a.w f _ (c.steady_quorum-steady.ensures ∙ steady-known a.config a.states.now a.w f _ a.w.group now) c.requires
 
 pub returns : goal.returns
 returns c =
@@ -22,5 +22,5 @@ returns c =
     let f : Faults = faults_of a.m a.unheard.now a.missed.now in
     let now : c.disturbed_nodes-disturbed.result ≡ those a.config.nodes (disturbed f) = disturbed_are a.config.nodes c.union-marked.result c.disturbed_nodes-disturbed.result f
     (c.union-marked.ensures ∙ ap (λ (x : ℕ). x ∪ f.vote_lost) c.union.ensures) c.disturbed_nodes-disturbed.ensures in
-    let steady = c.steady_nodes-steady.ensures ∙ steady-known a.config s a.w f _ a.w.group now in
+    let steady = c.steady_quorum-steady.ensures ∙ steady-known a.config s a.w f _ a.w.group now in
     let next = c.advance.new.states in record { watch_after = stepped a.config s a.w f _ steady c.requires next c.advance.ensures _ _ now c.held_after.ensures; kept_value = c.is_some.ensures ∙ kept-is a.config s a.w f _ steady; halted_value = halted-are a.config s f c.rule_one-before.result next c.rule_one-before.ensures c.advance.ensures c.difference.result c.difference.ensures; entered_value = entered-are a.config s f c.rule_one-before.result next c.rule_one-before.ensures c.advance.ensures c.intersection.result c.intersection.ensures }
