@@ -27,4 +27,4 @@ by_test quiet n g a heard0 heard1 requests b v own t e =
 -- what is told of a state is told of an equal one
 pub tells_same : (r : Option State) {s t : State} → s ≡ t → Tells r s → Tells r t
 tells_same None k h = h
-tells_same (Some u) k h = sym k ∙ h
+tells_same (Some u) k h = (sym k ∙ h.0, h.1)

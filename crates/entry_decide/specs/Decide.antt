@@ -1,12 +1,12 @@
 -- What the entry decide answers and leaves: rules 3 to 6 of one node, from what it heard and the votes that arrived.
 -- Assumes nothing.
-use Rattle.std.specs.Prelude.{◌≡◌, Bool, cond, List, ◌∷◌, ℕ, Option, IfSome, Result, Ok, Err}
+use Rattle.std.specs.Prelude.{◌≡◌, Bool, true, cond, List, ◌∷◌, ℕ, Option, IfSome, Result, Ok, Err}
 use Rattle.state.specs.declared.Group.{Group}
 use Rattle.state.specs.declared.State.{State}
 use Rattle.state.specs.declared.State.TheVariants.{Out, Joining, Member}
 use Rattle.state.specs.declared.Node.{Node}
 use Rattle.state.specs.Image.{image_of, decoded}
-use Rattle.rules.specs.OneCycle.{wrong_mode, quiet_in, Ballots, member_decides, silent_decides, joiner_decides}
+use Rattle.rules.specs.OneCycle.{wrong_mode, quiet_in, sends_member, Ballots, member_decides, silent_decides, joiner_decides}
 use Rattle.refusal.specs.declared.Refusal.{Refusal}
 use Rattle.refusal.specs.Refusal.{when, first, unless}
 use Rattle.entry_lent.specs.Refusals.{lent_conditions}
@@ -29,9 +29,9 @@ decision quiet n Joining heard0 heard1 requests votes arrived =
 decision quiet n (Member g a) heard0 heard1 requests votes arrived =
     member_decision quiet n g a heard0 heard1 requests (buffer_ballots n.nodes n.id votes arrived)
 
--- what the buffer tells of a member's next state, if it tells anything: for the contract of `goes_on` inside, and no part of the entry's answer
+-- what the buffer tells of a member's next state, which is a member's again, if it tells anything: for the contract of `goes_on` inside, and no part of the entry's answer
 abbrev pub Tells : Option State → State → Type 0
-Tells r s = IfSome r (λ t. s ≡ t)
+Tells r s = IfSome r (λ t. (s ≡ t) × (sends_member t ≡ true))
 
 abbrev pub decided_from : Bool → Result Node Refusal → ℕ → ℕ → ℕ → List ℕ → ℕ → List ℕ → List ℕ
 decided_from quiet (Ok n) heard0 heard1 requests votes arrived s =

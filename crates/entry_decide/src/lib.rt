@@ -153,8 +153,9 @@ pub fn decide(
     ensures value { status_of result ≡ decide_status mode state.old votes.now }
     ensures state_after { state.new ≡ decide_left mode state.old heard.members heard.joining heard.requests votes.now arrived }
 {
-    let quiet = rule_steps::check_mode(mode)?;
-    let n = lent_node(quiet, state, votes.len(), 1792)?;
+    let quiet = rule_steps::is_quiet(mode);
+    let wrong = rule_steps::check_mode(mode).is_err();
+    let n = lent_node(quiet, wrong, state, votes.len(), 1792)?;
     // each way puts its own state: one place for both would be copied
     if let Some(next) = goes_on(quiet, state, heard, votes, arrived) {
         put_state(next, state);

@@ -1,5 +1,6 @@
 -- What reading a lent image says of its length and of the node in it, and the refusals of a call that is lent an image and another buffer. Assumes nothing.
-use Rattle.std.proofs.Common.{◌≡◌, ℕ, ◌<◌, ◌≤◌, Bool, true, false, not, cond, eqb, List, length, refl, ap, ◌∙◌, Result, Ok, Err, eq-eqb, ne_eqb}
+use Rattle.std.specs.Result.{is_err}
+use Rattle.std.proofs.Common.{◌≡◌, ℕ, ◌<◌, ◌≤◌, Bool, true, false, not, cond, eqb, List, length, refl, ap, ◌∙◌, arith, Result, Ok, Err, eq-eqb, ne_eqb}
 use mathlib.Core.Bool.{or-false, or-true}
 use Rattle.bigendian.proofs.Laws.{Bytes}
 use Rattle.state.specs.declared.Node.{Node}
@@ -12,6 +13,7 @@ use Rattle.refusal.specs.declared.Refusal.{Refusal}
 use Rattle.refusal.specs.declared.Refusal.TheVariants.{Number, Length, Image}
 use Rattle.refusal.specs.Codes.{status_of}
 use Rattle.refusal.specs.Refusal.{first}
+use Rattle.refusal.proofs.Codes.{numbered}
 use Rattle.rules.specs.OneCycle.{wrong_mode, quiet_in}
 use Rattle.entry_lent.specs.Refusals.{wrong_length, lent_conditions}
 use Rattle.entry_lent.specs.Found.{lent_state, image_status}
@@ -78,6 +80,24 @@ mode_refused mode r = go (wrong_mode mode)
     go : (b : Bool) → Err r ≡ cond b (Err Number) (Ok (quiet_in mode)) → (b ≡ true) × (r ≡ Number)
     go true e = (refl, cc)
     go false e = cc
+
+-- that a mode is none, by whether looking at it refuses
+pub mode_wrong : (mode : ℕ) (w : Bool) (r : Result Bool Refusal) → w ≡ is_err r → r ≡ cond (wrong_mode mode) (Err Number) (Ok (quiet_in mode)) → w ≡ wrong_mode mode
+mode_wrong mode w r e h = e ∙ ap is_err h ∙ go (wrong_mode mode)
+  where
+    go : (b : Bool) → is_err (cond b (Err Number) (Ok (quiet_in mode))) ≡ b
+    go true = refl
+    go false = refl
+
+-- that a number is wrong, by whether looking at it refuses
+pub number_wrong : (w b : Bool) (r : Result Unit Refusal) → w ≡ is_err r → status_of r ≡ cond b 2 0 → w ≡ b
+number_wrong w b r e h = e ∙ go r b h
+  where
+    go : (r : Result Unit Refusal) (b : Bool) → status_of r ≡ cond b 2 0 → is_err r ≡ b
+    go (Err x) true h = refl
+    go (Ok u) false h = refl
+    go (Err x) false h = absurd (numbered x h)
+    go (Ok u) true h = absurd (omega arith)
 
 -- a call that is lent a state alone finds a node in a mode that there is
 pub found_state : (mode : ℕ) (s : List ℕ) (n : Node) → lent_state mode s ≡ Ok n → (wrong_mode mode ≡ false) × (decoded (quiet_in mode) s ≡ Ok n)

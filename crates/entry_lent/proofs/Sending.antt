@@ -39,33 +39,32 @@ module _ (quiet wrong : Bool) (s : List ℕ) (k : ℕ) (f : List ℕ) where
       short false true = refl
       short false false = refl
 
-  -- what such a call answers whose numbers are wrong, and one that found no node in the mode q
-  pub wrong_status : (r : Refusal) → wrong ≡ true → code_of r ≡ 2 → code_of r ≡ send_status
-  unfolding first
-  wrong_status r w e = simp w e
+  -- what such a call answers that found no node, in the mode q and with numbers that are wrong or not as w has it
+  none-found : (q w : Bool) → q ≡ quiet → w ≡ wrong → lent_node q w s (length f) k ≡ lent_node quiet wrong s (length f) k
+  none-found q w m e = ap₂ (λ (a b : Bool). lent_node a b s (length f) k) m e
 
-  none-found : (q : Bool) → q ≡ quiet → wrong ≡ false → lent_node q false s (length f) k ≡ lent_node quiet wrong s (length f) k
-  none-found q m w = ap₂ (λ (a b : Bool). lent_node a b s (length f) k) m (sym w)
-
-  pub none_status : (q : Bool) (r : Refusal) → q ≡ quiet → wrong ≡ false → Err r ≡ lent_node q false s (length f) k → code_of r ≡ send_status
-  none_status q r m w e = ap status_of (e ∙ none-found q m w) ∙ status-found
+  pub none_status : (q w : Bool) (r : Refusal) → q ≡ quiet → w ≡ wrong → Err r ≡ lent_node q w s (length f) k → code_of r ≡ send_status
+  none_status q w r m e h = ap status_of (h ∙ none-found q w m e) ∙ status-found
 
   -- and one that found a node
   pub record Found (n : Node) : Type 0 where
+    pub right : wrong ≡ false
     pub accepted : 0 ≡ send_status
     pub sized : length f ≡ k
     pub image : decoded quiet s ≡ Ok n
 
-  pub found : (q : Bool) (n : Node) → q ≡ quiet → wrong ≡ false → Ok n ≡ lent_node q false s (length f) k → Found n
+  pub found : (q w : Bool) (n : Node) → q ≡ quiet → w ≡ wrong → Ok n ≡ lent_node q w s (length f) k → Found n
   unfolding lent_node
-  found q n m w e = record { accepted = ap status_of (e ∙ none-found q m w) ∙ status-found; sized = eqb-true (length f) k z.0; image = ap (λ (x : Bool). decoded x s) (sym m) ∙ z.1 }
+  found q w n m e h =
+      record { right = sym e ∙ z.0; accepted = ap status_of (h ∙ none-found q w m e) ∙ status-found; sized = eqb-true (length f) k z.1.0; image = ap (λ (x : Bool). decoded x s) (sym m) ∙ z.1.1 }
     where
-      go : (b : Bool) (d : Result Node Refusal) → cond b d (Err Length) ≡ Ok n → (b ≡ true) × (d ≡ Ok n)
-      go false d h = cc
-      go true d h = (refl, h)
+      go : (a b : Bool) (d : Result Node Refusal) → cond a (Err Number) (cond b d (Err Length)) ≡ Ok n → (a ≡ false) × ((b ≡ true) × (d ≡ Ok n))
+      go true b d h = cc
+      go false false d h = cc
+      go false true d h = (refl, (refl, h))
 
-      z : (eqb (length f) k ≡ true) × (decoded q s ≡ Ok n)
-      z = go (eqb (length f) k) (decoded q s) (sym e)
+      z : (w ≡ false) × ((eqb (length f) k ≡ true) × (decoded q s ≡ Ok n))
+      z = go w (eqb (length f) k) (decoded q s) (sym h)
 
   -- what is left after it
   pub left_found : {A : Type 0} (from : Bool → Result Node Refusal → A) (before left : A) (q : Bool) (n : Node) → q ≡ quiet → Found n → left ≡ from q (Ok n)

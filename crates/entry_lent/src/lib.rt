@@ -1,7 +1,7 @@
 // The numbers, buffers and states that a C host passes: how they are refused, as definitions, tests of the numbers, and the node of a lent state.
 #![tactic(auto)]
 
-ghost use Rattle.std.specs.Prelude.{◌≡◌, false, cond, ◌||◌, eqb};
+ghost use Rattle.std.specs.Prelude.{◌≡◌, cond, ◌||◌, eqb};
 ghost use Rattle.refusal.specs.Codes.{status_of};
 ghost use Rattle.entry_lent.specs.Refusals.{wrong_count, wrong_node, wrong_cycle, wrong_channel, wrong_indicators};
 ghost use Rattle.entry_lent.specs.Found.{lent_node, lent_state};
@@ -69,11 +69,20 @@ pub fn lent_state(mode: u32, state: &[u8]) -> Result<Node, Refusal>
     state_decoding::decode(rule_steps::check_mode(mode)?, state)
 }
 
-// The node of a call in a quiet press or not, whose numbers are not wrong, and that is lent `given` bytes where `due` are.
+// The node of a call in a quiet press or not, whose numbers are `wrong` or not, and that is lent `given` bytes where `due` are.
 #[tactic(auto, unfolding(crate::specs::Found::lent_node))]
-pub fn lent_node(quiet: bool, state: &[u8], given: usize, due: usize) -> Result<Node, Refusal>
-    ensures { result ≡ lent_node quiet false state.now given due }
+pub fn lent_node(
+    quiet: bool,
+    wrong: bool,
+    state: &[u8],
+    given: usize,
+    due: usize,
+) -> Result<Node, Refusal>
+    ensures { result ≡ lent_node quiet wrong state.now given due }
 {
+    if wrong {
+        return Err(Refusal::Number);
+    }
     check_length(given, due)?;
     state_decoding::decode(quiet, state)
 }

@@ -54,7 +54,7 @@ module _ (mode : ℕ) (s : List ℕ) (sync startup cycle channel : ℕ) (d f : L
       by_state = simp (fine, w)
 
       pub by_node : (r : Refusal) → Err r ≡ lent_node q false s (length f) (10 + length d) → code_of r ≡ send_heartbeat_status mode s sync startup cycle channel d f
-      by_node r e = none_status (quiet_in mode) false s (10 + length d) f q r m refl e ∙ sym by_state
+      by_node r e = none_status (quiet_in mode) false s (10 + length d) f q false r m refl e ∙ sym by_state
 
       pub there : (n : Node) → Ok n ≡ lent_node q false s (length f) (10 + length d) → Found (quiet_in mode) false s (10 + length d) f n
-      there n = found (quiet_in mode) false s (10 + length d) f q n m refl
+      there n = found (quiet_in mode) false s (10 + length d) f q false n m refl

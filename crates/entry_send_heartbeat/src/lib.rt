@@ -84,7 +84,7 @@ pub fn send(
     if frame_writing::wrong_drive(drive) {
         return Err(Refusal::Length);
     }
-    let n = lent_node(quiet, state, frame.len(), 10 + drive.len())?;
+    let n = lent_node(quiet, false, state, frame.len(), 10 + drive.len())?;
     *sent = send_of(n, sync == 1, startup == 1, cycle, channel, drive, frame);
     Ok(())
 }

@@ -93,9 +93,9 @@ pub fn send(
     ensures frame_after { frame.new ≡ send_vote_left mode state.now heard.members heard.joining heard.requests cycle channel frame.old }
     ensures sent_after { sent.new ≡ send_vote_sent mode state.now heard.members heard.joining heard.requests cycle channel frame.old sent.old }
 {
-    let quiet = rule_steps::check_mode(mode)?;
-    check_cycle(cycle, channel)?;
-    let n = lent_node(quiet, state, frame.len(), 36)?;
+    let quiet = rule_steps::is_quiet(mode);
+    let wrong = rule_steps::check_mode(mode).is_err() | check_cycle(cycle, channel).is_err();
+    let n = lent_node(quiet, wrong, state, frame.len(), 36)?;
     *sent = send_of(quiet, n, heard, cycle, channel, frame);
     Ok(())
 }

@@ -8,7 +8,7 @@ pub returns-in-Some : goal.returns-in-Some
 returns-in-Some c =
     let a = c.args in
     cycle-left a.quiet a.n a.flags a.enables a.heard.members a.heard.joining a.heard.requests a.votes.now a.arrived a.block.now _ _
-    (sym c.in-Some.ensures ∙ ap (λ (m : Node). decision a.quiet m m.state a.heard.members a.heard.joining a.heard.requests a.votes.now a.arrived) c.requires.block_value) c.put_cycled.ensures
+    (sym c.in-Some.ensures.0 ∙ ap (λ (m : Node). decision a.quiet m m.state a.heard.members a.heard.joining a.heard.requests a.votes.now a.arrived) c.requires.block_value) c.put_cycled.ensures
 
 pub returns-in_default : goal.returns-in_default
 returns-in_default c =
