@@ -1,7 +1,7 @@
 // The bytes behind the state of a register block: looked at, and written.
 #![tactic(auto)]
 
-ghost use Rattle.std.specs.Prelude.{◌≡◌, ◌+◌, ◌≤◌, length, take, drop};
+ghost use Rattle.std.specs.Prelude.{◌≡◌, length, drop};
 ghost use Rattle.refusal.specs.Codes.{status_of};
 ghost use Rattle.registers.specs.Block.{flags_byte, all_zero, reads_so};
 ghost use Rattle.registers.specs.Steps.{raised_by};
@@ -11,13 +11,15 @@ use entry_lent::check_length;
 use refusal::Refusal;
 use state::State;
 
-// Whether the K bytes from a place on are 0: one number is tested, and no byte for itself.
-fn is_zero<const K: usize>(s: &[u8], at: usize) -> bool
-    requires k_bound { K ≤ 8 }
-    requires within { at + K ≤ length s.now }
-    ensures { result ≡ all_zero (take K (drop at s.now)) }
+// Whether all bytes are 0: their bits together are tested, which LLVM takes sixteen at a time.
+fn is_zero(s: &[u8]) -> bool
+    ensures { result ≡ all_zero s.now }
 {
-    bigendian::read::<K>(s, at) == 0
+    let mut bits = 0;
+    for i in 0..s.len() {
+        bits |= s[i];
+    }
+    bits == 0
 }
 
 // Whether bytes 27 to 63 are 0.
@@ -25,12 +27,7 @@ fn rest_is_zero(block: &[u8]) -> bool
     requires { length block.now ≡ 64 }
     ensures { result ≡ all_zero (drop 27 block.now) }
 {
-    let first = (block[27] == 0) & is_zero::<4>(block, 28);
-    first
-        & is_zero::<8>(block, 32)
-        & is_zero::<8>(block, 40)
-        & is_zero::<8>(block, 48)
-        & is_zero::<8>(block, 56)
+    is_zero(&block[27..64])
 }
 
 // 1 if two bytes share a bit.

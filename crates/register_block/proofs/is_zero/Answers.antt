@@ -1,6 +1,5 @@
-use Rattle.std.proofs.Common.{ℕ, eqb, ap, ◌∙◌}
-use Rattle.register_block.proofs.Zeros.{number_zero}
+use Rattle.register_block.proofs.Zeros.{zero_next}
 use Rattle.register_block.proofs.is_zero.Goals as goal
 
-pub returns : goal.returns
-returns g c = ap (λ (x : ℕ). eqb x 0) c.read.ensures.value ∙ number_zero c.args.s.now c.args.at g.row.K c.requires.within
+pub loop-i-preserved : goal.loop-i-preserved
+loop-i-preserved c = zero_next c.args.s.now c.loop-i.i c.loop-i.bits c.loop-i-test.true c.loop-i.invariant
