@@ -28,7 +28,8 @@ pub fn wrong_drive(drive: &[u8]) -> bool
     drive.len() % 2 == 1 || 252 < drive.len()
 }
 
-// A heartbeat with these bits and drive bytes, into a buffer as long as it.
+// A heartbeat with these bits and drive bytes, into a buffer as long as it. Its slot and bits would take stack in a call of their own.
+#[inline(always)]
 pub fn write_heartbeat(slot: Slot, bits: Bits, drive: &[u8], frame: &mut [u8])
     requires drive_value { wrong_drive drive.now ≡ false }
     requires frame_len { length frame.old ≡ 10 + length drive.now }

@@ -14,6 +14,8 @@ use run_turns::Records;
 
 // A run through frames; the states are copied from cycle to cycle, which costs little beside the frames. `frames` shows those of the last cycle afterwards.
 // Free: what the row after it does not show.
+// Its frame is its own, as that of `run_plain` is.
+#[inline(never)]
 pub fn run_framed(config: Config, start: States, s: &[u8], frames: &mut [u8]) -> States
     requires nodes_bound { (config.nodes ≤ 64) × ((cycles_in (length s.now) config.nodes 1 s.now).refusal ≡ 0) }
     requires frames_len { length frames.old ≡ frames_length }

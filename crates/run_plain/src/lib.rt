@@ -36,6 +36,8 @@ fn plain_cycle(
 }
 
 // A run on the fault table alone, in place: states by value would be copied at every cycle. Free: what the row after it does not show.
+// Its frame is its own: a single cycle and a refusal take no stack for a run.
+#[inline(never)]
 pub fn run_plain(config: Config, start: States, s: &[u8]) -> States
     requires nodes_bound { (config.nodes ≤ 64) × ((cycles_in (length s.now) config.nodes 1 s.now).refusal ≡ 0) }
     requires by_index { (q : ℕ) → q < config.nodes → formed_state config.quiet q config.nodes (state_at start q) ≡ true }
