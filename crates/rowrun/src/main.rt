@@ -46,27 +46,35 @@ impl From<[u8; HEAD]> for Head {
     }
 }
 
-// A unit as a line shows it: its number, N and its state.
+// Why a unit is out, as a line shows it.
 #[derive(Clone, Copy)]
-struct Shown(Node);
+struct Shown(Reason);
 
 impl fmt::Display for Shown {
     fn fmt<W: fmt::Write>(&self, f: &mut fmt::Formatter<W>) -> fmt::Result {
-        let node = self.0;
-        write!(f, "{} of {} ", node.id, node.nodes)?;
-        match node.state {
-            State::Out(Reason::Stopped) => f.write_str("out, stopped"),
-            State::Out(Reason::NoQuorum) => f.write_str("out, no quorum"),
-            State::Out(Reason::Outvoted) => f.write_str("out, outvoted"),
-            State::Joining => f.write_str("joining"),
-            State::Member(group, requests) => {
-                let asks = if requests { " requests" } else { "" };
-                write!(
-                    f,
-                    "member {} {:016x} {:016x}{asks}",
-                    group.number, group.set, group.base
-                )
+        match self.0 {
+            Reason::Stopped => f.write_str("stopped"),
+            Reason::NoQuorum => f.write_str("no quorum"),
+            Reason::Outvoted => f.write_str("outvoted"),
+        }
+    }
+}
+
+// A unit's number, N and state, on a line: its parts are written one by one.
+fn show_node(rt: HostRuntime, node: Node) -> io::Result<()> {
+    print!(rt; "{} of {}", node.id, node.nodes)?;
+    match node.state {
+        State::Out(reason) => println!(rt; " out, {}", Shown(reason)),
+        State::Joining => println!(rt; " joining"),
+        State::Member(group, requests) => {
+            print!(rt;
+                " member {} {:016x} {:016x}",
+                group.number, group.set, group.base
+            )?;
+            if requests {
+                print!(rt; " requests")?;
             }
+            println!(rt; "")
         }
     }
 }
@@ -97,7 +105,7 @@ fn calls(rt: HostRuntime, input: &[u8]) -> io::Result<()> {
         let result = lend(head, &mut row, bytes);
         println!(rt; "status {}", refusal::status(result))?;
         for node in &row[..head.entries] {
-            println!(rt; "{}", Shown(*node))?;
+            show_node(rt, *node)?;
         }
         rest = next;
     }

@@ -18,6 +18,7 @@ ghost use Rattle.std.specs.Prelude.{◌<◌};
 
 use entry_write_heartbeat::Numbers;
 use frames::Slot;
+use refusal::Refusal;
 use rules::Vote;
 use state::Group;
 use std::io;
@@ -114,11 +115,17 @@ fn show_headers(rt: HostRuntime) -> io::Result<()> {
     show_header(rt, 0, 0, 2047, 127)
 }
 
+// A refusal, by its name. A function of its own: what it formats with would else take stack below every frame that is shown.
+#[inline(never)]
+fn show_refusal(rt: HostRuntime, refusal: Refusal) -> io::Result<()> {
+    println!(rt; "{refusal:?}")
+}
+
 // A heartbeat through a buffer as long as it; a refusal would be printed in its place.
 fn show_frame(rt: HostRuntime, numbers: Numbers, drive: &[u8], frame: &mut [u8]) -> io::Result<()> {
     match entry_write_heartbeat::write(numbers, drive, frame) {
         Ok(()) => show_bytes(rt, frame),
-        Err(refusal) => println!(rt; "{refusal:?}"),
+        Err(refusal) => show_refusal(rt, refusal),
     }
 }
 
