@@ -33,6 +33,19 @@ module _ (f : ℕ → Node → Node) where
   unfolding upto
   upto-none ys = refl
 
+  pub upto-length : (q i : ℕ) (ys : List Node) → length (upto f q i ys) ≡ length ys
+  unfolding upto
+  upto-length q zero ys = refl
+  upto-length q (suc i) [] = refl
+  upto-length q (suc i) (y ∷ ys) = ap suc (upto-length (suc q) i ys)
+
+  -- the next entry is as it was
+  pub upto_next : (q i : ℕ) (ys : List Node) (d : Node) → get_or (upto f q i ys) i d ≡ get_or ys i d
+  unfolding upto
+  upto_next q zero ys d = refl
+  upto_next q (suc i) [] d = refl
+  upto_next q (suc i) (y ∷ ys) d = upto_next (suc q) i ys d
+
   set_next : (q i : ℕ) (ys : List Node) (d : Node) → i < length ys → set (upto f q i ys) i (f (q + i) (get_or ys i d)) ≡ upto f q (suc i) ys
   unfolding upto
   set_next q i [] d l = absurd (not-suc-le-zero l)
@@ -46,6 +59,20 @@ module _ (f : ℕ → Node → Node) where
   upto-set i ys d l =
       ap (λ (p : ℕ). set (upto f 0 i ys) i (f p (get_or ys i d))) (sym (zero-add i)) ∙ set_next 0 i ys d l
       ∙ ap (λ (p : ℕ). upto f 0 p ys) (sym (add-one i))
+
+  all-replaced : (q : ℕ) (ys : List Node) → upto f q (length ys) ys ≡ each f q ys
+  unfolding upto each
+  all-replaced q [] = refl
+  all-replaced q (y ∷ ys) = ap (λ (r : List Node). f q y ∷ r) (all-replaced (suc q) ys)
+
+  -- all are replaced, whatever is made of them
+  pub upto_each : (i : ℕ) (ys : List Node) → i ≡ length ys → upto f 0 i ys ≡ each f 0 ys
+  upto_each i ys e = ap (λ (p : ℕ). upto f 0 p ys) e ∙ all-replaced 0 ys
+
+  pub each-length : (q : ℕ) (ys : List Node) → length (each f q ys) ≡ length ys
+  unfolding each
+  each-length q [] = refl
+  each-length q (y ∷ ys) = ap suc (each-length (suc q) ys)
 
 -- past the last place nothing is replaced
 each_past : (n : ℕ) (s : States) (q : ℕ) (ys : List Node) → 64 ≤ q → each (node_of n s) q ys ≡ ys

@@ -107,12 +107,16 @@ one_less numbers sets bases views n present lead a d e one p x lp lx hp hx = one
     part : (y : ℕ) → has y d ≡ true → has y present ≡ true
     part y h = and_l (has y present) (not (has y a)) (sym (has_diff y present a) ∙ ap (has y) (sym e) ∙ h)
 
--- ---- votes compared as the code does, field by field
+-- ---- groups and votes compared as the code does, field by field
 
-pub vote-derived : (v w : Vote) (r : Bool) → r ≡ ((eqb v.group.number w.group.number && (eqb v.group.set w.group.set && eqb v.group.base w.group.base)) && eqb v.view w.view) → r ≡ same_vote v w
-unfolding same_vote same_group
-vote-derived v w r e = e ∙ ap (λ (x : Bool). x && eqb v.view w.view) (go (eqb v.group.number w.group.number) (eqb v.group.set w.group.set) (eqb v.group.base w.group.base))
+pub group-derived : (g h : Group) → (eqb g.number h.number && (eqb g.set h.set && eqb g.base h.base)) ≡ same_group g h
+unfolding same_group
+group-derived g h = go (eqb g.number h.number) (eqb g.set h.set) (eqb g.base h.base)
   where
     go : (a b d : Bool) → (a && (b && d)) ≡ ((a && b) && d)
     go true b d = refl
     go false b d = refl
+
+pub vote-derived : (v w : Vote) (r : Bool) → r ≡ ((eqb v.group.number w.group.number && (eqb v.group.set w.group.set && eqb v.group.base w.group.base)) && eqb v.view w.view) → r ≡ same_vote v w
+unfolding same_vote
+vote-derived v w r e = e ∙ ap (λ (x : Bool). x && eqb v.view w.view) (group-derived v.group w.group)
