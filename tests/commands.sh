@@ -94,7 +94,7 @@ make_room() {
     cp .gitignore "$room"
     printf '.PHONY: tests\ntests:\n\t@$(TESTS)\n' >"$room/Makefile"
     printf '# NAME: the crates it rests on\nlow:\nprint_program: low\ngrouprun: low print_program\nquietrun: print_program\nvectors: low\nrowrun staticlib: low grouprun\n' >"$room/crates.txt"
-    printf 'refused by: low::half\nfile: src/lib.rt\nold: 2\nnew: 3\n' >"$room/crates/low/must-fail/third.edit"
+    printf 'refused by: low::Part::half\nfile: src/lib.rt\nold: 2\nnew: 3\n' >"$room/crates/low/must-fail/third.edit"
     for program in grouprun quietrun; do
         mkdir -p "$room/crates/$program/out"
         echo "$program" >"$room/crates/$program/out/$program"
@@ -115,7 +115,7 @@ libc='axioms libc: libc::' os='axioms os: os::c::'
 # of a program over tables
 assumed=("${libc}isatty, libc::read, libc::write (3 of the 128 declared)" "${os}rattle_arg, os::c::rattle_errno, os::c::rattle_set_errno (3 of the 22 declared)"
     'axioms std: none reached of the 2 declared' "$proof axioms=6 sum=1")
-refusal="rt: must-fail low/third.edit: refused, as it must be: ./proofs/half/Answers.antt:1:1: error: \`returns\`: the two types differ"
+refusal="rt: must-fail low/third.edit: refused, as it must be: ./proofs/Part/half/Answers.antt:1:1: error: \`returns\`: the two types differ"
 # with a byte 0 in a message, as the kit may quote one; a crate that an earlier run proved comes without its proof
 gate_lines=('== low' "$proof sum=1" 'rt: low proved' 'rt: low: trying its must-fail edits (1)' "$proof tests=1 axioms=9 sum=1" 'rt: print_program: its tests are proved'
     "$proof sum=1" 'rt: print_program proved' "${assumed[@]}" 'rt: grouprun proved' 'a note on \0' "${assumed[@]}" 'rt: quietrun proved'
@@ -316,7 +316,7 @@ check_gate() {
     done
     tested "${gate_lines[@]/#rt: must-fail*/rt: what was said of an edit is lost}"
     refused "not every edit was refused"
-    tested "${gate_lines[@]/proofs\/half/proofs\/other}"
+    tested "${gate_lines[@]/proofs\/Part/proofs\/Whole}"
     refused "not every edit was refused by what it names"
     tested "${gate_lines[@]/as it must be/as it must be (only by a limit of the prover)}"
     refused "not every edit was refused by what it names"

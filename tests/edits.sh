@@ -12,23 +12,34 @@ complain() { echo "tests/edits: $*" >&2; wrong=$((wrong + 1)); }
 copy=$(mktemp -d)
 trap 'rm -rf "$copy"' EXIT
 
-# the function that has the line of a source file
-function_at() { # FILE LINE
-    awk -v last="$2" 'FNR > last { exit } match($0, /fn [a-z_0-9]+/) { name = substr($0, RSTART + 3, RLENGTH - 3) } END { print name }' "$1"
+# the function that has the line of a source file, its attributes among its lines, a method by its type's name too, as tools/names.sh has it
+function_at() { # CRATE FILE LINE
+    local at name
+    read -r at name < <(awk -v last="$3" '
+        /^ *#\[/ { if (!start) start = FNR; inside = !/\]$/; next }
+        inside { inside = !/\]$/; next }
+        match($0, /fn [a-z_0-9]+/) && (start ? start : FNR) <= last { at = FNR; name = substr($0, RSTART + 3, RLENGTH - 3) }
+        { start = 0 }
+        END { print at, name }' "$2")
+    tools/names.sh | awk -F '\t' -v file="$2" -v at="$at" -v name="$1::$name" '$2 == file && $3 == at { name = $1 } END { print name }'
 }
-# the goals that say what a function ensures, what its loop keeps, and what it owes to a function that it calls, are refused by its contract
-contract='^(returns(-.*)?|loop-.*-(init|preserved)|.*-requires(-.*)?)$'
+# the goals that say what a function ensures, what its loop keeps and that it ends, and what it owes to a function that it calls and to a type of which it makes a value,
+# are refused by its contract
+contract='^(returns(-.*)?|loop-.*-(init|preserved|smaller)|.*-requires(-.*)?|invariant_of-.*)$'
 # where the first error is that the gate tells, by the name of a law or contract if it is one
 place() { # CRATE ERROR
-    local file line name='no name'
+    local file line error name='no name'
     [[ $2 =~ (note:\ )?(\./)?([^ :]+):([0-9]+):[0-9]+:\ (error:\ )?(.*) ]] || { echo nothing; return; }
     file=${BASH_REMATCH[3]} line=${BASH_REMATCH[4]}
-    [[ ! ${BASH_REMATCH[6]} =~ \`([^\`]+)\` ]] || name=${BASH_REMATCH[1]}
+    # where no proof was found the goal stands in brackets, behind what it asks
+    error=${BASH_REMATCH[6]}
+    if [[ $error =~ ^(it\ is\ not\ proved|\`search\`) && $error =~ \(\`([^\`]+)\`\) ]] || [[ $error =~ \`([^\`]+)\` ]]; then name=${BASH_REMATCH[1]}; fi
     if [[ $name =~ $contract && $file == proofs/*/*.antt ]]; then
-        file=${file#proofs/}
-        echo "$1::${file%/*}"
+        # a method has a folder in its type's
+        file=${file#proofs/} file=${file%/*}
+        echo "$1::${file//\//::}"
     elif [[ $file == src/* && $name =~ $contract ]]; then
-        echo "$1::$(function_at "crates/$1/$file" "$line")"
+        function_at "$1" "crates/$1/$file" "$line"
     else
         echo "$1/$file: $name"
     fi
