@@ -361,7 +361,7 @@ extern "C" {
 
 /*
  * The stack that an entry takes at most, on one node and on a row, in bytes below its caller's stack
- * pointer: 2536 and 32256 by a walk of the archive's code, and room to spare. Of memset and memcpy the walk
+ * pointer: 2536 and 33488 by a walk of the archive's code, and room to spare. Of memset and memcpy the walk
  * counts the return address: glibc's take no more. They must be bound before the first call, statically or
  * by -Wl,-z,now: where the dynamic linker binds one inside a call, that call takes some 3 KiB more.
  */
